@@ -4,14 +4,12 @@ use Rattle.std.specs.Prelude.{Result, Ok, Err}
 use Rattle.std.proofs.lemmas.List.{append_assoc, append-nil}
 use Rattle.psm_list.specs.Several.{Several, several_map}
 use Rattle.psm_value.specs.declared.sqltype.SqlType.{SqlType}
-use Rattle.psm_scope.specs.Scopes.{Spelling}
 use Rattle.psm_scope.specs.Lookup as lookup
 use Rattle.psm_scope.specs.Lookup.{Meaning, RowTable, index_named}
 use Rattle.psm_scope.specs.Routines.{function}
 use Rattle.psm_scope.specs.declared.fault.ChoiceFault.{ChoiceFault}
 use Rattle.psm_scope.specs.declared.known.Variable.{Variable}
 use Rattle.psm_rules.specs.declared.shape.Shape.{Shape}
-use Rattle.psm_rules.specs.declared.shape.Typed.{Typed}
 use Rattle.psm_rules.specs.ExprFaults.{spelling}
 use Rattle.psm_rules.specs.Shapes.{kind_of}
 use Rattle.psm_rules.specs.CheckerScope.{Columns, SymbolTable}
@@ -29,14 +27,13 @@ use Rattle.psm_tree.specs.declared.expr.When.{When, roll-When}
 use Rattle.psm_tree.specs.declared.expr.Pick.{Pick, roll-Pick}
 use Rattle.psm_tree.specs.declared.expr.Select.{Select, roll-Select}
 use Rattle.psm_resolved.specs.declared.expr.ResolvedExpr.{ResolvedExpr}
-use Rattle.psm_resolved.specs.declared.expr.ResolvedExpr.TheVariants as exprs
 use Rattle.psm_resolved.specs.declared.expr.ResolvedItem.{ResolvedItem}
 use Rattle.psm_resolve_expr.specs.declared.resolved.Resolved.{Resolved}
 use Rattle.psm_resolve_expr.specs.declared.resolved.ShapedQuery.{ShapedQuery}
 use Rattle.psm_resolve_expr.specs.ResolverScope.{ResolverScope, name_in, on_row, table_at}
 use Rattle.psm_resolve_expr.specs.Resolved.{ShapedPick, Values, OfAll, called, joined_in, of_meaning, operated, sets_in, shape_of_result, shape_of_type, values_in}
-use Rattle.psm_resolve_expr.specs.Exprs.{Of, all_at, any_at, at, chain_link_of, chained, columns_from, columns_in, columns_on, comparison_of, expr_in, expr_layer, function_of, items_of, logical_operator_of, number_of, only_shape, operator_of, optional_in, side_of, pick_layer, chain_link_layer, select_layer, set_of, when_layer, when_of, resolve_expr, resolve_pick, resolve_chain_link, resolve_query, resolve_when, shape_of_set, shapes_of, shapes_of_else, signed, type_known}
-use Rattle.psm_names.specs.Referents.{Referent, Null, Column, Table, Function, together, in_several, perhaps}
+use Rattle.psm_resolve_expr.specs.Exprs.{Of, all_at, at, chain_link_of, chained, columns_from, columns_in, columns_on, expr_in, expr_layer, items_of, number_of, only_shape, pick_layer, chain_link_layer, select_layer, when_layer, when_of, resolve_expr, resolve_pick, resolve_chain_link, resolve_query, resolve_when, shape_of_set, shapes_of, signed}
+use Rattle.psm_names.specs.Referents.{Column, Table, Function, together, in_several}
 use Rattle.psm_names.specs.Occurrences as occurring
 use Rattle.psm_names.specs.Occurrences.{EachColumn, FunctionName, Occurrence, Site, TableName, function_number, place_of, referents}
 use Rattle.psm_names.specs.ExprOccurrences as places
@@ -332,7 +329,7 @@ AllPicked symbols [] (o ∷ os) = ⊥
 AllPicked symbols (p ∷ ps) [] = ⊥
 AllPicked symbols (p ∷ ps) (o ∷ os) = AsPicked symbols p o × AllPicked symbols ps os
 
-together-append : {A B : Type 0} (g : A → List B) (xs ys : List A) → together (map g (xs ++ ys)) ≡ together (map g xs) ++ together (map g ys)
+pub together-append : {A B : Type 0} (g : A → List B) (xs ys : List A) → together (map g (xs ++ ys)) ≡ together (map g xs) ++ together (map g ys)
 together-append g [] ys = refl
 together-append g (x ∷ xs) ys = ap (λ l. g x ++ l) (together-append g xs ys) ∙ sym (append_assoc (g x) (together (map g xs)) (together (map g ys)))
 

@@ -1,16 +1,15 @@
 -- Look-up among what is known of declared names keeps what is made of it.
 use Rattle.std.proofs.Common.{◌≡◌, ℕ, suc, Bool, true, false, List, [], ◌∷◌, ◌++◌, length, map, Option, Some, None, option_map, is_some, refl, ap, sym, ◌∙◌, if◌then◌else◌}
 use Rattle.psm_value.specs.declared.sqltype.SqlType.{SqlType}
-use Rattle.psm_scope.specs.Scopes.{Spelling, Declared, Scope, Routine, Compound, Loop, For, Action, is_spelled, declared_in, undeclared}
+use Rattle.psm_scope.specs.Scopes.{Spelling, Scope, Routine, Compound, Loop, For, Action, is_spelled, declared_in}
 use Rattle.psm_scope.specs.Lookup.{Meaning, RowTable, named, named_among, or_else, is_label, is_called, variables_called, qualified, meant, meant_on_row, as_column, as_variable, column_meant, variable}
 use Rattle.psm_scope.specs.Lookup as lookup
-use Rattle.psm_scope.specs.KeptScopes.{declared_here, redeclared, level}
+use Rattle.psm_scope.specs.KeptScopes.{level}
 use Rattle.psm_scope.specs.declared.known.Variable.{Variable}
 use Rattle.psm_scope.specs.declared.known.DeclaredCondition.{DeclaredCondition}
 use Rattle.psm_rules.specs.BlockFaults.{declared_once}
 use Rattle.psm_rules.specs.ExprFaults.{spelling}
 use Rattle.psm_tree.specs.declared.name.Target.{Target}
-use Rattle.psm_resolved.specs.declared.statement.ResolvedCondition.{ResolvedCondition}
 use Rattle.psm_resolve_expr.specs.ResolverScope.{Scopes, meant_in}
 use Rattle.psm_names.specs.Occurrences.{KnownVariable, name_meaning}
 use Rattle.psm_names.specs.Sites.{variable_known, condition_known, declared_known, scope_known, known}

@@ -6,3 +6,4 @@ pub mod Points
 pub mod ReferentsOfStatements
 pub mod Simples
 pub mod Statements
+pub mod Files

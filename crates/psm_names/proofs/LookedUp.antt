@@ -1,9 +1,8 @@
 -- Referents that look-up gives for occurrences, part by part.
-use Rattle.std.proofs.Common.{◌≡◌, List, [], ◌∷◌, ◌++◌, map, Option, Some, None, option_map, refl, ap, sym, ◌∙◌}
+use Rattle.std.proofs.Common.{◌≡◌, List, [], ◌∷◌, ◌++◌, refl, ap, sym, ◌∙◌}
 use Rattle.std.proofs.lemmas.List.{append_assoc, append-nil}
-use Rattle.psm_list.specs.Several.{Several, several_map}
 use Rattle.psm_rules.specs.CheckerScope.{SymbolTable}
-use Rattle.psm_names.specs.Referents.{Referent, together, in_several, perhaps}
+use Rattle.psm_names.specs.Referents.{Referent}
 use Rattle.psm_names.specs.Occurrences.{Occurrence, referents, looked_up}
 
 -- the referents are those of the occurrences

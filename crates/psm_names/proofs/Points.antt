@@ -1,15 +1,14 @@
 -- What is declared up to a point, as the resolver numbers it and as it is counted.
-use Rattle.std.proofs.Common.{◌≡◌, ℕ, suc, List, [], ◌∷◌, ◌++◌, length, map, Option, Some, None, option_map, refl, ap, sym, ◌∙◌, subst}
+use Rattle.std.proofs.Common.{◌≡◌, ℕ, suc, List, [], ◌∷◌, ◌++◌, length, map, Option, Some, None, refl, ap, ◌∙◌}
 use Rattle.psm_value.specs.declared.sqltype.SqlType.{SqlType}
 use Rattle.psm_scope.specs.Scopes.{Spelling, Declared, Scope, Routine, Compound, Loop, For, Action, undeclared}
 use Rattle.psm_scope.specs.Scopes as scope
 use Rattle.psm_scope.specs.Lookup as lookup
 use Rattle.psm_scope.specs.Lookup.{RowTable, or_else, as_column, as_variable, meant, index_named}
-use Rattle.psm_scope.specs.KeptScopes.{declared_here, redeclared}
 use Rattle.psm_scope.specs.declared.known.Variable.{Variable}
 use Rattle.psm_scope.specs.declared.known.DeclaredCondition.{DeclaredCondition}
-use Rattle.psm_rules.specs.BlockFaults.{declared_once, last_name}
-use Rattle.psm_rules.specs.CheckerScope.{Columns, SymbolTable}
+use Rattle.psm_rules.specs.BlockFaults.{declared_once}
+use Rattle.psm_rules.specs.CheckerScope.{Columns}
 use Rattle.psm_rules.specs.ExprFaults.{spelling}
 use Rattle.psm_rules.specs.StatementFaults.{several, good_state}
 use Rattle.psm_rules.specs.Types.{type_of}
@@ -33,11 +32,10 @@ use Rattle.psm_tree.specs.declared.statement.Declaration.{Declaration}
 use Rattle.psm_tree.specs.declared.statement.Declaration.TheVariants as declarations
 use Rattle.psm_tree.specs.declared.statement.ForCursor.{ForCursor}
 use Rattle.psm_tree.specs.declared.statement.ForHead.{ForHead}
-use Rattle.psm_resolved.specs.declared.statement.ResolvedCondition.{ResolvedCondition}
 use Rattle.psm_resolve_expr.specs.Exprs.{columns_in, resolve_expr, type_known}
 use Rattle.psm_resolve_expr.specs.ResolverScope as resolver
 use Rattle.psm_resolve_expr.specs.ResolverScope.{ResolverScope, on_row, table_at}
-use Rattle.psm_declare.specs.Numbering.{Numbering, with_slot, with_cursor, with_condition, next_slot, next_condition}
+use Rattle.psm_declare.specs.Numbering.{Numbering, with_slot, with_condition, next_condition}
 use Rattle.psm_declare.specs.Declarations as declaring
 use Rattle.psm_declare.specs.Declarations.{Numbered, numbered_after, numbered_by, numbered_cursor, numbered_cursors, numbered_variable, numbered_variables}
 use Rattle.psm_resolve.specs.Blocks as blocks
@@ -48,7 +46,7 @@ use Rattle.psm_names.specs.ExprOccurrences.{expr_seen}
 use Rattle.psm_names.specs.Declaring.{Ordinals, Point, naming_variable, naming_condition, naming_cursor, with_variable, with_variables, with_declaration, with_declarations, with_cursors, with_item, with_items, with_for_cursor, in_for, item_name, items_of, named_column, pick_items, one_variable, one_cursor, one_condition, as_state}
 use Rattle.psm_names.specs.Declaring as points
 use Rattle.psm_names.specs.StatementOccurrences.{with_parameters, begin}
-use Rattle.psm_names.specs.Sites.{variable_known, condition_known, declared_known, scope_known, known, site_of}
+use Rattle.psm_names.specs.Sites.{variable_known, condition_known, declared_known, known, site_of}
 use Rattle.psm_names.proofs.Knowing.{once-map, renamed}
 use Rattle.psm_names.proofs.Exprs.{expr-as, table-columns}
 

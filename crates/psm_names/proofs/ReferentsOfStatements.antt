@@ -12,30 +12,30 @@ use Rattle.psm_resolved.specs.declared.statement.ResolvedStatement.TheVariants a
 use Rattle.psm_resolved.specs.declared.statement.ResolvedStatement.TheOpen.{ResolvedStatement-F, ResolvedBlock-F, ResolvedBranch-F, ResolvedHandler-F}
 use Rattle.psm_resolved.specs.declared.statement.ResolvedStatement.TheOpen as layers
 use Rattle.psm_resolved.specs.declared.statement.ResolvedStatement.TheFolds.{map-ResolvedStatement, fold-roll-ResolvedStatement, fold-roll-ResolvedBlock, fold-roll-ResolvedBranch, fold-roll-ResolvedHandler}
-use Rattle.psm_names.specs.Referents.{Block, together}
+use Rattle.psm_names.specs.Referents.{Block, Declaration, together}
 use Rattle.psm_names.specs.ExprReferents.{R, expr_referents}
 use Rattle.psm_names.specs.StatementReferents.{block_layer, block_referents, branch_layer, branch_referents, handler_layer, handler_referents, of_cursor, of_declaration, of_head, of_value, optional_referents, simple_referents, statement_layer, statement_referents}
 
 rolled : (layer : ResolvedStatement-F ResolvedStatement ResolvedBlock ResolvedBranch ResolvedHandler) → statement_referents (roll-ResolvedStatement layer) ≡ statement_layer (map-ResolvedStatement ResolvedStatement ResolvedBlock ResolvedBranch ResolvedHandler R R R R statement_referents block_referents branch_referents handler_referents layer)
 rolled layer = fold-roll-ResolvedStatement R R R R statement_layer block_layer branch_layer handler_layer layer
 
-pub standing-Compound : (level : ℕ) (block : ResolvedBlock) → statement_referents (resolved.Compound level block) ≡ Block level ∷ block_referents block
+pub standing-Compound : (level : ℕ) (block : ResolvedBlock) → statement_referents (resolved.Compound level block) ≡ Declaration (Block level) ∷ block_referents block
 unfolding roll-ResolvedStatement Carrier.roll
 standing-Compound level block = rolled (layers.Compound level block)
 
-pub standing-Loop : (level : ℕ) (ss : List ResolvedStatement) → statement_referents (resolved.Loop level ss) ≡ Block level ∷ together (map statement_referents ss)
+pub standing-Loop : (level : ℕ) (ss : List ResolvedStatement) → statement_referents (resolved.Loop level ss) ≡ Declaration (Block level) ∷ together (map statement_referents ss)
 unfolding roll-ResolvedStatement Carrier.roll
 standing-Loop level ss = rolled (layers.Loop level ss)
 
-pub standing-While : (level : ℕ) (test : ResolvedExpr) (ss : List ResolvedStatement) → statement_referents (resolved.While level test ss) ≡ Block level ∷ (expr_referents test ++ together (map statement_referents ss))
+pub standing-While : (level : ℕ) (test : ResolvedExpr) (ss : List ResolvedStatement) → statement_referents (resolved.While level test ss) ≡ Declaration (Block level) ∷ (expr_referents test ++ together (map statement_referents ss))
 unfolding roll-ResolvedStatement Carrier.roll
 standing-While level test ss = rolled (layers.While level test ss)
 
-pub standing-Repeat : (level : ℕ) (ss : List ResolvedStatement) (until : ResolvedExpr) → statement_referents (resolved.Repeat level ss until) ≡ Block level ∷ (together (map statement_referents ss) ++ expr_referents until)
+pub standing-Repeat : (level : ℕ) (ss : List ResolvedStatement) (until : ResolvedExpr) → statement_referents (resolved.Repeat level ss until) ≡ Declaration (Block level) ∷ (together (map statement_referents ss) ++ expr_referents until)
 unfolding roll-ResolvedStatement Carrier.roll
 standing-Repeat level ss until = rolled (layers.Repeat level ss until)
 
-pub standing-For : (level : ℕ) (head : ResolvedFor) (ss : List ResolvedStatement) → statement_referents (resolved.For level head ss) ≡ Block level ∷ (of_head head ++ together (map statement_referents ss))
+pub standing-For : (level : ℕ) (head : ResolvedFor) (ss : List ResolvedStatement) → statement_referents (resolved.For level head ss) ≡ Declaration (Block level) ∷ (of_head head ++ together (map statement_referents ss))
 unfolding roll-ResolvedStatement Carrier.roll
 standing-For level head ss = rolled (layers.For level head ss)
 

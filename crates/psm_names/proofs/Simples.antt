@@ -1,11 +1,9 @@
 -- The referents of a resolved simple statement are those that look-up gives for its occurrences.
-use Rattle.std.proofs.Common.{◌≡◌, ℕ, suc, List, [], ◌∷◌, ◌++◌, length, map, Option, Some, None, option_map, refl, ap, sym, ◌∙◌, subst}
-use Rattle.psm_list.specs.Several.{Several}
+use Rattle.std.proofs.Common.{◌≡◌, ℕ, suc, List, [], ◌∷◌, length, map, Option, Some, None, option_map, refl, ap, sym, ◌∙◌, subst}
 use Rattle.psm_value.specs.declared.sqltype.SqlType.{SqlType}
 use Rattle.psm_scope.specs.Scopes.{Spelling}
 use Rattle.psm_scope.specs.Lookup as lookup
 use Rattle.psm_scope.specs.Lookup.{index_named, meant}
-use Rattle.psm_scope.specs.KeptScopes.{level}
 use Rattle.psm_scope.specs.Routines.{procedure}
 use Rattle.psm_scope.specs.declared.known.Variable.{Variable as Known}
 use Rattle.psm_scope.specs.declared.known.DeclaredCondition.{DeclaredCondition}
@@ -39,24 +37,23 @@ use Rattle.psm_tree.specs.declared.statement.Where.{Where}
 use Rattle.psm_tree.specs.declared.statement.Where.TheVariants as wheres
 use Rattle.psm_resolved.specs.declared.statement.ResolvedCondition.{ResolvedCondition}
 use Rattle.psm_resolved.specs.declared.statement.ResolvedCondition.TheVariants as conditions
-use Rattle.psm_resolve_expr.specs.Exprs.{columns_in, resolve_query, number_of as table_number}
 use Rattle.psm_resolve_expr.specs.ResolverScope.{ResolverScope, Scopes, table_at}
 use Rattle.psm_symbols.specs.Columns.{all_places, column_of, inserted, place_in}
 use Rattle.psm_declare.specs.Seen.{expr_at}
 use Rattle.psm_resolve.specs.Statements as resolving
 use Rattle.psm_resolve.specs.Statements.{argument_of, arguments_of, call_of, condition_of, cursor_of, declared_as, diagnostics_of, level_of, number_of, on_table, row_of, rows_of, set_of, signal_of, simple_of, slot_in, slot_of, slots_of, state_of, state_or_success, table_of, target_in, which_in}
-use Rattle.psm_names.specs.Referents.{Referent, Column, Variable, Cursor, Condition, Block, Table, Procedure, together, perhaps}
+use Rattle.psm_names.specs.Referents.{Column, Variable, Cursor, Condition, Block, Table, Procedure, together, perhaps}
 use Rattle.psm_names.specs.Occurrences as occurring
 use Rattle.psm_names.specs.Occurrences.{Occurrence, EachColumn, Assigned, ColumnName, TableName, CursorName, Label, ConditionName, StateName, ProcedureName, Site, or_zero, or_first, ordinal_in, place_of, procedure_number, referents}
 use Rattle.psm_names.specs.ExprOccurrences as places
 use Rattle.psm_names.specs.ExprOccurrences.{expr_occurrences}
 use Rattle.psm_names.specs.Declaring.{optional_occurrences}
-use Rattle.psm_names.specs.SimpleOccurrences.{as_target, in_argument, in_arguments, in_call, in_columns, in_condition, in_diagnostics, in_exprs, in_number, in_row, in_rows, in_set, in_sets, in_signal, in_targets, in_where, simple_occurrences}
+use Rattle.psm_names.specs.SimpleOccurrences.{as_target, in_argument, in_arguments, in_call, in_columns, in_condition, in_diagnostics, in_exprs, in_number, in_row, in_rows, in_sets, in_signal, in_targets, in_where, simple_occurrences}
 use Rattle.psm_names.specs.Sites.{variable_known, condition_known, known, site_of}
 use Rattle.psm_names.specs.ExprReferents.{expr_referents}
 use Rattle.psm_names.specs.StatementReferents.{of_argument, of_diagnostics, of_exprs, of_number, of_rows, of_set, of_signal, of_slots, of_where, optional_referents, simple_referents}
 use Rattle.psm_names.proofs.Knowing.{condition-known, cursor-known, level-known, meant-known}
-use Rattle.psm_names.proofs.LookedUp.{Gives, gives-as, gives-both, gives-lone, gives-none, gives-one}
+use Rattle.psm_names.proofs.LookedUp.{Gives, gives-both, gives-lone, gives-none, gives-one}
 use Rattle.psm_names.proofs.Exprs.{expr-gives, query-gives, table-columns, table-number}
 
 -- ---- numbers that look-up gives

@@ -1,16 +1,11 @@
 -- The referents of a resolved statement are those that look-up gives for its occurrences: an induction over statements.
-use Rattle.std.proofs.Common.{◌≡◌, ℕ, suc, Bool, List, [], ◌∷◌, ◌++◌, length, map, Option, Some, None, option_map, refl, ap, sym, ◌∙◌, subst}
-use Rattle.psm_list.specs.Several.{Several, several_map}
-use Rattle.psm_cond.specs.declared.handlers.ConditionValue.TheVariants as values
+use Rattle.std.proofs.Common.{◌≡◌, ℕ, suc, Bool, List, [], ◌∷◌, ◌++◌, length, map, Option, None, refl, ap, sym, ◌∙◌, subst}
 use Rattle.psm_scope.specs.Scopes.{Spelling, undeclared}
 use Rattle.psm_scope.specs.Scopes as scope
 use Rattle.psm_scope.specs.Lookup as lookup
 use Rattle.psm_rules.specs.StatementFaults.{label_name, several}
 use Rattle.psm_rules.specs.CheckerScope.{SymbolTable}
-use Rattle.psm_rules.specs.Types.{type_of}
-use Rattle.psm_value.specs.declared.sqltype.SqlType.{SqlType}
 use Rattle.psm_tree.specs.declared.name.Identifier.{Identifier}
-use Rattle.psm_tree.specs.declared.expr.Expr.{Expr}
 use Rattle.psm_tree.specs.declared.file.Routine.{Routine}
 use Rattle.psm_tree.specs.declared.statement.Block.{Block, roll-Block}
 use Rattle.psm_tree.specs.declared.statement.Branch.{Branch, roll-Branch}
@@ -32,29 +27,27 @@ use Rattle.psm_resolved.specs.declared.statement.ResolvedCondition.{ResolvedCond
 use Rattle.psm_resolved.specs.declared.statement.ResolvedCondition.TheVariants as conditions
 use Rattle.psm_resolved.specs.declared.statement.ResolvedHandler.{ResolvedHandler}
 use Rattle.psm_resolved.specs.declared.statement.ResolvedStatement.{ResolvedStatement}
-use Rattle.psm_resolve_expr.specs.Exprs.{resolve_query, type_known}
+use Rattle.psm_resolve_expr.specs.Exprs.{resolve_query}
 use Rattle.psm_resolve_expr.specs.ResolverScope.{ResolverScope, Scopes}
-use Rattle.psm_declare.specs.Numbering.{Numbering, next_slot, with_slot}
-use Rattle.psm_declare.specs.Declarations.{Numbered, cursors_of, declarations_of, is_downward, numbered_after, numbered_by, numbered_cursor, numbered_cursors, numbered_variables, numbered_variable, opened, ordered, ordered_query, slots_from}
-use Rattle.psm_declare.specs.Seen.{expr_at}
+use Rattle.psm_declare.specs.Numbering.{Numbering, next_slot}
+use Rattle.psm_declare.specs.Declarations.{Numbered, cursors_of, declarations_of, is_downward, numbered_after, numbered_by, numbered_cursor, numbered_cursors, opened, ordered, ordered_query, slots_from}
 use Rattle.psm_resolve.specs.Blocks as resolving
 use Rattle.psm_resolve.specs.Blocks.{ForItem, all, block_layer, branch_layer, for_items, handler_layer, head_of, in_scopes, in_loop, inside, item_slots, numbered_head, resolve_block, resolve_branch, resolve_handler, resolve_statement, statement_layer, value_for, value_of}
 use Rattle.psm_resolve.specs.Files.{resolve_routine, routine_numbered}
 use Rattle.psm_resolve.specs.Statements.{declared_as}
-use Rattle.psm_names.specs.Referents.{Referent, Variable, Cursor, Condition, Block as BlockReferent, together, perhaps}
-use Rattle.psm_names.specs.Occurrences.{Occurrence, Declared, Site, looked_up, referents}
+use Rattle.psm_names.specs.Referents.{Referent, Condition, Block as BlockReferent, Declaration as DeclarationOf, together}
+use Rattle.psm_names.specs.Occurrences.{Occurrence, Site, looked_up}
 use Rattle.psm_names.specs.ExprOccurrences.{expr_occurrences, query_occurrences}
-use Rattle.psm_names.specs.ExprReferents as exprs
-use Rattle.psm_names.specs.ExprReferents.{R, expr_referents, items_referents, query_referents}
-use Rattle.psm_names.specs.Declaring.{Ordinals, Point, control, in_cursors, in_declaration, in_declarations, in_for, in_head, optional_occurrences, variables_from, with_cursors, with_declaration, with_declarations, with_variable}
+use Rattle.psm_names.specs.ExprReferents.{query_referents}
+use Rattle.psm_names.specs.Declaring.{Ordinals, Point, control, in_cursors, in_declarations, in_for, in_head, optional_occurrences, variables_from, with_cursors, with_declarations}
 use Rattle.psm_names.specs.StatementOccurrences as places
 use Rattle.psm_names.specs.StatementOccurrences.{Listing, all_of, begin, begun, block_occurrences, branch_occurrences, declaring, followed, handler_occurrences, in_value, only, routine_occurrences, statement_occurrences}
-use Rattle.psm_names.specs.StatementReferents.{branch_referents, handler_referents, of_cursor, of_declaration, of_head, of_slots, of_value, optional_referents, routine_referents, statement_referents}
+use Rattle.psm_names.specs.StatementReferents.{branch_referents, handler_referents, of_cursor, of_declaration, of_head, declaring_slots, of_value, routine_referents, statement_referents}
 use Rattle.psm_names.specs.Sites.{known, site_of}
 use Rattle.psm_names.proofs.Knowing.{levels-known}
 use Rattle.psm_names.proofs.LookedUp.{Gives, gives-as, gives-both, gives-none, gives-one}
 use Rattle.psm_names.proofs.Exprs.{expr-gives, query-gives}
-use Rattle.psm_names.proofs.Points.{begin-point, cursor-point, cursors-point, declaration-point, declarations-point, head-point, items-same, ordinals, point, slot-more}
+use Rattle.psm_names.proofs.Points.{begin-point, cursor-point, cursors-point, declaration-point, declarations-point, head-point, items-same, ordinals, point}
 use Rattle.psm_names.proofs.Simples.{named-condition, optional-gives, simple-gives, state-is}
 use Rattle.psm_names.proofs.ReferentsOfForms.{referents-query}
 use Rattle.psm_names.proofs.ReferentsOfStatements.{standing-Case, standing-Compound, standing-For, standing-If, standing-Loop, standing-Repeat, standing-Simple, standing-While, standing-block, standing-branch, standing-handler}
@@ -78,16 +71,16 @@ lists-then {symbols} {x} {y} {n} {m} {k} f g h j =
     record { gives = gives-both h.gives j'.gives; after = j'.after }
 
 -- a block begins
-lists-begun : {x : List Referent} {n m : Ordinals} (s : ResolverScope) (f : Listing) → Lists s.symbols x m (f n) → Lists s.symbols (BlockReferent (length s.scopes) ∷ x) m (followed (begun (site_of s)) f n)
-lists-begun s f h = record { gives = gives-one (ap (λ k. BlockReferent k ∷ []) (sym (levels-known s.scopes))) h.gives; after = h.after }
+lists-begun : {x : List Referent} {n m : Ordinals} (s : ResolverScope) (f : Listing) → Lists s.symbols x m (f n) → Lists s.symbols (DeclarationOf (BlockReferent (length s.scopes)) ∷ x) m (followed (begun (site_of s)) f n)
+lists-begun s f h = record { gives = gives-one (ap (λ k. DeclarationOf (BlockReferent k) ∷ []) (sym (levels-known s.scopes))) h.gives; after = h.after }
 
 -- ---- declarations
 
-slots-give : (symbols : SymbolTable) (k : ℕ) (ns : List Identifier) → Gives symbols (of_slots (slots_from k ns)) (variables_from k ns)
+slots-give : (symbols : SymbolTable) (k : ℕ) (ns : List Identifier) → Gives symbols (declaring_slots (slots_from k ns)) (variables_from k ns)
 slots-give symbols k [] = gives-none
 slots-give symbols k (n ∷ ns) = gives-one refl (slots-give symbols (suc k) ns)
 
-items-give : (symbols : SymbolTable) (k : ℕ) (is : List ForItem) → Gives symbols (of_slots (item_slots k is)) (variables_from k is)
+items-give : (symbols : SymbolTable) (k : ℕ) (is : List ForItem) → Gives symbols (declaring_slots (item_slots k is)) (variables_from k is)
 items-give symbols k [] = gives-none
 items-give symbols k (i ∷ is) = gives-one refl (items-give symbols (suc k) is)
 
@@ -126,7 +119,7 @@ head-gives : (s : ResolverScope) (head : ForHead) (n : Numbering) → Gives s.sy
 head-gives s head n =
     gives-one refl
     (gives-both (ordered-gives s head.query)
-    (subst (λ is. Gives s.symbols (of_slots (item_slots (next_slot n) (for_items s head.query.query))) (variables_from (next_slot n) is)) (items-same s head.query.query) (items-give s.symbols (next_slot n) (for_items s head.query.query))))
+    (subst (λ is. Gives s.symbols (declaring_slots (item_slots (next_slot n) (for_items s head.query.query))) (variables_from (next_slot n) is)) (items-same s head.query.query) (items-give s.symbols (next_slot n) (for_items s head.query.query))))
 
 declaring-lists : (s : ResolverScope) (numbered : Numbered) (xs : List Declaration) (cursors : List CursorDeclaration) →
     let declared = numbered_by numbered xs in
@@ -265,7 +258,7 @@ compound-claim : (xs : List Declaration) (cursors : List CursorDeclaration) (han
     let within : ResolverScope = in_scopes s numbered.0 in
     let hs = all within (map resolve_handler (map (λ y. y.0) handlers)) numbered.1 in
     let ss = all within (map resolve_statement (map (λ y. y.0) statements)) hs.1 in
-    Lists s.symbols (BlockReferent (length s.scopes) ∷ ((together (map of_declaration (declarations_of s.symbols before xs)) ++ together (map of_cursor (cursors_of s.symbols declared cursors))) ++ (together (map handler_referents hs.0) ++ together (map statement_referents ss.0)))) (ordinals ss.1)
+    Lists s.symbols (DeclarationOf (BlockReferent (length s.scopes)) ∷ ((together (map of_declaration (declarations_of s.symbols before xs)) ++ together (map of_cursor (cursors_of s.symbols declared cursors))) ++ (together (map handler_referents hs.0) ++ together (map statement_referents ss.0)))) (ordinals ss.1)
     (places.compound label (site_of s) xs cursors (handling handlers) (steps statements) (ordinals n))
 compound-claim xs cursors handlers statements label s n =
     let before : Numbered = (opened label s.scopes, n) in
@@ -284,7 +277,7 @@ compound-claim xs cursors handlers statements label s n =
     (lists-then (all_of (site_of within) (handling handlers)) (all_of (site_of within) (steps statements)) (handlers-list within handlers numbered.1) (statements-list within statements hs.1))))
 
 block-claim : (y : Block-F B S P H) (label : Option Spelling) (s : ResolverScope) (n : Numbering) → Lists s.symbols (statement_referents (resolved_block (bare_block y) label s n).0) (ordinals (resolved_block (bare_block y) label s n).1) (listed_block (bare_block y) label (site_of s) (ordinals n))
-block-claim (layers.Compound place atomic xs cursors handlers statements) label s n = lists-as (standing-Compound _ _ ∙ ap (λ l. BlockReferent (length s.scopes) ∷ l) (standing-block _)) (compound-claim xs cursors handlers statements label s n)
+block-claim (layers.Compound place atomic xs cursors handlers statements) label s n = lists-as (standing-Compound _ _ ∙ ap (λ l. DeclarationOf (BlockReferent (length s.scopes)) ∷ l) (standing-block _)) (compound-claim xs cursors handlers statements label s n)
 block-claim (layers.Loop place statements) label s n =
     let ys : List S = statements.first ∷ statements.rest in
     lists-as (standing-Loop _ _) (lists-begun s (all_of (site_of (in_loop label s)) (steps ys)) (statements-list (in_loop label s) ys n))

@@ -5,7 +5,7 @@ use Rattle.psm_value.specs.declared.sqltype.SqlType.TheVariants as types
 use Rattle.psm_scope.specs.Scopes.{Spelling, For, undeclared}
 use Rattle.psm_scope.specs.Lookup.{RowTable, column_meant}
 use Rattle.psm_scope.specs.KeptScopes.{declared_here, redeclared}
-use Rattle.psm_rules.specs.CheckerScope.{Columns, SymbolTable}
+use Rattle.psm_rules.specs.CheckerScope.{SymbolTable}
 use Rattle.psm_rules.specs.BlockFaults.{declared_once, last_name, wide}
 use Rattle.psm_rules.specs.declared.shape.Shape.{Shape}
 use Rattle.psm_rules.specs.declared.shape.Shape.TheVariants.{Value, Untyped}

@@ -7,3 +7,4 @@ pub mod Declaring
 pub mod SimpleOccurrences
 pub mod StatementOccurrences
 pub mod StatementReferents
+pub mod FileOccurrences

@@ -24,7 +24,7 @@ use Rattle.psm_tree.specs.declared.types.State.{State}
 use Rattle.psm_rules.specs.ExprFaults.{spelling}
 use Rattle.psm_resolved.specs.declared.statement.ResolvedCondition.{ResolvedCondition}
 use Rattle.psm_resolved.specs.declared.statement.ResolvedCondition.TheVariants as conditions
-use Rattle.psm_names.specs.Referents.{Referent, Null, Column, Variable, Cursor, Condition, Block, Table, Procedure, Function}
+use Rattle.psm_names.specs.Referents.{Referent, Null, Column, Variable, Cursor, Condition, Block, Table, Procedure, Function, Declaration}
 
 -- a variable is known by its ordinal, and has a type
 pub record KnownVariable : Type 0 where
@@ -124,7 +124,7 @@ referents symbols (ConditionName n scopes) = Condition (or_first (lookup.conditi
 referents symbols (StateName s) = Condition (state_or_success (good_state s.text)) ∷ []
 referents symbols (ProcedureName n count) = Procedure (procedure_number (procedure n count symbols.procedures)) ∷ []
 referents symbols (FunctionName n kinds) = Function (function_number (function symbols.functions n kinds)) ∷ []
-referents symbols (Declared r) = r ∷ []
+referents symbols (Declared r) = Declaration r ∷ []
 
 abbrev pub looked_up : SymbolTable → List Occurrence → List Referent
 looked_up symbols [] = []

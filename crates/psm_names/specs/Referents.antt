@@ -18,6 +18,8 @@ pub data Referent : Type 0 where
   Table : ℕ → Referent
   Procedure : ℕ → Referent
   Function : ℕ → Referent
+  -- what is declared there, or a block that begins there
+  Declaration : Referent → Referent
 
 -- ---- parts one after another
 

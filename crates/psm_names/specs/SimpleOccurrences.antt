@@ -1,5 +1,5 @@
 -- The occurrences of names in a statement without statements in it (ISO/IEC 9075-4:1996, and 9075:1992, clause 13).
-use Rattle.std.specs.Prelude.{ℕ, List, [], ◌∷◌, ◌++◌, map, length, Option, Some, None, option_map}
+use Rattle.std.specs.Prelude.{List, [], ◌∷◌, ◌++◌, map, length, Option, Some, None, option_map}
 use Rattle.psm_scope.specs.Routines.{procedure}
 use Rattle.psm_scope.specs.declared.procedures.ProcedureScope.{ProcedureScope}
 use Rattle.psm_scope.specs.declared.procedures.ParameterScope.{ParameterScope}

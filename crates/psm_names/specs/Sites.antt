@@ -1,6 +1,6 @@
 -- What the resolver knows where an expression stands, as it is known apart from it: a variable by its slot, and a condition by what
 -- stands for it.
-use Rattle.std.specs.Prelude.{ℕ, List, map}
+use Rattle.std.specs.Prelude.{ℕ, map}
 use Rattle.psm_scope.specs.Scopes.{Declared, Scope, Routine, Compound, Loop, For, Action}
 use Rattle.psm_scope.specs.declared.known.Variable.{Variable}
 use Rattle.psm_scope.specs.declared.known.DeclaredCondition.{DeclaredCondition}

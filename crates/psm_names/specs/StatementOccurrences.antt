@@ -1,12 +1,11 @@
 -- The occurrences of names and of declarations in a statement and in a routine, in the order of the source (ISO/IEC 9075-4:1996).
-use Rattle.std.specs.Prelude.{ℕ, List, [], ◌∷◌, ◌++◌, length, map, Option, Some, None, option_map}
+use Rattle.std.specs.Prelude.{ℕ, List, [], ◌∷◌, ◌++◌, length, map, Option}
 use Rattle.psm_scope.specs.Scopes.{Spelling, Scope, Compound, Loop, Action, undeclared}
 use Rattle.psm_scope.specs.Scopes as scope
 use Rattle.psm_rules.specs.CheckerScope.{SymbolTable}
 use Rattle.psm_rules.specs.StatementFaults.{several, label_name}
 use Rattle.psm_rules.specs.Types.{type_of}
 use Rattle.psm_resolve_expr.specs.Exprs.{type_known}
-use Rattle.psm_tree.specs.declared.expr.Expr.{Expr}
 use Rattle.psm_tree.specs.declared.file.Parameter.{Parameter}
 use Rattle.psm_tree.specs.declared.file.Routine.{Routine}
 use Rattle.psm_tree.specs.declared.statement.Block.{Block}

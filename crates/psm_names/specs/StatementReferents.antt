@@ -1,5 +1,5 @@
 -- The referents that stand in a resolved statement, in the order of the source.
-use Rattle.std.specs.Prelude.{ℕ, List, [], ◌∷◌, ◌++◌, map, Option, Some, None, option_map}
+use Rattle.std.specs.Prelude.{ℕ, List, [], ◌∷◌, ◌++◌, map, Option, option_map}
 use Rattle.psm_cond.specs.declared.handlers.ConditionValue.{ConditionValue}
 use Rattle.psm_cond.specs.declared.handlers.ConditionValue.TheVariants as values
 use Rattle.psm_resolved.specs.declared.expr.ResolvedExpr.{ResolvedExpr}
@@ -29,7 +29,7 @@ use Rattle.psm_resolved.specs.declared.statement.ResolvedStatement.TheOpen as la
 use Rattle.psm_resolved.specs.declared.statement.ResolvedStatement.TheFolds.{fold-ResolvedStatement, fold-ResolvedBlock, fold-ResolvedBranch, fold-ResolvedHandler}
 use Rattle.psm_resolved.specs.declared.statement.ResolvedWhere.{ResolvedWhere}
 use Rattle.psm_resolved.specs.declared.statement.ResolvedWhere.TheVariants as which_of
-use Rattle.psm_names.specs.Referents.{Column, Variable, Cursor, Condition, Block, Table, Procedure, together, perhaps}
+use Rattle.psm_names.specs.Referents.{Column, Variable, Cursor, Condition, Block, Table, Procedure, Declaration, together, perhaps}
 use Rattle.psm_names.specs.ExprReferents.{R, expr_referents, query_referents}
 
 abbrev pub optional_referents : Option ResolvedExpr → R
@@ -90,14 +90,17 @@ simple_referents (simples.Close cursor) = Cursor cursor ∷ []
 
 -- ---- declarations
 
+abbrev pub declaring_slots : List ℕ → R
+declaring_slots slots = map (λ k. Declaration (Variable k)) slots
+
 abbrev pub of_declaration : ResolvedDeclaration → R
-of_declaration d = of_slots d.slots ++ optional_referents d.default
+of_declaration d = declaring_slots d.slots ++ optional_referents d.default
 
 abbrev pub of_cursor : ResolvedCursor → R
-of_cursor c = Cursor c.number ∷ query_referents c.query
+of_cursor c = Declaration (Cursor c.number) ∷ query_referents c.query
 
 abbrev pub of_head : ResolvedFor → R
-of_head h = of_cursor h.cursor ++ of_slots h.slots
+of_head h = of_cursor h.cursor ++ declaring_slots h.slots
 
 abbrev pub of_value : ConditionValue → R
 of_value (values.State s) = Condition (conditions.State s) ∷ []
@@ -109,11 +112,11 @@ of_value values.NotFound = []
 -- ---- layers, in which the parts are what stands in them
 
 abbrev pub statement_layer : ResolvedStatement-F R R R R → R
-statement_layer (layers.Compound level block) = Block level ∷ block
-statement_layer (layers.Loop level statements) = Block level ∷ together statements
-statement_layer (layers.While level test statements) = Block level ∷ (expr_referents test ++ together statements)
-statement_layer (layers.Repeat level statements until) = Block level ∷ (together statements ++ expr_referents until)
-statement_layer (layers.For level head statements) = Block level ∷ (of_head head ++ together statements)
+statement_layer (layers.Compound level block) = Declaration (Block level) ∷ block
+statement_layer (layers.Loop level statements) = Declaration (Block level) ∷ together statements
+statement_layer (layers.While level test statements) = Declaration (Block level) ∷ (expr_referents test ++ together statements)
+statement_layer (layers.Repeat level statements until) = Declaration (Block level) ∷ (together statements ++ expr_referents until)
+statement_layer (layers.For level head statements) = Declaration (Block level) ∷ (of_head head ++ together statements)
 statement_layer (layers.If branches otherwise) = together branches ++ together otherwise
 statement_layer (layers.Case operand branches otherwise) = optional_referents operand ++ (together branches ++ together otherwise)
 statement_layer (layers.Simple simple) = simple_referents simple

@@ -3,4 +3,6 @@
 
 mod laws;
 
-pub use laws::{names_are_resolved, names_in_expressions_are_resolved};
+pub use laws::{
+    names_are_resolved, names_in_expressions_are_resolved, names_in_files_are_resolved,
+};
