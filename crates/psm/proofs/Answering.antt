@@ -1,32 +1,34 @@
 -- The causes of the answer, from what was put for words without a form and from what the command answers.
-use Rattle.std.proofs.Common.{◌≡◌, ℕ, List, Some, None, refl, subst, inl, inr}
+use Rattle.std.proofs.Common.{◌≡◌, ℕ, List, Option, Some, None, refl, subst, inl, inr}
 use Rattle.psm_session.specs.Put.{Sunk}
-use Rattle.psm_files.specs.Answer.{PutsLine, Stayed, Answers}
+use Rattle.psm_files.specs.Answer.{Answers, PutsLine, Stayed}
 use Rattle.psm_files.specs.Expected.{with_line}
 use Rattle.psm_files.specs.Fetches.{NoneFailed}
 use Rattle.psm_files.specs.declared.status.Status.{Status}
 use Rattle.psm_files.specs.declared.status.Status.TheVariants as status
-use Rattle.psm_run.specs.Contract.{RunSays, RunCompletes}
-use Rattle.psm_run.specs.Files.{Files}
-use Rattle.psm.specs.Contract.{Asked, Says, Completes}
+use Rattle.psm_commands.specs.Command.{Command}
+use Rattle.psm_commands.specs.Contract.{CommandCompletes, CommandSays}
+use Rattle.psm.specs.Contract.{Asked, IsMisused, PsmCompletes, PsmSays}
 use Rattle.psm.specs.Message.{usage}
-use Rattle.psm.specs.Words.{files_of}
+use Rattle.psm.specs.Words.{command_in}
 
-no_files : (words : List (List ℕ)) (f : Files) → files_of words ≡ Some f → files_of words ≡ None → ⊥
-no_files words f e n = cc
+no_command : (words : List (List ℕ)) (c : Command) → command_in words ≡ Some c → command_in words ≡ None → ⊥
+no_command words c e n = cc
 
-same_files : (words : List (List ℕ)) (f g : Files) → files_of words ≡ Some f → files_of words ≡ Some g → f ≡ g
-same_files words f g e e' = cc
+one_command : (words : List (List ℕ)) (c d : Command) → command_in words ≡ Some c → command_in words ≡ Some d → c ≡ d
+one_command words c d e e' = cc
 
 module _ (asked : Asked) (sunk : Sunk) (answer : Status) where
   -- ---- words without a form
 
-  pub says_usage : files_of asked.words ≡ None → NoneFailed asked.fetches → PutsLine (with_line status.Usage usage) sunk answer → Says asked sunk answer
+  pub says_usage : command_in asked.words ≡ None → NoneFailed asked.fetches → PutsLine (with_line status.Usage usage) sunk answer → PsmSays asked sunk answer
   says_usage none stays puts = by puts
     where
-      by : PutsLine (with_line status.Usage usage) sunk answer → Says asked sunk answer
-      by (inl p) = inl (record { expected = with_line status.Usage usage; cause = inl (record { unnamed = none; none_failed = stays; expected_is = refl }); put = inl p })
-      by (inr (inl p)) = inl (record { expected = with_line status.Usage usage; cause = inl (record { unnamed = none; none_failed = stays; expected_is = refl }); put = inr (inl p) })
+      misused : IsMisused asked (with_line status.Usage usage)
+      misused = record { unnamed = none; none_failed = stays; expected_is = refl }
+      by : PutsLine (with_line status.Usage usage) sunk answer → PsmSays asked sunk answer
+      by (inl p) = inl (record { expected = with_line status.Usage usage; cause = inl misused; put = inl p })
+      by (inr (inl p)) = inl (record { expected = with_line status.Usage usage; cause = inl misused; put = inr (inl p) })
       by (inr (inr p)) = inr p
 
   usage_answers : PutsLine (with_line status.Usage usage) sunk answer → Stayed sunk.faults_before sunk.faults_after → Answers status.Usage answer
@@ -34,26 +36,25 @@ module _ (asked : Asked) (sunk : Sunk) (answer : Status) where
   usage_answers (inr (inl p)) stayed = absurd (stayed p.put.rose)
   usage_answers (inr (inr p)) stayed = inr p.answer_is
 
-  pub completes_usage : files_of asked.words ≡ None → PutsLine (with_line status.Usage usage) sunk answer → Completes asked sunk answer
+  pub completes_usage : command_in asked.words ≡ None → PutsLine (with_line status.Usage usage) sunk answer → PsmCompletes asked sunk answer
   completes_usage none puts = record {
     misused = λ stayed n. usage_answers puts stayed;
-    reported = λ f ms ss found stayed s t named hm hs files_are. absurd (no_files asked.words f named none);
+    commanded = λ command told. absurd (no_command asked.words command told none);
   }
 
-  -- ---- words that name two files
+  -- ---- words that tell a command
 
-  module _ (f : Files) (named : files_of asked.words ≡ Some f) where
-    pub says_run : RunSays asked.fetches f sunk answer → Says asked sunk answer
-    says_run (inl r) = inl (record {
+  module _ (command : Command) (told : command_in asked.words ≡ Some command) where
+    pub says_command : CommandSays asked.fetches command sunk answer → PsmSays asked sunk answer
+    says_command (inl r) = inl (record {
       expected = r.expected;
-      cause = inr (record { files = f; named = named; found = r.found; finds = r.finds; expected_is = r.expected_is });
+      cause = inr (record { command = command; told = told; expected_of = r.cause });
       put = r.put;
     })
-    says_run (inr r) = inr r
+    says_command (inr r) = inr r
 
-    pub completes_run : RunCompletes asked.fetches f sunk answer → Completes asked sunk answer
-    completes_run completes = record {
-      misused = λ stayed n. absurd (no_files asked.words f named n);
-      reported = λ g ms ss found stayed s t named' hm hs files_are.
-          subst (λ (h : Files). RunCompletes asked.fetches h sunk answer) (same_files asked.words f g named named') completes ms ss found stayed s t hm hs files_are;
+    pub completes_command : CommandCompletes asked.fetches command sunk answer → PsmCompletes asked sunk answer
+    completes_command completes = record {
+      misused = λ stayed n. absurd (no_command asked.words command told n);
+      commanded = λ other told'. subst (λ (c : Command). CommandCompletes asked.fetches c sunk answer) (one_command asked.words command other told told') completes;
     }

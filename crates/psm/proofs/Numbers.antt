@@ -1,4 +1,4 @@
--- A word that is a number is read as that number, and a few words name no files.
+-- A word that is a number is read as that number, and a few words tell no command.
 use Rattle.std.proofs.Common.{◌≡◌, ℕ, ◌<◌, ◌≤◌, ◌^◌, Bool, true, false, ◌&&◌, not, List, [], ◌∷◌, length, map, Some, None, Ok, Err, Result, refl, sym, ap, ◌∙◌, arith, rules}
 use Rattle.std.specs.Char.{is_ascii_digit}
 use Rattle.std.specs.List.{list_all}
@@ -7,7 +7,7 @@ use Rattle.std.specs.Prelude.{String, string_bytes, nat_le, nat_lt, if◌then◌
 use Rattle.std.specs.Str.Parse.{ParsesUnsigned, digits_value}
 use Rattle.std.proofs.lemmas.Bool.{leb-true, ltb-true}
 use Rattle.std.proofs.lemmas.Str.Parse.{IsNumeralModel, digits_value_short, numerals_by_value, parse_gives}
-use Rattle.psm.specs.Words.{begins_with_zero, files_of, is_number, number_of}
+use Rattle.psm.specs.Words.{begins_with_zero, command_in, is_number, number_of}
 
 -- the test tells digits
 own : IsNumeralModel (λ ds. list_all is_ascii_digit ds ≡ true) (digits_value 10)
@@ -43,9 +43,8 @@ number_refused E bs e h is = absurd (never (parsed bs (Err e) h is))
     never : ◌≡◌ {A = Result ℕ E} (Err e) (Ok (digits_value 10 bs)) → ⊥
     never p = cc
 
--- fewer than three words name no files
-pub few_words : (words : List (String Global)) → length words < 3 → files_of (map string_bytes words) ≡ None
+-- fewer than two words tell no command
+pub few_words : (words : List (String Global)) → length words < 2 → command_in (map string_bytes words) ≡ None
 few_words [] h = refl
 few_words (word ∷ []) h = refl
-few_words (word ∷ m ∷ []) h = refl
-few_words (word ∷ m ∷ s ∷ options) h = absurd (omega arith)
+few_words (word ∷ m ∷ others) h = absurd (omega arith)

@@ -1,5 +1,5 @@
--- The line that shows the form of the words.
+-- The line that shows the forms of the words.
 use Rattle.std.specs.Prelude.{ℕ, List, codes}
 
 abbrev pub usage : List ℕ
-usage = codes "usage: psm run M S [--turns N]\n"
+usage = codes "usage: psm run M S [--turns N] | psm compile M\n"

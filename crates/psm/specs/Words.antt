@@ -4,7 +4,7 @@ use Rattle.std.specs.Char.{is_ascii_digit}
 use Rattle.std.specs.Cmp.Lexicographic.{pointwise}
 use Rattle.std.specs.List.{list_all}
 use Rattle.std.specs.Str.Parse.{digits_value}
-use Rattle.psm_run.specs.Files.{Files, named}
+use Rattle.psm_commands.specs.Command.{Command, Run, Compile, named}
 
 -- the turns where the words tell none
 abbrev pub default_turns : ℕ
@@ -28,11 +28,11 @@ number_of word = if is_number word then Some (digits_value 10 word) else None
 
 -- ---- the form `run M S`, with `--turns N` after it or not
 
-abbrev pub with_turns : List ℕ → List ℕ → Option ℕ → Option Files
+abbrev pub with_turns : List ℕ → List ℕ → Option ℕ → Option Command
 with_turns m s None = None
-with_turns m s (Some n) = Some (named m s n)
+with_turns m s (Some n) = Some (Run (named m s n))
 
-abbrev pub run_with : List ℕ → List ℕ → List ℕ → Option ℕ → Option Files
+abbrev pub run_with : List ℕ → List ℕ → List ℕ → Option ℕ → Option Command
 run_with word m s turns = if is_word word (codes "run") then with_turns m s turns else None
 
 -- the turns that the words after the names tell
@@ -42,9 +42,15 @@ turns_of (option ∷ []) = None
 turns_of (option ∷ n ∷ []) = if is_word option (codes "--turns") then number_of n else None
 turns_of (option ∷ n ∷ other ∷ others) = None
 
--- the files that the words name, where the words have the form
-abbrev pub files_of : List (List ℕ) → Option Files
-files_of (word ∷ m ∷ s ∷ options) = run_with word m s (turns_of options)
-files_of [] = None
-files_of (word ∷ []) = None
-files_of (word ∷ m ∷ []) = None
+-- ---- the form `compile M`
+
+abbrev pub compile_with : List ℕ → List ℕ → Option Command
+compile_with word m = if is_word word (codes "compile") then Some (Compile m) else None
+
+-- ---- the command that the words tell, where they have a form
+
+abbrev pub command_in : List (List ℕ) → Option Command
+command_in [] = None
+command_in (word ∷ []) = None
+command_in (word ∷ m ∷ []) = compile_with word m
+command_in (word ∷ m ∷ s ∷ options) = run_with word m s (turns_of options)

@@ -4,33 +4,37 @@ ghost use Rattle.psm_files.specs.Answer.{PutsLine};
 ghost use Rattle.psm_files.specs.Expected.{with_line};
 ghost use Rattle.psm_files.specs.Fetches.{fetches_of};
 ghost use Rattle.psm_files.specs.declared.status.Status.TheVariants as status;
-ghost use Rattle.psm.specs.Contract.{asked_of, Says, Completes};
+ghost use Rattle.psm.specs.Contract.{asked_of, PsmSays, PsmCompletes};
 ghost use Rattle.psm.specs.Message.{usage};
 
-use crate::words::files_in;
+use crate::words::command_in;
+use psm_commands::perform;
 use psm_files::{Status, put_line};
 use psm_io::{Shelf, Sink};
-use psm_run::run;
 use std::alloc::Global;
 
 /// Does what the words after the program's name say, and tells how it ended.
 pub fn psm<F: Shelf, K: Sink>(alloc: Global, words: &[String], shelf: &mut F, out: &mut K) -> Status
     // Each status comes only for its cause, and what is written is what is expected.
-    ensures says { Says (asked_of words.now (fetches_of F.held F.faults shelf.old shelf.new))
+    ensures says { PsmSays (asked_of words.now (fetches_of F.held F.faults shelf.old shelf.new))
         (sunk_of K.written K.faults out.old out.new) result }
     // What is expected is answered where nothing outside fails, unless memory runs out.
-    ensures completes { Completes (asked_of words.now (fetches_of F.held F.faults shelf.old shelf.new))
+    ensures completes { PsmCompletes (asked_of words.now (fetches_of F.held F.faults shelf.old shelf.new))
         (sunk_of K.written K.faults out.old out.new) result }
 {
-    match files_in(words) {
+    match command_in(words) {
         None => report_usage(out),
-        Some(files) => run(alloc, &files, shelf, out),
+        Some(command) => perform(alloc, command, shelf, out),
     }
 }
 
-// Puts the line that shows the form of the words.
+// Puts the line that shows the forms of the words.
 fn report_usage<K: Sink>(out: &mut K) -> Status
     ensures { PutsLine (with_line status.Usage usage) (sunk_of K.written K.faults out.old out.new) result }
 {
-    put_line(b"usage: psm run M S [--turns N]\n", Status::Usage, out)
+    put_line(
+        b"usage: psm run M S [--turns N] | psm compile M\n",
+        Status::Usage,
+        out,
+    )
 }

@@ -2,21 +2,22 @@
 ghost use Rattle.std.specs.Char.{is_ascii_digit};
 ghost use Rattle.std.specs.List.{list_all};
 ghost use Rattle.std.specs.Prelude.{◌≡◌, None, Some, MatchOption, map, string_bytes};
-ghost use Rattle.psm_run.specs.Files.{named};
-ghost use Rattle.psm.specs.Words.{begins_with_zero, files_of, is_number, number_of, run_with, turns_of};
+ghost use Rattle.psm_commands.specs.Command.{command_of};
+ghost use Rattle.psm.specs.Words.{begins_with_zero, command_in, compile_with, is_number, number_of, run_with, turns_of};
 
-use psm_run::Files;
+use psm_commands::{Command, Files};
 
 /// The turns of a session where the words tell none.
 const DEFAULT_TURNS: u64 = 1_000_000;
 
-/// The files that the words after the program's name give, where they have the form `run M S` or `run M S --turns N`.
-pub fn files_in(words: &[String]) -> Option<Files<'_>>
-    ensures { MatchOption result (files_of (map string_bytes words.now) ≡ None)
-        (λ f. files_of (map string_bytes words.now) ≡ Some (named f.for_module.now f.for_script.now f.turns)) }
+/// The command that the words after the program's name tell, where they have the form `run M S`, `run M S --turns N` or `compile M`.
+pub fn command_in(words: &[String]) -> Option<Command<'_>>
+    ensures { MatchOption result (command_in (map string_bytes words.now) ≡ None)
+        (λ c. command_in (map string_bytes words.now) ≡ Some (command_of c)) }
 {
     match words {
-        [word, for_module, for_script, options @ ..] => files_for(
+        [word, for_module] => compile_for(word.as_str(), for_module.as_str()),
+        [word, for_module, for_script, options @ ..] => run_for(
             word.as_str(),
             for_module.as_str(),
             for_script.as_str(),
@@ -26,22 +27,34 @@ pub fn files_in(words: &[String]) -> Option<Files<'_>>
     }
 }
 
-// The files, where the first word is `run` and there are turns.
-fn files_for<'a>(
+// The command `compile`, where the first word is that.
+fn compile_for<'a>(word: &str, for_module: &'a str) -> Option<Command<'a>>
+    ensures { MatchOption result (compile_with word.now for_module.now ≡ None)
+        (λ c. compile_with word.now for_module.now ≡ Some (command_of c)) }
+{
+    if word == "compile" {
+        Some(Command::Compile(for_module))
+    } else {
+        None
+    }
+}
+
+// The command `run`, where the first word is that and there are turns.
+fn run_for<'a>(
     word: &str,
     for_module: &'a str,
     for_script: &'a str,
     turns: Option<u64>,
-) -> Option<Files<'a>>
+) -> Option<Command<'a>>
     ensures { MatchOption result (run_with word.now for_module.now for_script.now turns ≡ None)
-        (λ f. run_with word.now for_module.now for_script.now turns ≡ Some (named f.for_module.now f.for_script.now f.turns)) }
+        (λ c. run_with word.now for_module.now for_script.now turns ≡ Some (command_of c)) }
 {
     match turns {
-        Some(turns) if word == "run" => Some(Files {
+        Some(turns) if word == "run" => Some(Command::Run(Files {
             for_module,
             for_script,
             turns,
-        }),
+        })),
         _ => None,
     }
 }

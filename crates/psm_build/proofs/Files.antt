@@ -71,7 +71,7 @@ module_once : (bytes : List ℕ) (p q : IsModuleFile bytes) → p.tree ≡ q.tre
 module_once bytes p q = tree_once file_fit bytes p.tree q.tree p.tree_is q.tree_is
 
 -- a script may name the same over it, however it is known to be one
-known_once : (bytes : List ℕ) (p q : IsModuleFile bytes) → known_over p ≡ known_over q
+pub known_once : (bytes : List ℕ) (p q : IsModuleFile bytes) → known_over p ≡ known_over q
 known_once bytes p q = ap (λ (t : FileTree). known_of_file (resolved_file t)) (module_once bytes p q)
 
 script_rule_excludes : (known : Known) (bytes : List ℕ) (tree : ScriptTree) (reported : BuildFault) → IsTreeOf scripts bytes tree → IsAcceptedScript known tree → IsScriptRuleFault known bytes reported → ⊥

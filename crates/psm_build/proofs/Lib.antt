@@ -3,6 +3,7 @@ pub mod Sources
 pub mod Files
 pub mod Total
 pub mod Compiled
+pub mod ModuleCode
 pub mod Ending
 pub mod EmptyTables
 pub mod Shown

@@ -2,6 +2,7 @@ pub mod Reported
 pub mod FaultTexts
 pub mod Source
 pub mod Program
+pub mod ModuleCode
 pub mod Once
 pub mod Building
 pub mod Outcome

@@ -39,3 +39,19 @@ Stayed before after = Rose before after → ⊥
 -- the status that is expected, or out of memory
 abbrev pub Answers : Status → Status → Type 0
 Answers expected_status answer = (answer ≡ expected_status) ⊎ (answer ≡ status.Memory)
+
+-- ---- what a call says
+
+-- something was expected, and was put so
+pub record Settles (IsExpected : Expected → Type 0) (sunk : Sunk) (answer : Status) : Type 0 where
+  pub expected : Expected
+  pub cause : IsExpected expected
+  pub put : IsPut expected sunk answer ⊎ IsPutInPart expected sunk answer ⊎ IsCut expected sunk answer
+
+-- each status comes for its cause, and with it stands what is written
+abbrev pub Says : (Expected → Type 0) → Sunk → Status → Type 0
+Says IsExpected sunk answer = Settles IsExpected sunk answer ⊎ RunsOut sunk answer
+
+-- where no put failed, the status of all that is expected is answered, unless memory ran out
+abbrev pub Completes : (Expected → Type 0) → Sunk → Status → Type 0
+Completes IsExpected sunk answer = (expected : Expected) → Stayed sunk.faults_before sunk.faults_after → IsExpected expected → Answers expected.status answer

@@ -2,9 +2,12 @@
 use Rattle.std.specs.Prelude.{◌≡◌, ◌≢◌, ℕ, ◌<◌, ◌≤◌, List, length, Option, IfSome, Result, Ok, Err}
 use Rattle.std.specs.Global.{Vec}
 use Rattle.psm_io.specs.Count.{Rose}
-use Rattle.psm_files.specs.Found.{most_bytes}
 use Rattle.psm_files.specs.declared.file.FetchFault.{FetchFault}
 use Rattle.psm_files.specs.declared.file.FetchFault.TheVariants.{Unread, TooLong, Memory}
+
+-- the most bytes of a file
+abbrev pub most_bytes : ℕ
+most_bytes = 16777216
 
 -- what a shelf tells of each name, and how often a fetch of a name had failed, before and after a call
 pub record Fetches : Type 0 where

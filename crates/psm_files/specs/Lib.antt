@@ -1,6 +1,6 @@
 pub mod Status
-pub mod Found
 pub mod Fetches
 pub mod Message
 pub mod Expected
+pub mod Given
 pub mod Answer

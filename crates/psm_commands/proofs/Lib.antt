@@ -1,0 +1,6 @@
+pub mod Fetched
+pub mod Reading
+pub mod Outcomes
+pub mod Answering
+pub mod Completeness
+pub mod Told

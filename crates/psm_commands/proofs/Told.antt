@@ -1,0 +1,75 @@
+-- Where a shelf tells the files of a command, something is expected of it.
+use Rattle.std.proofs.Common.{◌≡◌, ℕ, ◌<◌, ◌≤◌, List, [], length, Option, Some, None, refl, inl, inr}
+use Rattle.std.specs.Prelude.{◌⊎◌, All, IsSome}
+use Rattle.std.proofs.lemmas.Bool.{cases_lt}
+use Rattle.std.proofs.lemmas.List.Elements.{All-head, All-tail}
+use Rattle.psm_build.specs.Once.{HasFault, IsEnd, Total}
+use Rattle.psm_build.specs.Program.{EndsIn, IsModuleFault, IsModuleFile, IsScriptFault, IsScriptFile}
+use Rattle.psm_build.specs.declared.fault.Fault.{Fault}
+use Rattle.psm_meaning.specs.Session.{Session}
+use Rattle.psm_files.specs.Expected.{Expected, with_line}
+use Rattle.psm_files.specs.Fetches.{most_bytes}
+use Rattle.psm_files.specs.Given.{ForFile, as_told}
+use Rattle.psm_files.specs.Message.{too_long}
+use Rattle.psm_files.specs.declared.status.Status.TheVariants.{Done, TooLong}
+use Rattle.psm_commands.specs.Command.{Command, Files, Run, Compile, files_of}
+use Rattle.psm_commands.specs.Contract.{StatusFor}
+use Rattle.psm_commands.specs.Run.{ForRun, Plays}
+use Rattle.psm_commands.specs.Compile.{StatusForCompile}
+use Rattle.psm_commands.specs.Sources.{ForScript, IsRefused, with_refusal}
+use Rattle.psm_commands.specs.declared.source.Which.{Which}
+use Rattle.psm_commands.specs.declared.source.Which.TheVariants.{Module, Script}
+use Rattle.psm_commands.proofs.Answering.{session_expected}
+
+-- something is expected, with that cause
+abbrev Something : (Expected → Type 0) → Type 0
+Something Is = (expected : Expected) × Is expected
+
+module _ (held : List ℕ → Option (List ℕ)) where
+  some_bytes : (o : Option (List ℕ)) → IsSome o → (bytes : List ℕ) × (o ≡ Some bytes)
+  some_bytes None h = absurd cc
+  some_bytes (Some bytes) h = (bytes, refl)
+
+  for_file : (name : List ℕ) → IsSome (held name) → (For : List ℕ → Expected → Type 0) → ((bytes : List ℕ) → Something (For bytes)) → Something (ForFile (as_told held) name For)
+  for_file name h For some =
+      let b = some_bytes (held name) h in
+      by b.0 b.1 (cases_lt most_bytes (length b.0))
+    where
+      by : (bytes : List ℕ) → held name ≡ Some bytes → (most_bytes < length bytes) ⊎ (length bytes ≤ most_bytes) → Something (ForFile (as_told held) name For)
+      by bytes e (inl long) = (with_line TooLong (too_long name), inr (inl (record { bytes = bytes; gives = e; long = long; none_fails = tt; expected_is = refl })))
+      by bytes e (inr short) = let s = some bytes in (s.0, inr (inr (record { bytes = bytes; gives = e; short = short; for_bytes = s.1 })))
+
+  refused : (w : Which) (IsFault : ℕ → ℕ → Fault → Type 0) (For : Expected → Type 0) → HasFault IsFault → Something (λ e. IsRefused (as_told held) w IsFault e ⊎ For e)
+  refused w IsFault For h = (with_refusal w h.0 h.1 h.2.0, inl (record { line = h.0; column = h.1; fault = h.2.0; is_fault = h.2.1; none_fails = tt; expected_is = refl }))
+
+  module _ (modules : (ms : List ℕ) → Total (IsModuleFile ms) (IsModuleFault ms)) (scripts : (ms ss : List ℕ) → IsModuleFile ms → Total (IsScriptFile ms ss) (IsScriptFault ms ss))
+      (sessions : (ms ss : List ℕ) (turns : ℕ) → IsScriptFile ms ss → (s : Session) × EndsIn ms ss turns s)
+      (ends : (ms ss : List ℕ) (turns : ℕ) (s : Session) → EndsIn ms ss turns s → IsEnd s.end) where
+    for_script : (f : Files) (ms : List ℕ) → IsModuleFile ms → (ss : List ℕ) → Something (λ e. IsRefused (as_told held) Script (IsScriptFault ms ss) e ⊎ Plays (as_told held) ms ss f.turns e)
+    for_script f ms is ss = by (scripts ms ss is)
+      where
+        by : Total (IsScriptFile ms ss) (IsScriptFault ms ss) → Something (λ e. IsRefused (as_told held) Script (IsScriptFault ms ss) e ⊎ Plays (as_told held) ms ss f.turns e)
+        by (inr h) = refused Script (IsScriptFault ms ss) (Plays (as_told held) ms ss f.turns) h
+        by (inl script) =
+            let s = sessions ms ss f.turns script in
+            let e = session_expected s.0 (ends ms ss f.turns s.0 s.1) in
+            (e.0, inr (record { session = s.0; ends_in = s.1; none_fails = tt; expected_is = e.1 }))
+
+    for_run : (f : Files) → IsSome (held f.for_module) → IsSome (held f.for_script) → Something (ForRun (as_told held) f)
+    for_run f hm hs = for_file f.for_module hm _ (λ ms. by ms (modules ms))
+      where
+        by : (ms : List ℕ) → Total (IsModuleFile ms) (IsModuleFault ms)
+            → Something (λ e. IsRefused (as_told held) Module (IsModuleFault ms) e ⊎ (IsModuleFile ms × ForScript (as_told held) ms f.for_script (λ ss. Plays (as_told held) ms ss f.turns) e))
+        by ms (inr h) = refused Module (IsModuleFault ms) _ h
+        by ms (inl is) = let s = for_file f.for_script hs _ (for_script f ms is) in (s.0, inr (is, s.1))
+
+    for_compile : (name : List ℕ) → IsSome (held name) → Something (StatusForCompile (as_told held) name)
+    for_compile name h = for_file name h _ (λ ms. by ms (modules ms))
+      where
+        by : (ms : List ℕ) → Total (IsModuleFile ms) (IsModuleFault ms) → Something (λ e. IsRefused (as_told held) Module (IsModuleFault ms) e ⊎ (IsModuleFile ms × (e.status ≡ Done)))
+        by ms (inr h) = refused Module (IsModuleFault ms) _ h
+        by ms (inl is) = (record { status = Done; pieces = [] }, inr (is, refl))
+
+    pub for_command : (command : Command) → All (λ name. IsSome (held name)) (files_of command) → Something (StatusFor (as_told held) command)
+    for_command (Run f) h = for_run f (All-head _ _ h) (All-head _ _ (All-tail _ _ h))
+    for_command (Compile name) h = for_compile name (All-head _ _ h)

@@ -1,0 +1,55 @@
+//! The commands and what each is called with.
+ghost use Rattle.psm_session.specs.Put.{sunk_of};
+ghost use Rattle.psm_files.specs.Fetches.{fetches_of};
+ghost use Rattle.psm_commands.specs.Command.{command_of};
+ghost use Rattle.psm_commands.specs.Contract.{CommandSays, CommandCompletes};
+
+use crate::compile::compile;
+use crate::run::run;
+use psm_build::files_are_one_thing;
+use psm_files::Status;
+use psm_io::{Shelf, Sink};
+use std::alloc::Global;
+
+/// The names of the two files of `run`, and the turns of the session.
+#[derive(Clone, Copy, Debug)]
+pub struct Files<'a> {
+    pub for_module: &'a str,
+    pub for_script: &'a str,
+    pub turns: u64,
+}
+
+/// What the program is to do.
+#[derive(Clone, Copy, Debug)]
+pub enum Command<'a> {
+    /// Run the script over the module file.
+    Run(Files<'a>),
+    /// Write the listing of the module file of that name.
+    Compile(&'a str),
+}
+
+/// Does what the command says. `run` runs the script over the module file, with that many turns, on empty tables (ISO/IEC
+/// 9075-4:1996, module definitions and the call statement), and puts a piece for each command of the script. `compile` puts one
+/// piece, the listing of code that stands for the module file. The first file that can't be read, is too long or is refused ends
+/// either, and the line that says so is put.
+///
+/// # Errors
+/// The status says how the command ended: `Done`, `TurnsUsed` for a session that has used its turns, `ReadFault`, `TooLong`,
+/// `ModuleRefused` and `ScriptRefused` for a file, `WriteFault` where a put failed, `Memory`.
+pub fn perform<F: Shelf, K: Sink>(
+    alloc: Global,
+    command: Command<'_>,
+    shelf: &mut F,
+    out: &mut K,
+) -> Status
+    // Each status comes only for its cause, and what is written is what is expected.
+    ensures says { CommandSays (fetches_of F.held F.faults shelf.old shelf.new) (command_of command.entry) (sunk_of K.written K.faults out.old out.new) result }
+    // What is expected is answered where nothing outside fails, unless memory runs out.
+    ensures completes { CommandCompletes (fetches_of F.held F.faults shelf.old shelf.new) (command_of command.entry) (sunk_of K.written K.faults out.old out.new) result }
+{
+    files_are_one_thing();
+    match command {
+        Command::Run(files) => run(alloc, files, shelf, out),
+        Command::Compile(name) => compile(alloc, name, shelf, out),
+    }
+}

@@ -1,0 +1,16 @@
+//! What is expected of commands.
+ghost use Rattle.std.specs.Prelude.{◌≡◌, ℕ, List, Option, All, IsSome};
+ghost use Rattle.psm_files.specs.Expected.{Expected};
+ghost use Rattle.psm_files.specs.Given.{as_told};
+ghost use Rattle.psm_commands.specs.Command.{Command, files_of};
+ghost use Rattle.psm_commands.specs.Contract.{StatusFor};
+
+use psm_build::{files_are_one_thing, files_are_something};
+
+/// Where a shelf tells the files that a command reads, a status is expected of it.
+pub fn something_is_expected()
+    ensures { (held : List ℕ → Option (List ℕ)) (command : Command) → All (λ name. IsSome (held name)) (files_of command) → (expected : Expected) × StatusFor (as_told held) command expected }
+{
+    files_are_one_thing();
+    files_are_something();
+}
