@@ -26,6 +26,7 @@ module _ (asked : Asked) (sunk : Sunk) (answer : Status) where
     where
       misused : IsMisused asked (with_line status.Usage usage)
       misused = record { unnamed = none; none_failed = stays; expected_is = refl }
+
       by : PutsLine (with_line status.Usage usage) sunk answer → PsmSays asked sunk answer
       by (inl p) = inl (record { expected = with_line status.Usage usage; cause = inl misused; put = inl p })
       by (inr (inl p)) = inl (record { expected = with_line status.Usage usage; cause = inl misused; put = inr (inl p) })

@@ -1,5 +1,5 @@
 -- What is expected for what the shelf tells has the status that is answered.
-use Rattle.std.proofs.Common.{◌≡◌, ℕ, List, Option, Some, sym, ap, ◌∙◌, inl, inr}
+use Rattle.std.proofs.Common.{◌≡◌, ℕ, List, [], ◌∷◌, Option, Some, sym, ap, ◌∙◌, inl, inr}
 use Rattle.std.specs.Prelude.{◌⊎◌, All}
 use Rattle.std.proofs.lemmas.List.Elements.{All-head, All-tail}
 use Rattle.std.proofs.lemmas.Option.{same_Some}
@@ -80,9 +80,13 @@ module _ (modules : (ms : List ℕ) → Exclusive (IsModuleFile ms) (IsModuleFau
 
   -- ---- both
 
+  abbrev IsFetched : List ℕ → Type 0
+  IsFetched name = Stayed (fetches.before name) (fetches.after name)
+
   command_same : (command : Command) → AreFetched fetches command → (e d : Expected) → ForCommand (as_fetched fetches) command e → StatusFor (as_told fetches.held) command d → e.status ≡ d.status
-  command_same (Run f) fetched e d h k = run_same f (All-head _ _ fetched) (All-head _ _ (All-tail _ _ fetched)) e d h k
-  command_same (Compile name) fetched e d h k = compile_same name (All-head _ _ fetched) e d h k
+  command_same (Run f) fetched e d h k =
+      run_same f (All-head IsFetched f.for_module (f.for_script ∷ []) fetched) (All-head IsFetched f.for_script [] (All-tail IsFetched f.for_module (f.for_script ∷ []) fetched)) e d h k
+  command_same (Compile name) fetched e d h k = compile_same name (All-head IsFetched name [] fetched) e d h k
 
   pub command_completes : (command : Command) (sunk : Sunk) (answer : Status) → CommandSays fetches command sunk answer → CommandCompletes fetches command sunk answer
   command_completes command sunk answer says = λ fetched. says_completes (ForCommand (as_fetched fetches) command) (StatusFor (as_told fetches.held) command) sunk answer (command_same command fetched) says

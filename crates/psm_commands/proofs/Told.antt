@@ -1,5 +1,5 @@
 -- Where a shelf tells the files of a command, something is expected of it.
-use Rattle.std.proofs.Common.{◌≡◌, ℕ, ◌<◌, ◌≤◌, List, [], length, Option, Some, None, refl, inl, inr}
+use Rattle.std.proofs.Common.{◌≡◌, ℕ, ◌<◌, ◌≤◌, List, [], ◌∷◌, length, Option, Some, None, refl, inl, inr}
 use Rattle.std.specs.Prelude.{◌⊎◌, All, IsSome}
 use Rattle.std.proofs.lemmas.Bool.{cases_lt}
 use Rattle.std.proofs.lemmas.List.Elements.{All-head, All-tail}
@@ -26,6 +26,9 @@ abbrev Something : (Expected → Type 0) → Type 0
 Something Is = (expected : Expected) × Is expected
 
 module _ (held : List ℕ → Option (List ℕ)) where
+  abbrev IsTold : List ℕ → Type 0
+  IsTold name = IsSome (held name)
+
   some_bytes : (o : Option (List ℕ)) → IsSome o → (bytes : List ℕ) × (o ≡ Some bytes)
   some_bytes None h = absurd cc
   some_bytes (Some bytes) h = (bytes, refl)
@@ -40,7 +43,7 @@ module _ (held : List ℕ → Option (List ℕ)) where
       by bytes e (inr short) = let s = some bytes in (s.0, inr (inr (record { bytes = bytes; gives = e; short = short; for_bytes = s.1 })))
 
   refused : (w : Which) (IsFault : ℕ → ℕ → Fault → Type 0) (For : Expected → Type 0) → HasFault IsFault → Something (λ e. IsRefused (as_told held) w IsFault e ⊎ For e)
-  refused w IsFault For h = (with_refusal w h.0 h.1 h.2.0, inl (record { line = h.0; column = h.1; fault = h.2.0; is_fault = h.2.1; none_fails = tt; expected_is = refl }))
+  refused w IsFault For h = (with_refusal w h.0 h.1 h.2, inl (record { line = h.0; column = h.1; fault = h.2; is_fault = h.3; none_fails = tt; expected_is = refl }))
 
   module _ (modules : (ms : List ℕ) → Total (IsModuleFile ms) (IsModuleFault ms)) (scripts : (ms ss : List ℕ) → IsModuleFile ms → Total (IsScriptFile ms ss) (IsScriptFault ms ss))
       (sessions : (ms ss : List ℕ) (turns : ℕ) → IsScriptFile ms ss → (s : Session) × EndsIn ms ss turns s)
@@ -71,5 +74,5 @@ module _ (held : List ℕ → Option (List ℕ)) where
         by ms (inl is) = (record { status = Done; pieces = [] }, inr (is, refl))
 
     pub for_command : (command : Command) → All (λ name. IsSome (held name)) (files_of command) → Something (StatusFor (as_told held) command)
-    for_command (Run f) h = for_run f (All-head _ _ h) (All-head _ _ (All-tail _ _ h))
-    for_command (Compile name) h = for_compile name (All-head _ _ h)
+    for_command (Run f) h = for_run f (All-head IsTold f.for_module (f.for_script ∷ []) h) (All-head IsTold f.for_script [] (All-tail IsTold f.for_module (f.for_script ∷ []) h))
+    for_command (Compile name) h = for_compile name (All-head IsTold name [] h)

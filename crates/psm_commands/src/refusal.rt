@@ -13,12 +13,7 @@ use psm_io::Sink;
 use std::alloc::Global;
 
 /// Puts the line that says why the file of that name gives no code and no script.
-pub(crate) fn report<K: Sink>(
-    alloc: Global,
-    name: &str,
-    refusal: Refusal,
-    out: &mut K,
-) -> Status
+pub(crate) fn report<K: Sink>(alloc: Global, name: &str, refusal: Refusal, out: &mut K) -> Status
     ensures { Reports refusal name.now (sunk_of K.written K.faults out.old out.new) result }
 {
     match refusal {

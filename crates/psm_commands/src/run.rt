@@ -45,13 +45,7 @@ pub(crate) fn run<F: Shelf, K: Sink>(
 }
 
 // Runs the script over the code and empty tables, with n turns, and puts the piece of each command.
-fn play<K: Sink>(
-    alloc: Global,
-    code: &Code,
-    script: &ScriptCode,
-    turns: u64,
-    out: &mut K,
-) -> Status
+fn play<K: Sink>(alloc: Global, code: &Code, script: &ScriptCode, turns: u64, out: &mut K) -> Status
     requires { CanRun code.now script.now.commands }
     ensures { (s : Session) (following : ℕ → Seq Contents) → RunsAs code.now script.now.commands turns s following → Runs s (sunk_of K.written K.faults out.old out.new) result }
 {
