@@ -3,7 +3,8 @@
 
 In a document an example is a block `sql module`, maybe a block `sql script`, and a block `text output`. A line `--   ^` marks
 the place of the fault in the line above it. `sql script turns N` gives the turns. A module stands until the next one, and so does a script
-over it. In the tutorial each block is of these, or `sh` or `yaml`. PSM_PROGRAM names the program; else one `rt try` runs all.
+over it. A block `text listing` is what the module compiles to. In the tutorial each block is of these, or `sh` or `yaml`.
+PSM_PROGRAM names the program; else one `rt try` runs all.
 """
 import collections
 import os
@@ -17,9 +18,18 @@ sys.path.insert(0, f"{ROOT}/launcher")
 import folders  # noqa: E402
 import refusals  # noqa: E402
 
-PAGES = ("docs/tutorial.md", "docs/language.md", "docs/faults.md", "docs/testing-routines.md", "README.md")
+PAGES = (
+    "docs/tutorial.md",
+    "docs/language.md",
+    "docs/faults.md",
+    "docs/testing-routines.md",
+    "docs/formats.md",
+    "docs/machine.md",
+    "README.md",
+)
 TUTORIAL = PAGES[0]
-# Where it stands, the two texts, the turns, and what is told of a run with this status and output, if anything.
+# Where it stands, the two texts (no script where the module is compiled), the turns, and what is told of this status and output,
+# if anything.
 Case = collections.namedtuple("Case", "name module script turns judge")
 
 
@@ -70,7 +80,10 @@ def cases_of(page):
             marked = place_marked(module) or place_marked(script)
             found.append(Case(name, module, script, turns, judge_output(block.text, marked)))
             used = True
-        elif words[:2] == ["text", "output"] or (page == TUTORIAL and words[:1] not in (["sh"], ["yaml"])):
+        elif words[:2] == ["text", "listing"] and module is not None:
+            found.append(Case(name, module, None, None, judge_output(block.text, place_marked(module))))
+            used = True
+        elif words[:2] in (["text", "output"], ["text", "listing"]) or (page == TUTORIAL and words[:1] not in (["sh"], ["yaml"])):
             wrong.append(f"{name}: a block `{block.info}` is no part of an example")
     if not used:
         wrong.append(f"{page}: the last module or script has no output")
@@ -93,12 +106,19 @@ def cause(number, line):
     return Case(f".ci/causes.txt:{number}", text, "", None, judge)
 
 
+def judge_folder(differences, folder):
+    return lambda status, output: "\n".join(differences(folder, status, output)) or None
+
+
 def examples():
     found = []
     for folder in folders.cases_below(f"{ROOT}/examples"):
-        judge = lambda status, output, it=folder: "\n".join(folders.differences(it, status, output)) or None
-        texts = [folders.read(f"{folder}/{part}") for part in folders.PARTS]
-        found.append(Case(os.path.relpath(folder, ROOT), *texts, folders.turns_of(folder), judge))
+        name = os.path.relpath(folder, ROOT)
+        module, script = (folders.read(f"{folder}/{part}") for part in folders.PARTS)
+        found.append(Case(name, module, script, folders.turns_of(folder), judge_folder(folders.differences, folder)))
+        if folders.is_listed(folder):
+            judge = judge_folder(folders.listing_differences, folder)
+            found.append(Case(f"{name}/{folders.LISTING}", module, None, None, judge))
     return found
 
 
@@ -119,14 +139,15 @@ def all_cases():
 def run(cases):
     """Returns what is told of each case that is wrong."""
     with tempfile.TemporaryDirectory() as folder:
-        files = []
+        calls = []
         for number, case in enumerate(cases):
-            paths = [f"{folder}/{number}.{part}" for part in folders.PARTS]
-            for path, text in zip(paths, (case.module, case.script)):
+            module_file, script = (f"{folder}/{number}.{part}" for part in folders.PARTS)
+            for path, text in ((module_file, case.module), (script, case.script)):
                 with open(path, "w", encoding="utf-8", newline="") as it:
-                    it.write(text)
-            files.append((*paths, case.turns))
-        results = folders.run_all(files)
+                    it.write(text or "")
+            is_run = case.script is not None
+            calls.append(folders.to_run(module_file, script, case.turns) if is_run else folders.to_compile(module_file))
+        results = folders.run_all(calls)
     judged = [(case.name, case.judge(*result)) for case, result in zip(cases, results)]
     return [f"{name}: {told}" for name, told in judged if told]
 

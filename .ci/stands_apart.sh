@@ -52,9 +52,9 @@ forbid psm_session_simulation psm_tree psm_scope psm_machine psm_io
 forbid psm_build psm_undostore psm_verify_line psm_verify
 # shellcheck disable=SC2086
 {
-    # The program and its command know arguments, files, stores and statuses: no token, value or tree, and none of the crates of
+    # The program and its commands know arguments, files, stores and statuses: no token, value or tree, and none of the crates of
     # which a second checker, code generator or engine could be made.
-    for crate in psm psm_run; do
+    for crate in psm psm_commands; do
         forbid $crate psm_token psm_value psm_text psm_num psm_grammar psm_tree psm_resolved psm_machine $parsers
         forbid $crate psm_scope psm_rules psm_check_expr psm_symbols psm_check_stmt psm_check_script psm_resolve_expr psm_declare psm_resolve
         forbid $crate psm_codegen psm_verify_line psm_verify psm_exprcode psm_tablecode psm_store psm_query psm_dml psm_cursor psm_unwind psm_script_code

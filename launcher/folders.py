@@ -1,7 +1,8 @@
 """Runs folders with a module, a script and what is expected of them: python3 folders.py [--update] FOLDER..
 
-A folder holds module.sql, script.sql, expected.txt and maybe expected.status (0 where there is none) and turns. Of another
-folder all such folders below it are run. PSM_PROGRAM names the program; without it all are run by one `rt try`.
+A folder holds module.sql, script.sql, expected.txt and maybe expected.status (0 where there is none) and turns. Where it holds
+listing.txt, module.sql is compiled too. Of another folder all such folders below it are run. PSM_PROGRAM names the program;
+without it all are run by one `rt try`.
 """
 import concurrent.futures
 import difflib
@@ -13,6 +14,9 @@ import sys
 import unproved
 
 PARTS = ("module.sql", "script.sql")
+LISTING = "listing.txt"
+# The status of a module file that is refused, which `compile` has where `run` has it.
+REFUSED = 4
 
 
 def read(path, default=""):
@@ -42,65 +46,113 @@ def turns_of(folder):
     return read(f"{folder}/turns").strip()
 
 
-def run_one(program, case):
-    module_file, script, turns = case
-    words = [program, "run", module_file, script, *(["--turns", turns] if turns else [])]
-    ran = subprocess.run(words, stdin=subprocess.DEVNULL, stdout=subprocess.PIPE)
+def is_listed(folder):
+    return os.path.isfile(f"{folder}/{LISTING}")
+
+
+def to_run(module_file, script, turns):
+    """Returns the arguments that run a script over a module file."""
+    return ["run", module_file, script, *(["--turns", turns] if turns else [])]
+
+
+def to_compile(module_file):
+    """Returns the arguments that write the listing of a module file."""
+    return ["compile", module_file]
+
+
+def run_one(program, words):
+    ran = subprocess.run([program, *words], stdin=subprocess.DEVNULL, stdout=subprocess.PIPE)
     return ran.returncode, ran.stdout.decode("utf-8", errors="surrogateescape")
 
 
-def run_all(cases):
-    """Returns the status and the output of each case, of the named program or without a proof."""
+def run_all(calls):
+    """Returns the status and the output of each list of arguments, of the named program or without a proof."""
     program = os.environ.get("PSM_PROGRAM")
     if not program:
         unproved.say_how_long("running all")
-        return unproved.run_many(cases)
+        return unproved.run_many(calls)
     with concurrent.futures.ThreadPoolExecutor(os.cpu_count()) as pool:
-        return list(pool.map(lambda it: run_one(program, it), cases))
+        return list(pool.map(lambda it: run_one(program, it), calls))
+
+
+def results_of(folders):
+    """Returns of each folder what its script gives, and of those with a listing what their modules give, both by the folder."""
+    listed = [it for it in folders if is_listed(it)]
+    runs = [to_run(f"{it}/module.sql", f"{it}/script.sql", turns_of(it)) for it in folders]
+    results = run_all([*runs, *(to_compile(f"{it}/module.sql") for it in listed)])
+    return dict(zip(folders, results)), dict(zip(listed, results[len(folders) :]))
+
+
+def differences_in(path, output):
+    """Returns the lines of a diff of the file and the output."""
+    wanted, printed = (it.splitlines(keepends=True) for it in (read(path), output))
+    return [it.rstrip("\n") for it in difflib.unified_diff(wanted, printed, path, "printed")]
+
+
+def status_due(folder):
+    return int(read(f"{folder}/expected.status", "0").strip() or 0)
+
+
+def wrong_status(folder, command, status, due):
+    return [] if status == due else [f"{folder}: {command}exit status {status}, and {due} is expected"]
 
 
 def differences(folder, status, output):
     """Returns the lines that tell what differs from the folder's files, none where nothing does."""
-    wanted = read(f"{folder}/expected.txt").splitlines(keepends=True)
-    names = f"{folder}/expected.txt", "printed"
-    lines = [it.rstrip("\n") for it in difflib.unified_diff(wanted, output.splitlines(keepends=True), *names)]
-    due = int(read(f"{folder}/expected.status", "0").strip() or 0)
-    if status != due:
-        lines.append(f"{folder}: exit status {status}, and {due} is expected")
-    return lines
+    return differences_in(f"{folder}/expected.txt", output) + wrong_status(folder, "", status, status_due(folder))
+
+
+def listing_differences(folder, status, output):
+    """Returns the same of its listing. A module file that is refused has the line that says so in place of one."""
+    due = REFUSED if status_due(folder) == REFUSED else 0
+    return differences_in(f"{folder}/{LISTING}", output) + wrong_status(folder, "compile: ", status, due)
+
+
+def write_text(path, text):
+    with open(path, "w", encoding="utf-8", errors="surrogateescape", newline="") as it:
+        it.write(text)
 
 
 def write(folder, status, output):
     """Writes the folder's expected files, and returns whether one changed."""
     is_new = bool(differences(folder, status, output)) or not os.path.isfile(f"{folder}/expected.txt")
-    with open(f"{folder}/expected.txt", "w", encoding="utf-8", errors="surrogateescape", newline="") as it:
-        it.write(output)
+    write_text(f"{folder}/expected.txt", output)
     path = f"{folder}/expected.status"
     if status:
-        with open(path, "w", encoding="utf-8") as it:
-            it.write(f"{status}\n")
+        write_text(path, f"{status}\n")
     elif os.path.isfile(path):
         os.remove(path)
     return is_new
 
 
-def compare(folders, results):
+def write_listing(folder, status, output):
+    """Writes the folder's listing, and returns whether it changed."""
+    is_new = bool(listing_differences(folder, status, output))
+    write_text(f"{folder}/{LISTING}", output)
+    return is_new
+
+
+def compare(results, listings):
     """Prints what differs, and a count, and returns the status."""
     failed = 0
-    for folder, (status, output) in zip(folders, results):
-        told = differences(folder, status, output)
+    for folder, result in results.items():
+        told = differences(folder, *result)
+        if folder in listings:
+            told += listing_differences(folder, *listings[folder])
         failed += bool(told)
         for line in told:
             print(line.encode("utf-8", errors="replace").decode())
-    print(f"{len(folders) - failed} passed, {failed} differ")
+    print(f"{len(results) - failed} passed, {failed} differ")
     return 1 if failed else 0
 
 
-def update(folders, results):
-    changed = [it for it, (status, output) in zip(folders, results) if write(it, status, output)]
-    for folder in changed:
-        print(f"{folder}: written")
-    print(f"{len(changed)} written, {len(folders) - len(changed)} as before")
+def update(results, listings):
+    changed = {folder for folder, result in results.items() if write(folder, *result)}
+    changed |= {folder for folder, result in listings.items() if write_listing(folder, *result)}
+    for folder in results:
+        if folder in changed:
+            print(f"{folder}: written")
+    print(f"{len(changed)} written, {len(results) - len(changed)} as before")
     return 0
 
 
@@ -115,8 +167,7 @@ def main(words):
         told = f"{lacking[0]} is not there" if lacking else f"no module.sql in {' '.join(given)}"
         print(f"psm: {told}", file=sys.stderr)
         return 2
-    results = run_all([(f"{it}/module.sql", f"{it}/script.sql", turns_of(it)) for it in folders])
-    return (update if "--update" in words else compare)(folders, results)
+    return (update if "--update" in words else compare)(*results_of(folders))
 
 
 if __name__ == "__main__":

@@ -1,6 +1,6 @@
 """Explains a refusal: reads what the program printed, and tells the line with the place and how to mend it.
 
-python3 refusals.py MODULE_FILE SCRIPT <OUTPUT; all that is told goes to standard error.
+python3 refusals.py MODULE_FILE [SCRIPT] <OUTPUT; all that is told goes to standard error.
 """
 import re
 import sys
@@ -36,7 +36,7 @@ def help_for(fault, text, line, column):
     return fault, mends.TOKENS.get(fault, "")
 
 
-def explain(output, module_file, script):
+def explain(output, module_file, script=None):
     refused = REFUSED.search(output)
     if not refused:
         return
@@ -53,4 +53,4 @@ def explain(output, module_file, script):
 
 
 if __name__ == "__main__":
-    explain(sys.stdin.read(), sys.argv[1], sys.argv[2])
+    explain(sys.stdin.read(), *sys.argv[1:3])

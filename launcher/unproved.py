@@ -1,4 +1,7 @@
-"""Runs the program without a proof, by `rt try`: python3 unproved.py yes|no run M S [--turns N]; yes explains a refusal."""
+"""Runs the program without a proof, by `rt try`: python3 unproved.py yes|no ARGUMENTS, where yes explains a refusal.
+
+The arguments are those of the program: run M S [--turns N] or compile M.
+"""
 import os
 import re
 import subprocess
@@ -26,16 +29,16 @@ def say_how_long(what):
 def run(is_explained, words):
     """Runs the program once, prints what it prints, and returns its status."""
     say_how_long("running")
-    module_file, script = words[1:3]
-    given = ["--data", f"M={os.path.abspath(module_file)}", "--data", f"S={os.path.abspath(script)}"]
-    command = ["rt", "try", *given, "--", "run", "M", "S", *words[3:]]
+    files = dict(zip("MS", words[1:3]))
+    given = [it for name, file in files.items() for it in ("--data", f"{name}={os.path.abspath(file)}")]
+    command = ["rt", "try", *given, "--", words[0], *files, *words[3:]]
     how = {"stdin": subprocess.DEVNULL, "stdout": subprocess.PIPE, "stderr": subprocess.PIPE}
     ran = subprocess.run(command, cwd=FOLDER, **how)
     ended = ENDED.search(ran.stderr.decode(errors="replace"))
     text = ran.stdout
-    for name, file in ((b"M", module_file), (b"S", script)):
+    for name, file in files.items():
         # The one line that names a file is that of a file too long.
-        text = re.sub(rb"\A" + name + rb"(?= is longer than )", os.fsencode(file), text)
+        text = re.sub(rb"\A" + os.fsencode(name) + rb"(?= is longer than )", os.fsencode(file), text)
     sys.stdout.buffer.write(text)
     sys.stdout.flush()
     if not ended:
@@ -44,23 +47,23 @@ def run(is_explained, words):
         return FAILED
     status = int(ended[1])
     if is_explained and status in (4, 5):
-        refusals.explain(text.decode(errors="replace"), module_file, script)
+        refusals.explain(text.decode(errors="replace"), *files.values())
     return status
 
 
-def run_many(cases):
-    """Runs the program on each case, a list of words with files' names. Returns the list of (status, output), with None for a status that isn't known."""
+def run_many(calls):
+    """Runs the program with each of these lists of arguments, and returns the list of (status, output), with None for a status that isn't known."""
     with tempfile.TemporaryDirectory(prefix="psm-cases-") as folder:
         data = []
-        for number, (module_file, script, turns) in enumerate(cases):
+        for number, words in enumerate(calls):
+            files = {f"{letter}{number}": file for letter, file in zip("MS", words[1:3])}
             name = f"case{number:05}"
-            words = ["run", f"M{number}", f"S{number}", *(["--turns", turns] if turns else [])]
             with open(f"{folder}/{name}", "w", encoding="utf-8"):
                 pass
             with open(f"{folder}/{name}.args", "w", encoding="utf-8") as args:
-                args.writelines(f"{word}\n" for word in words)
-            data += ["--data", f"M{number}={os.path.abspath(module_file)}"]
-            data += ["--data", f"S{number}={os.path.abspath(script)}"]
+                args.writelines(f"{word}\n" for word in [words[0], *files, *words[3:]])
+            for it, file in files.items():
+                data += ["--data", f"{it}={os.path.abspath(file)}"]
         how = {"stdin": subprocess.DEVNULL, "stdout": subprocess.PIPE, "stderr": subprocess.PIPE}
         ran = subprocess.run(["rt", "try", *data, "--cases", folder], cwd=FOLDER, **how)
     said = ran.stderr.decode(errors="replace")
@@ -69,8 +72,8 @@ def run_many(cases):
         sys.stderr.write(said)
         say("rt try gave no answer")
         sys.exit(FAILED)
-    outputs = parted(ran.stdout.decode(errors="replace"), len(cases))
-    return [(statuses.get(f"case{it:05}"), outputs[it]) for it in range(len(cases))]
+    outputs = parted(ran.stdout.decode(errors="replace"), len(calls))
+    return [(statuses.get(f"case{it:05}"), outputs[it]) for it in range(len(calls))]
 
 
 def parted(text, count):

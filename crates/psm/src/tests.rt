@@ -12,6 +12,21 @@ const FIVE_SEVEN: &str = "CALL P ( 5 , 7 , ? ) ;\n";
 
 const THREE_LINES: &str = "1 CALL P\nB = 3\nC = NULL\nOK\n";
 
+const THREE_MODES_LISTING: &str = "PSM 1 0 1
+ROUTINE P 'P' 3 0 0 0 0 0 0 0 8 -
+PAR IN 'A' INTEGER
+PAR INOUT 'B' INTEGER
+PAR OUT 'C' INTEGER
+0 - - CLEAR
+0 7 - VAR 1
+0 7 N VAR 0
+0 7 NN SUB
+0 7 N CONST N 1
+0 7 NN ADD
+0 7 N STORE 1
+0 - - END
+";
+
 fn file(alloc: Global, name: &str, text: &str) -> Result<(String, Vec<u8>), Fail> {
     let bytes = Vec::from_slice(alloc, text.as_bytes())?;
     Ok((String::from_str(alloc, name)?, bytes))
@@ -52,6 +67,14 @@ fn a_module_and_a_script_print_their_lines(rt: HostRuntime) -> Result<(), Fail> 
 }
 
 #[test]
+fn a_module_alone_is_listed(rt: HostRuntime) -> Result<(), Fail> {
+    let (answer, text) = call(rt.alloc(), "compile M", THREE_MODES, "")?;
+    assert_eq!(rt; answer, Status::Done);
+    assert_eq!(rt; text.as_str(), THREE_MODES_LISTING);
+    Ok(())
+}
+
+#[test]
 fn the_words_tell_how_many_turns_there_are(rt: HostRuntime) -> Result<(), Fail> {
     let turning =
         "CREATE MODULE M PROCEDURE p (OUT s INTEGER) BEGIN DECLARE i INTEGER DEFAULT 0; SET s = 0; l: LOOP SET i = i + 1; IF i > 5 THEN LEAVE l; END IF; IF i = 3 THEN ITERATE l; END IF; SET s = s + i; END LOOP l; END; END MODULE";
@@ -79,7 +102,9 @@ fn other_words_show_the_usage(rt: HostRuntime) -> Result<(), Fail> {
         "run M",
         "run M S T",
         "RUN M S",
-        "compile M",
+        "compile",
+        "compile M S T",
+        "COMPILE M",
         "--help",
         "--version",
         "run M S --turns",
@@ -96,7 +121,7 @@ fn other_words_show_the_usage(rt: HostRuntime) -> Result<(), Fail> {
         assert_eq!(rt; answer, Status::Usage, "at {given}");
         assert_eq!(rt;
             text.as_str(),
-            "usage: psm run M S [--turns N]\n",
+            "usage: psm run M S [--turns N] | psm compile M\n",
             "at {given}"
         );
     }
