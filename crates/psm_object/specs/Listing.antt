@@ -44,13 +44,13 @@
 --     2 4 - DATA 0                           line 3: after a condition the run goes on at line 4
 --     2 - - ENDACT 0
 --     1 - - CLEAR
---     1 - - VAR 0
---     1 - N CONST N 1
+--     1 9 - VAR 0
+--     1 9 N CONST N 1
 --     1 9 NN DATA 1
 --     1 - - EXIT 1
 --     0 - - END
 --
--- The shortest code with a routine is that of a procedure without statements:
+-- The shortest code with a routine, to which no module file compiles, since a procedure has a statement:
 --
 --     PSM 1 0 1
 --     ROUTINE P 'P' 0 0 0 0 0 0 0 0 1 -
