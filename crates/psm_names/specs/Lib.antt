@@ -8,3 +8,5 @@ pub mod SimpleOccurrences
 pub mod StatementOccurrences
 pub mod StatementReferents
 pub mod FileOccurrences
+pub mod DeclaredNames
+pub mod DeclaredInFiles
