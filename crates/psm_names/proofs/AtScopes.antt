@@ -1,8 +1,6 @@
 -- Occurrences of names in some scopes, among which nothing is declared; and so are those of expressions and of simple statements.
-use Rattle.std.proofs.Common.{◌≡◌, ℕ, List, [], ◌∷◌, ◌++◌, length, map, Option, Some, None, option_map, refl, subst, sym}
+use Rattle.std.proofs.Common.{◌≡◌, List, [], ◌∷◌, ◌++◌, length, map, Option, Some, None, option_map, refl, subst, sym}
 use Rattle.psm_list.specs.Several.{Several, several_map}
-use Rattle.psm_value.specs.declared.sqltype.SqlType.{SqlType}
-use Rattle.psm_scope.specs.Lookup.{RowTable}
 use Rattle.psm_scope.specs.Routines.{procedure}
 use Rattle.psm_scope.specs.Scopes.{Spelling}
 use Rattle.psm_scope.specs.declared.procedures.ParameterMode.{ParameterMode}
@@ -12,6 +10,7 @@ use Rattle.psm_scope.specs.declared.procedures.ProcedureScope.{ProcedureScope}
 use Rattle.psm_rules.specs.CheckerScope.{Columns}
 use Rattle.psm_rules.specs.ExprFaults.{spelling}
 use Rattle.psm_rules.specs.StatementFaults.{several}
+use Rattle.psm_token.specs.declared.place.Place.{Place}
 use Rattle.psm_tree.specs.Names.{Names}
 use Rattle.psm_tree.specs.declared.name.Identifier.{Identifier}
 use Rattle.psm_tree.specs.declared.name.Target.{Target}
@@ -44,14 +43,14 @@ use Rattle.psm_tree.specs.declared.statement.Where.{Where}
 use Rattle.psm_tree.specs.declared.statement.Where.TheVariants as wheres
 use Rattle.psm_names.specs.Referents.{together, perhaps}
 use Rattle.psm_names.specs.Occurrences.{EnclosingScopes, Occurrence, NullLiteral, Name, EachColumn, Assigned, NoTarget, ColumnName, TableName, CursorName, Label, ConditionName, StateName, ProcedureName, FunctionName, Declared, Site}
-use Rattle.psm_names.specs.ExprOccurrences.{At, PickSeen, QuerySeen, Seen, OfRow, OfAll, at_any, at_each, at_several, chain_link_layer, chain_link_seen, columns_of, expr_layer, expr_occurrences, expr_seen, in_all, in_any, in_items, in_more, in_query, of_all, of_rows, on_row, pick_layer, pick_seen, query_occurrences, query_seen, select_layer, when_layer, when_seen}
+use Rattle.psm_names.specs.ExprOccurrences.{At, PickSeen, QuerySeen, Seen, OfRow, OfAll, at_each, at_several, chain_link_layer, chain_link_seen, columns_of, expr_layer, expr_seen, in_all, in_any, in_items, in_more, in_query, of_all, of_rows, on_row, pick_layer, pick_seen, query_seen, select_layer, when_layer, when_seen}
 use Rattle.psm_names.specs.Declaring.{optional_occurrences}
-use Rattle.psm_names.specs.SimpleOccurrences.{as_target, in_argument, in_arguments, in_call, in_columns, in_condition, in_diagnostics, in_exprs, in_number, in_row, in_rows, in_set, in_sets, in_signal, in_targets, in_where, simple_occurrences}
+use Rattle.psm_names.specs.SimpleOccurrences.{as_target, in_argument, in_arguments, in_call, in_columns, in_condition, in_diagnostics, in_exprs, in_number, in_row, in_rows, in_sets, in_signal, in_targets, in_where, simple_occurrences}
 use Rattle.psm_names.specs.StatementOccurrences.{in_value}
 
 -- ---- some occurrences
 
-abbrev AtScopes : EnclosingScopes → Occurrence → Type 0
+abbrev pub AtScopes : EnclosingScopes → Occurrence → Type 0
 AtScopes scopes NullLiteral = Unit {0}
 AtScopes scopes (Name t site) = site.scopes ≡ scopes
 AtScopes scopes (EachColumn columns) = Unit {0}
@@ -142,10 +141,6 @@ whens-at site (w ∷ ws) = at-both (w.1 site) (whens-at site ws)
 
 branches-at : (site : Site) (ws : Several W) → AllAt site.scopes (in_more (at_several site (several_map when_seen (several_map (λ e. e.0) ws))))
 branches-at site ws = at-both (ws.first.1 site) (whens-at site ws.rest)
-
-any-at : (site : Site) (e : Option E) → AllAt site.scopes (in_any (at_any site (option_map expr_seen (option_map (λ e. e.0) e))))
-any-at site None = at-none
-any-at site (Some e) = e.1 site
 
 abbrev bare : Expr-F E P L S W → Expr-F Expr Pick ChainLink Select When
 bare y = map-Expr E P L S W Expr Pick ChainLink Select When (λ e. e.0) (λ e. e.0) (λ e. e.0) (λ e. e.0) (λ e. e.0) y
@@ -258,15 +253,22 @@ bare_select y = map-Select E P L S W Expr Pick ChainLink Select When (λ e. e.0)
 abbrev seen_select : Select-F Expr Pick ChainLink Select When → At QuerySeen
 seen_select layer = select_layer (map-Select Expr Pick ChainLink Select When (At Seen) (At PickSeen) (At (Operator × Seen)) (At QuerySeen) (At Seen) expr_seen pick_seen chain_link_seen query_seen when_seen layer)
 
-test-at : (inside : Site) (e : Option E) → AllAt inside.scopes (in_any (at_any inside (option_map expr_seen (option_map (λ e. e.0) e))))
-test-at inside None = at-none
-test-at inside (Some e) = e.1 inside
+abbrev Fields : Place → Several P → Identifier → Option Identifier → Option E → Select-F E P L S W
+Fields place picks table alias condition = record { place = place; picks = picks; table = table; alias = alias; condition = condition }
 
-select-at : (y : Select-F E P L S W) (site : Site) → AllAt site.scopes (seen_select (bare_select y) site).occurrences
-select-at y site =
-    let inside : Site = on_row site y.table.name (spelling y.alias) in
-    query-at site.scopes (at_each inside (map pick_seen (map (λ e. e.0) (y.picks.first ∷ y.picks.rest)))) y.table.name (at_any inside (option_map expr_seen (option_map (λ e. e.0) y.condition)))
-    (picks-at inside (y.picks.first ∷ y.picks.rest)) (test-at inside y.condition)
+abbrev SelectAt : Select-F E P L S W → Site → Type 0
+SelectAt y site = AllAt site.scopes (seen_select (bare_select y) site).occurrences
+
+fields-at : (place : Place) (picks : Several P) (table : Identifier) (alias : Option Identifier) (condition : Option E) (site : Site) → SelectAt (Fields place picks table alias condition) site
+fields-at place picks table alias None site =
+    let inside : Site = on_row site table.name (spelling alias) in
+    query-at site.scopes (at_each inside (map pick_seen (map (λ e. e.0) (picks.first ∷ picks.rest)))) table.name None (picks-at inside (picks.first ∷ picks.rest)) at-none
+fields-at place picks table alias (Some test) site =
+    let inside : Site = on_row site table.name (spelling alias) in
+    query-at site.scopes (at_each inside (map pick_seen (map (λ e. e.0) (picks.first ∷ picks.rest)))) table.name (Some (expr_seen test.0 inside)) (picks-at inside (picks.first ∷ picks.rest)) (test.1 inside)
+
+select-at : (y : Select-F E P L S W) (site : Site) → SelectAt y site
+select-at y site = fields-at y.place y.picks y.table y.alias y.condition site
 
 select-step : (x : Select-F Expr Pick ChainLink Select When) (y : Select-F E P L S W) → bare_select y ≡ x → OfSelect (roll-Select x)
 select-step x y is site =

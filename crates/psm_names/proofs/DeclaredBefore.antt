@@ -1,5 +1,5 @@
 -- What a routine declares, and that what its names mean is declared before them: an induction over statements.
-use Rattle.std.proofs.Common.{◌≡◌, ℕ, suc, List, [], ◌∷◌, ◌++◌, length, map, Option, Some, None, refl, ap, sym, ◌∙◌, subst}
+use Rattle.std.proofs.Common.{◌≡◌, List, [], ◌∷◌, ◌++◌, map, Option, Some, None, refl, sym, subst}
 use Rattle.std.proofs.lemmas.List.{append-nil}
 use Rattle.psm_value.specs.declared.sqltype.SqlType.{SqlType}
 use Rattle.psm_scope.specs.Scopes.{Spelling, undeclared}
@@ -25,12 +25,12 @@ use Rattle.psm_tree.specs.declared.statement.Block.TheFolds.{ind-Statement, map-
 use Rattle.psm_resolve_expr.specs.Exprs.{type_known}
 use Rattle.psm_resolve.specs.OwnNumbers.{all_names, block_names_layer, branch_names_layer, condition_names, handler_names_layer, names_layer, own_conditions, own_conditions_of_block, own_conditions_of_branch, own_conditions_of_handler}
 use Rattle.psm_names.specs.Referents.{Cursor}
-use Rattle.psm_names.specs.Occurrences.{Declared, Occurrence, Site}
-use Rattle.psm_names.specs.ExprOccurrences.{expr_occurrences, query_occurrences}
+use Rattle.psm_names.specs.Occurrences.{Declared, Site}
+use Rattle.psm_names.specs.ExprOccurrences.{expr_occurrences}
 use Rattle.psm_names.specs.Declaring.{Item, Ordinals, Point, control, cursor_name, for_items, in_cursors, in_declarations, in_for, in_head, item_names, names_of, variables_from, with_cursor, with_cursors, with_declaration, with_declarations, with_for_cursor, with_item, with_items, with_variable, with_variables, one_variable}
 use Rattle.psm_names.specs.StatementOccurrences as places
 use Rattle.psm_names.specs.StatementOccurrences.{Part, all_of, begin, block_layer, block_occurrences, branch_layer, branch_occurrences, handler_layer, handler_occurrences, in_scopes, inside, parameter_names, routine_occurrences, statement_layer, statement_occurrences, with_parameters}
-use Rattle.psm_names.proofs.AtScopes.{AllAt, expr-all_at, handled-at, optional-at, query-all_at, simple-at}
+use Rattle.psm_names.proofs.AtScopes.{expr-all_at, handled-at, optional-at, query-all_at, simple-at}
 use Rattle.psm_names.proofs.Opening.{Opens, nothing-in, opens-at, opens-beside, opens-block, opens-close, opens-condition, opens-cursor, opens-from, opens-none, opens-own, opens-own_cursor, opens-then, opens-unnamed, opens-variable}
 
 -- ---- declarations

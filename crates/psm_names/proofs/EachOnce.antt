@@ -1,6 +1,5 @@
 -- The numbers in a resolved routine are those of its declarations, and what is declared before its names.
 use Rattle.std.proofs.Common.{◌≡◌, ℕ, suc, List, [], ◌∷◌, ◌++◌, length, map, Option, Some, None, refl, ap, sym, ◌∙◌, subst}
-use Rattle.std.proofs.lemmas.List.{append-nil}
 use Rattle.psm_value.specs.declared.sqltype.SqlType.{SqlType}
 use Rattle.psm_scope.specs.Scopes.{Spelling}
 use Rattle.psm_scope.specs.Lookup.{Meaning}
@@ -19,19 +18,17 @@ use Rattle.psm_tree.specs.declared.file.TableTree.{TableTree}
 use Rattle.psm_resolve.proofs.EachOwn.{own-conditions}
 use Rattle.psm_resolve.specs.Blocks.{resolve_statement}
 use Rattle.psm_resolve.specs.Files.{resolve_routine, routine_numbered}
-use Rattle.psm_resolve.specs.OwnNumbers.{CountsUp, own_conditions}
+use Rattle.psm_resolve.specs.OwnNumbers.{CountsUp}
 use Rattle.psm_names.specs.Referents.{Referent, Null, Column, Variable, Cursor, Condition, Block, Table, Procedure, Function, Declaration, together}
-use Rattle.psm_names.specs.Occurrences.{KnownVariable, Occurrence, NullLiteral, Name, EachColumn, Assigned, NoTarget, ColumnName, TableName, CursorName, Label, ConditionName, StateName, ProcedureName, FunctionName, Declared, Site, columns_from, looked_up, name_meaning, of_declared, of_meaning, referents}
-use Rattle.psm_names.specs.Declaring.{Ordinals, control}
+use Rattle.psm_names.specs.Occurrences.{KnownVariable, Occurrence, NullLiteral, Name, EachColumn, Assigned, NoTarget, ColumnName, TableName, CursorName, Label, ConditionName, StateName, ProcedureName, FunctionName, Declared, columns_from, looked_up, name_meaning, of_declared, of_meaning, referents}
+use Rattle.psm_names.specs.Declaring.{control}
 use Rattle.psm_names.specs.DeclaredNames.{AreDeclared, NumbersEachOnce, cursor_of, in_order, own_condition, slot_of}
 use Rattle.psm_names.specs.FileOccurrences.{in_checks, in_column_rule, in_element, in_table_rule, of_table}
 use Rattle.psm_names.specs.StatementOccurrences.{begin, routine_occurrences, statement_occurrences}
-use Rattle.psm_names.specs.StatementReferents.{routine_referents}
 use Rattle.psm_names.proofs.AtScopes.{AllAt, at-both, at-none, expr-all_at}
-use Rattle.psm_names.proofs.DeclaredBefore.{empty, routine-opens}
+use Rattle.psm_names.proofs.DeclaredBefore.{routine-opens}
 use Rattle.psm_names.proofs.Exprs.{together-append}
-use Rattle.psm_names.proofs.Found.{DeclaredIn}
-use Rattle.psm_names.proofs.Opening.{Opens, cursor_in, each-declared, nothing-in, slot_in}
+use Rattle.psm_names.proofs.Opening.{cursor_in, each-declared, nothing-in, slot_in}
 use Rattle.psm_names.proofs.Points.{ordinals}
 use Rattle.psm_names.proofs.Statements.{body-lists, routine-gives}
 

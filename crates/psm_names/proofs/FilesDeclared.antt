@@ -1,22 +1,21 @@
 -- The tables, columns, procedures and functions of a module file have the numbers that look-up gives for their names.
-use Rattle.std.proofs.Common.{◌≡◌, ℕ, zero, suc, Bool, true, false, not, ◌&&◌, ◌||◌, List, [], ◌∷◌, ◌++◌, length, map, Option, Some, None, is_some, refl, ap, sym, ◌∙◌, subst, if◌then◌else◌}
+use Rattle.std.proofs.Common.{◌≡◌, ◌+◌, ℕ, zero, suc, Bool, true, false, not, ◌||◌, List, [], ◌∷◌, ◌++◌, length, map, Option, Some, None, is_some, refl, ap, sym, ◌∙◌, subst, if◌then◌else◌, arith}
 use Rattle.std.specs.Prelude.{Result, Ok, Err, nat_eq, filter, slice_get, slice_index_or}
-use Rattle.std.specs.List.{list_all, list_any}
+use Rattle.std.specs.List.{list_any}
 use Rattle.std.specs.Cmp.Lexicographic.{pointwise, same_text}
 use Rattle.std.proofs.lemmas.Bool.{and_parts, eqb-true}
 use Rattle.std.proofs.lemmas.List.{append_assoc, append-nil}
 use Rattle.psm_value.specs.declared.sqltype.SqlType.{SqlType}
-use Rattle.psm_scope.specs.Choice.{Candidate, Signature, all_go, candidates, chosen, is_candidate, lowest, narrowed, narrowed_by, only, rank_in}
+use Rattle.psm_scope.specs.Choice.{Candidate, Signature, all_go, candidates, chosen, is_candidate, lowest, narrowed, narrowed_by, only}
 use Rattle.psm_scope.specs.Lookup.{named}
-use Rattle.psm_scope.specs.Routines.{Callable, function, is_header, procedure, with_result}
+use Rattle.psm_scope.specs.Routines.{function, is_header, procedure, with_result}
 use Rattle.psm_scope.specs.Scopes.{Spelling, is_spelled}
 use Rattle.psm_scope.specs.declared.fault.ChoiceFault.{ChoiceFault}
 use Rattle.psm_scope.specs.declared.kinds.ArgKind.{ArgKind}
 use Rattle.psm_scope.specs.declared.kinds.ArgKind.TheVariants as kinds
 use Rattle.psm_scope.specs.declared.procedures.ProcedureScope.{ProcedureScope}
-use Rattle.psm_rules.specs.BlockFaults.{declared_once}
 use Rattle.psm_rules.specs.CheckerScope.{Columns}
-use Rattle.psm_rules.specs.FileFaults.{column_names, columns_from, columns_of, file_fault, is_function, key_fault, keys_of, kinds_of, parameter_of, routines_fault, symbols_of, table_elements, table_fault, too_many, element_fault, alone}
+use Rattle.psm_rules.specs.FileFaults.{column_names, columns_from, columns_of, file_fault, key_fault, keys_of, kinds_of, parameter_of, routines_fault, symbols_of, table_elements, table_fault, too_many, element_fault, alone}
 use Rattle.psm_rules.proofs.Earliest.{first_of_cons}
 use Rattle.psm_rules.specs.Faults.{breaks_if, earlier, first_of}
 use Rattle.psm_rules.specs.StatementFaults.{repeated, repeated_from}
@@ -25,16 +24,14 @@ use Rattle.psm_rules.specs.declared.fault.Fault.{Fault}
 use Rattle.psm_rules.specs.declared.rule.Rule.{Rule}
 use Rattle.psm_rules.specs.declared.rule.Rule.TheVariants as rule
 use Rattle.psm_token.specs.declared.place.Place.{Place}
-use Rattle.psm_tree.specs.declared.name.Identifier.{Identifier}
 use Rattle.psm_tree.specs.declared.file.Element.{Element}
 use Rattle.psm_tree.specs.declared.file.Element.TheVariants as elements
 use Rattle.psm_tree.specs.declared.file.FileTree.{FileTree}
 use Rattle.psm_tree.specs.declared.file.Routine.{Routine}
 use Rattle.psm_tree.specs.declared.file.TableTree.{TableTree}
 use Rattle.psm_tree.specs.declared.types.DataType.{DataType}
-use Rattle.psm_resolve.specs.Files.{defined_from, key_of, next_place, resolve_table, resolved_file}
+use Rattle.psm_resolve.specs.Files.{defined_from, key_of, resolve_table, resolved_file}
 use Rattle.psm_resolve.specs.SymbolTables.{known_symbols}
-use Rattle.psm_names.specs.Referents.{together}
 use Rattle.psm_names.specs.FileOccurrences.{AreNew, before, functions_in, known_table, or_next, procedure_from, result_of, results_in, signature_of}
 use Rattle.psm_names.specs.DeclaredInFiles.{IsFunction, IsProcedure, NamesEachOnce, columns_declared, function_routines, procedures_in, resolved_names, table_declared, table_names}
 use Rattle.psm_names.proofs.Files.{functions-known, procedures-known, results-known, tables-known}
@@ -77,9 +74,10 @@ knows-more before m x xs h n = ap (λ b. is_spelled n m || b) (h n) ∙ sym (las
 tables-new : (seen : List Spelling) (known : List (Spelling × Columns)) (ts : List TableTree) → Knows seen known → first_of (repeated_from rule.TableRepeated seen (map (λ t. t.name) ts)) ≡ None → AreNew known ts
 tables-new seen known [] k none = tt
 tables-new seen known (t ∷ ts) k none =
-    let parts = none-first (breaks_if (list_any (is_spelled t.name.name) seen) rule.TableRepeated t.name.place) (repeated_from rule.TableRepeated (t.name.name ∷ seen) (map (λ t. t.name) ts)) none in
-    (sym (k t.name.name) ∙ unbroken (list_any (is_spelled t.name.name) seen) rule.TableRepeated t.name.place parts.0,
-    tables-new (t.name.name ∷ seen) (known ++ known_table t ∷ []) ts (knows-more seen t.name.name (columns_of (table_elements t)) known k) parts.1)
+    let parts = none-first (breaks_if (list_any (is_spelled t.name.name) seen) rule.TableRepeated t.name.place) (repeated_from rule.TableRepeated (t.name.name ∷ seen) (map (λ t. t.name) ts)) none in (
+      sym (k t.name.name) ∙ unbroken (list_any (is_spelled t.name.name) seen) rule.TableRepeated t.name.place parts.0,
+      tables-new (t.name.name ∷ seen) (known ++ known_table t ∷ []) ts (knows-more seen t.name.name (columns_of (table_elements t)) known k) parts.1,
+    )
 
 columns-new : (seen : List Spelling) (columns : Columns) (es : List Element) → Knows seen columns → first_of (repeated_from rule.ColumnRepeated seen (column_names es)) ≡ None → columns_from columns es ≡ columns ++ columns_declared es
 columns-new seen columns [] k none = sym (append-nil columns)
@@ -252,9 +250,11 @@ result-by r q rs k (Some t) e got h = by k (subst (λ l. slice_get l k ≡ Some 
   where
     is : function_routines (r ∷ rs) ≡ r ∷ function_routines rs
     is = ap (λ o. if is_some o then r ∷ function_routines rs else function_routines rs) e
+
     as_one : Option Routine → List (Option SqlType)
     as_one None = []
     as_one (Some x) = result_of x.returns
+
     by : (i : ℕ) → slice_get (r ∷ function_routines rs) i ≡ Some q → result_of q.returns ≡ slice_index_or (type_of t ∷ results_in rs) i None ∷ []
     by zero at = sym (ap as_one at) ∙ ap result_of e
     by (suc i) at = h i at

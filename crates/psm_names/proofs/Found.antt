@@ -1,19 +1,19 @@
 -- What look-up finds among names has the name, and what it finds in scopes is among what these declare.
-use Rattle.std.proofs.Common.{◌≡◌, ◌⊎◌, inl, inr, ℕ, suc, Bool, true, false, List, [], ◌∷◌, ◌++◌, length, Option, Some, None, option_map, is_some, refl, ap, sym, ◌∙◌, subst, if◌then◌else◌}
+use Rattle.std.proofs.Common.{◌≡◌, ◌+◌, ◌⊎◌, inl, inr, ℕ, suc, Bool, true, false, List, [], ◌∷◌, ◌++◌, length, Option, Some, None, option_map, is_some, refl, ap, sym, subst, if◌then◌else◌, arith}
 use Rattle.std.specs.Prelude.{Contains, slice_get}
 use Rattle.std.specs.Cmp.Lexicographic.{same_text}
-use Rattle.std.proofs.lemmas.List.Elements.{Contains-append_left, Contains-push}
+use Rattle.std.proofs.lemmas.List.Elements.{Contains-append_left}
 use Rattle.psm_value.specs.declared.sqltype.SqlType.{SqlType}
 use Rattle.psm_scope.specs.Scopes.{Spelling, Declared, Scope, Routine, Compound, Loop, For, Action, is_spelled, declared_in}
-use Rattle.psm_scope.specs.Lookup.{Meaning, RowTable, named, index_named, named_among, or_else, is_label, is_called, is_table, sees_past, variables_called, qualified, meant, as_column, as_variable, column_meant, variable}
+use Rattle.psm_scope.specs.Lookup.{RowTable, named, index_named, named_among, or_else, is_label, is_called, is_table, sees_past, variables_called, meant, as_column, as_variable, column_meant, variable}
 use Rattle.psm_scope.specs.Lookup as lookup
-use Rattle.psm_scope.specs.KeptScopes.{declared_here, labelled, level, redeclared}
+use Rattle.psm_scope.specs.KeptScopes.{declared_here, level, redeclared}
 use Rattle.psm_rules.specs.BlockFaults.{declared_once, last_name}
 use Rattle.psm_rules.specs.ExprFaults.{spelling}
 use Rattle.psm_tree.specs.declared.name.Identifier.{Identifier}
 use Rattle.psm_tree.specs.declared.name.Target.{Target}
 use Rattle.psm_resolved.specs.declared.statement.ResolvedCondition.{ResolvedCondition}
-use Rattle.psm_names.specs.Referents.{Referent, Null, Variable, Cursor, Condition, Block}
+use Rattle.psm_names.specs.Referents.{Null, Variable, Cursor, Condition, Block}
 use Rattle.psm_names.specs.Occurrences as occurring
 use Rattle.psm_names.specs.Occurrences.{EnclosingScopes, KnownVariable, Occurrence, name_meaning}
 use Rattle.psm_names.specs.DeclaredNames.{IsBlock, IsCondition, IsCursor, IsMeant, IsNamed, IsVariable}

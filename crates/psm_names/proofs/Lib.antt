@@ -13,3 +13,4 @@ pub mod Opening
 pub mod DeclaredBefore
 pub mod EachOnce
 pub mod FilesDeclared
+pub mod Held

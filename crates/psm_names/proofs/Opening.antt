@@ -1,23 +1,21 @@
 -- From one point of a routine to another: the numbers of what is declared between them, and what the scopes there hold.
-use Rattle.std.proofs.Common.{◌≡◌, inl, inr, ℕ, suc, List, [], ◌∷◌, ◌++◌, length, map, Option, Some, None, refl, ap, sym, ◌∙◌, subst}
+use Rattle.std.proofs.Common.{◌≡◌, ◌+◌, inl, inr, ℕ, suc, List, [], ◌∷◌, ◌++◌, length, map, Option, Some, None, refl, ap, sym, ◌∙◌, subst, arith}
 use Rattle.std.specs.Prelude.{Contains}
 use Rattle.std.proofs.lemmas.List.{append_assoc, append-nil}
 use Rattle.std.proofs.lemmas.List.Elements.{Contains-push}
 use Rattle.psm_value.specs.declared.sqltype.SqlType.{SqlType}
 use Rattle.psm_scope.specs.Scopes.{Spelling, Scope, declared_in, undeclared}
-use Rattle.psm_scope.specs.Scopes as scope
 use Rattle.psm_scope.specs.KeptScopes.{declared_here}
-use Rattle.psm_rules.specs.BlockFaults.{declared_once}
 use Rattle.psm_rules.specs.CheckerScope.{SymbolTable}
 use Rattle.psm_rules.specs.StatementFaults.{good_state}
 use Rattle.psm_tree.specs.declared.types.State.{State}
 use Rattle.psm_resolved.specs.declared.statement.ResolvedCondition.{ResolvedCondition}
 use Rattle.psm_resolved.specs.declared.statement.ResolvedCondition.TheVariants as conditions
 use Rattle.psm_resolve.specs.OwnNumbers.{CountsUp, with_own_name}
-use Rattle.psm_names.specs.Referents.{Referent, Null, Column, Variable, Cursor, Condition, Block, Table, Procedure, Function, Declaration, together}
-use Rattle.psm_names.specs.Occurrences.{EnclosingScopes, KnownVariable, Occurrence, NullLiteral, Name, EachColumn, Assigned, NoTarget, ColumnName, TableName, CursorName, Label, ConditionName, StateName, ProcedureName, FunctionName, Declared, name_meaning}
+use Rattle.psm_names.specs.Referents.{Null, Variable, Cursor, Condition, Block, together}
+use Rattle.psm_names.specs.Occurrences.{EnclosingScopes, KnownVariable, Occurrence, NullLiteral, Name, EachColumn, Assigned, NoTarget, ColumnName, TableName, CursorName, Label, ConditionName, StateName, ProcedureName, FunctionName, Declared}
 use Rattle.psm_names.specs.Declaring.{Ordinals, Point, as_state, condition_declared, naming_condition, stated, with_condition, with_cursor, with_variable, one_variable, one_cursor}
-use Rattle.psm_names.specs.DeclaredNames.{AreDeclared, IsDeclared, IsMeant, IsVariable, IsCursor, IsBlock, IsCondition, in_order, own_condition}
+use Rattle.psm_names.specs.DeclaredNames.{AreDeclared, IsDeclared, in_order, own_condition}
 use Rattle.psm_names.proofs.Found.{AsCondition, AsCursor, AsVariable, DeclaredIn, LabelIn, ScopesIn, block-is, condition-is, cursor-is, each-once, index-named, more-scopes, name-is, redeclared-in, target-is}
 use Rattle.psm_names.proofs.AtScopes.{AllAt, AtScopes, EachAt}
 use Rattle.psm_names.proofs.Exprs.{together-append}
@@ -43,7 +41,7 @@ order-append k (n ∷ a) b =
     ap (λ l. (Some n, k) ∷ l) (order-append (suc k) a b ∙ ap (λ m. in_order (suc k) a ++ in_order m b) e)
 
 long-append : (a b : List Spelling) → length (a ++ b) ≡ length a + length b
-long-append [] b = refl
+long-append [] b = omega arith
 long-append (n ∷ a) b = let e = long-append a b in omega (arith, e)
 
 -- ---- an occurrence at some scopes

@@ -1,6 +1,6 @@
 -- Which table, column, procedure or function of a module file a name means: the one of that name whose number look-up gives, in the
 -- order of the source.
-use Rattle.std.specs.Prelude.{◌≡◌, ℕ, Bool, true, not, List, [], ◌∷◌, filter, length, map, slice_get, Option, Some, None, Result, Ok, Err}
+use Rattle.std.specs.Prelude.{◌≡◌, ℕ, true, not, List, [], ◌∷◌, filter, length, map, slice_get, Option, Some, None, Result, Ok, Err}
 use Rattle.psm_value.specs.declared.sqltype.SqlType.{SqlType}
 use Rattle.psm_scope.specs.Choice.{all_go}
 use Rattle.psm_scope.specs.Scopes.{Spelling}

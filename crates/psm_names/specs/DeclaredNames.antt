@@ -1,21 +1,27 @@
 -- Which declaration a name of a routine means: what look-up finds is declared before the name occurs, by that name; and each variable,
 -- cursor and condition without an SQLSTATE has a number that no other one has (ISO/IEC 9075-4:1996, compound statement).
-use Rattle.std.specs.Prelude.{◌≡◌, ◌⊎◌, ℕ, suc, List, [], ◌∷◌, ◌++◌, length, map, slice_get, Contains, Option, Some, None}
+use Rattle.std.specs.Prelude.{◌≡◌, ◌⊎◌, ℕ, suc, List, [], ◌∷◌, ◌++◌, length, drop, map, slice_get, Contains, Option, Some, None, option_map, if◌then◌else◌}
 use Rattle.psm_value.specs.declared.sqltype.SqlType.{SqlType}
-use Rattle.psm_scope.specs.Scopes.{Spelling}
-use Rattle.psm_scope.specs.Lookup.{Meaning, RowTable, meant, index_named}
+use Rattle.psm_scope.specs.Scopes.{Spelling, is_spelled}
+use Rattle.psm_scope.specs.Lookup.{Meaning, RowTable, meant, index_named, named, or_else}
 use Rattle.psm_scope.specs.Lookup as lookup
-use Rattle.psm_scope.specs.KeptScopes.{level}
-use Rattle.psm_rules.specs.CheckerScope.{Columns, SymbolTable}
+use Rattle.psm_scope.specs.KeptScopes.{declared_here, level}
+use Rattle.psm_rules.specs.CheckerScope.{SymbolTable}
 use Rattle.psm_rules.specs.BlockFaults.{last_name}
 use Rattle.psm_rules.specs.ExprFaults.{spelling}
+use Rattle.psm_tree.specs.declared.file.Routine.{Routine}
+use Rattle.psm_tree.specs.declared.statement.CursorDeclaration.{CursorDeclaration}
+use Rattle.psm_tree.specs.declared.statement.Declaration.{Declaration as DeclarationTree}
+use Rattle.psm_tree.specs.declared.statement.ForHead.{ForHead}
 use Rattle.psm_resolve.specs.OwnNumbers.{CountsUp}
 use Rattle.psm_resolved.specs.declared.file.ResolvedRoutine.{ResolvedRoutine}
 use Rattle.psm_resolved.specs.declared.statement.ResolvedCondition.{ResolvedCondition}
 use Rattle.psm_resolved.specs.declared.statement.ResolvedCondition.TheVariants as conditions
 use Rattle.psm_names.specs.Referents.{Referent, Null, Variable, Cursor, Condition, Block, Declaration, together}
-use Rattle.psm_names.specs.Occurrences.{KnownVariable, Occurrence, Name, Assigned, ColumnName, TableName, CursorName, Label, ConditionName, NullLiteral, EachColumn, NoTarget, StateName, ProcedureName, FunctionName, Declared, name_meaning}
+use Rattle.psm_names.specs.Occurrences.{EnclosingScopes, KnownVariable, Occurrence, Name, Assigned, ColumnName, TableName, CursorName, Label, ConditionName, NullLiteral, EachColumn, NoTarget, StateName, ProcedureName, FunctionName, Declared, Site, name_meaning}
 use Rattle.psm_names.specs.ExprOccurrences.{row_columns}
+use Rattle.psm_names.specs.Declaring.{Ordinals, Point, in_cursors, in_declarations, in_for, in_head, variables_from, with_cursors, with_declarations}
+use Rattle.psm_names.specs.StatementOccurrences.{begin, parameter_names}
 use Rattle.psm_names.specs.StatementReferents.{routine_referents}
 
 -- ---- numbers
@@ -95,3 +101,42 @@ IsDeclared symbols before (Declared name r) = Unit {0}
 abbrev pub AreDeclared : SymbolTable → List Occurrence → List Occurrence → Type 0
 AreDeclared symbols before [] = Unit {0}
 AreDeclared symbols before (o ∷ os) = IsDeclared symbols before o × AreDeclared symbols (before ++ o ∷ []) os
+
+-- ---- what a scope declares: of each name, the first declaration there
+
+-- the first answer
+abbrev pub first_in : {A : Type 0} → (Occurrence → Option A) → List Occurrence → Option A
+first_in f [] = None
+first_in f (o ∷ os) = or_else (f o) (first_in f os)
+
+abbrev pub variable_named : Spelling → Occurrence → Option ℕ
+variable_named n (Declared (Some m) (Variable k)) = if is_spelled n m then Some k else None
+variable_named n o = None
+
+abbrev pub cursor_named : Spelling → Occurrence → Option ℕ
+cursor_named n (Declared (Some m) (Cursor k)) = if is_spelled n m then Some k else None
+cursor_named n o = None
+
+-- one FOR a text that is no SQLSTATE of a condition is in no accepted file
+abbrev pub condition_named : Spelling → Occurrence → Option ResolvedCondition
+condition_named n (Declared (Some m) (Condition c)) = if is_spelled n m then Some c else None
+condition_named n (Declared (Some m) Null) = if is_spelled n m then Some (conditions.Own 0) else None
+condition_named n o = None
+
+-- the innermost scope declares what is declared among the occurrences, and the others are those around
+pub record Holds (scopes : EnclosingScopes) (os : List Occurrence) (around : EnclosingScopes) : Type 0 where
+  pub variables : (n : Spelling) → option_map (λ v. v.ordinal) (named n (declared_here scopes).variables) ≡ first_in (variable_named n) os
+  pub conditions : (n : Spelling) → named n (declared_here scopes).conditions ≡ first_in (condition_named n) os
+  pub cursors : (n : Spelling) → named n (declared_here scopes).cursors ≡ first_in (cursor_named n) os
+  pub others : drop 1 scopes ≡ around
+
+-- a compound statement from the point where its scope is open and empty, a FOR statement, and a routine
+abbrev pub CompoundHolds : SymbolTable → Point → List DeclarationTree → List CursorDeclaration → EnclosingScopes → Type 0
+CompoundHolds symbols opened xs cursors around = let declared = with_declarations opened xs in
+    Holds (with_cursors declared cursors).0 (in_declarations symbols opened xs ++ in_cursors symbols declared cursors) around
+
+abbrev pub ForHolds : Option Spelling → Site → ForHead → Ordinals → Type 0
+ForHolds label site head n = Holds (in_for site label head n).0 (in_head site head n) site.scopes
+
+abbrev pub RoutineHolds : Routine → Type 0
+RoutineHolds r = Holds (begin r).0 (variables_from 0 (parameter_names r.parameters)) []

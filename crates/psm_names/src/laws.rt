@@ -1,8 +1,8 @@
 //! The laws of name resolution.
-ghost use Rattle.std.specs.Prelude.{◌≡◌, ℕ, [], List, None, map};
+ghost use Rattle.std.specs.Prelude.{◌≡◌, ℕ, [], ◌∷◌, List, None, Option, map};
 ghost use Rattle.psm_scope.specs.declared.kinds.ArgKind.{ArgKind};
 ghost use Rattle.psm_scope.specs.Routines.{function, procedure};
-ghost use Rattle.psm_scope.specs.Scopes.{Spelling};
+ghost use Rattle.psm_scope.specs.Scopes.{Compound, Spelling, undeclared};
 ghost use Rattle.psm_rules.specs.CheckerScope.{SymbolTable};
 ghost use Rattle.psm_rules.specs.FileFaults.{file_fault, no_symbols};
 ghost use Rattle.psm_tree.specs.declared.expr.Expr.{Expr};
@@ -10,17 +10,21 @@ ghost use Rattle.psm_tree.specs.declared.expr.Select.{Select};
 ghost use Rattle.psm_tree.specs.declared.file.FileTree.{FileTree};
 ghost use Rattle.psm_tree.specs.declared.file.Routine.{Routine};
 ghost use Rattle.psm_tree.specs.declared.file.TableTree.{TableTree};
+ghost use Rattle.psm_tree.specs.declared.statement.CursorDeclaration.{CursorDeclaration};
+ghost use Rattle.psm_tree.specs.declared.statement.Declaration.{Declaration};
+ghost use Rattle.psm_tree.specs.declared.statement.ForHead.{ForHead};
 ghost use Rattle.psm_resolve_expr.specs.Exprs.{resolve_expr, resolve_query};
 ghost use Rattle.psm_resolve_expr.specs.ResolverScope.{ResolverScope};
 ghost use Rattle.psm_resolve.specs.Files.{resolve_routine, resolved_file};
 ghost use Rattle.psm_resolve.specs.SymbolTables.{known_symbols};
 ghost use Rattle.psm_names.specs.DeclaredInFiles.{IsFunction, IsProcedure, NamesEachOnce, resolved_names, table_declared, table_names};
-ghost use Rattle.psm_names.specs.DeclaredNames.{AreDeclared, NumbersEachOnce, in_order, own_condition};
-ghost use Rattle.psm_names.specs.Occurrences.{looked_up};
+ghost use Rattle.psm_names.specs.DeclaredNames.{AreDeclared, CompoundHolds, ForHolds, NumbersEachOnce, RoutineHolds, in_order, own_condition};
+ghost use Rattle.psm_names.specs.Occurrences.{EnclosingScopes, Site, looked_up};
 ghost use Rattle.psm_names.specs.Referents.{together};
 ghost use Rattle.psm_names.specs.ExprOccurrences.{expr_occurrences, query_occurrences};
 ghost use Rattle.psm_names.specs.ExprReferents.{expr_referents, query_referents};
 ghost use Rattle.psm_names.specs.FileOccurrences.{AreNew, functions_in, in_checks, known_table, of_checks, procedure_from, results_in};
+ghost use Rattle.psm_names.specs.Declaring.{Ordinals};
 ghost use Rattle.psm_names.specs.Sites.{site_of};
 ghost use Rattle.psm_names.specs.StatementOccurrences.{routine_occurrences};
 ghost use Rattle.psm_names.specs.StatementReferents.{routine_referents};
@@ -63,6 +67,15 @@ pub fn each_number_is_of_one_declaration()
 pub fn names_mean_declarations_before_them()
     ensures routines { (symbols : SymbolTable) (r : Routine) → AreDeclared symbols [] (routine_occurrences symbols r) }
     ensures checks { (t : TableTree) → AreDeclared no_symbols [] (in_checks t) }
+{}
+
+/// The scope of a compound statement, wherever it stands, has of each name the first declaration in the statement; so it is with the
+/// variables and the cursor of a FOR statement and with the parameters of a routine. The scopes around stay. So of two declarations of
+/// one name look-up finds the one in whose scope the name stands, the innermost first.
+pub fn scopes_hold_what_is_declared()
+    ensures compound_statements { (symbols : SymbolTable) (label : Option Spelling) (scopes : EnclosingScopes) (n : Ordinals) (xs : List Declaration) (cursors : List CursorDeclaration) → CompoundHolds symbols (Compound label undeclared ∷ scopes, n) xs cursors scopes }
+    ensures for_statements { (label : Option Spelling) (site : Site) (head : ForHead) (n : Ordinals) → ForHolds label site head n }
+    ensures routines { (r : Routine) → RoutineHolds r }
 {}
 
 /// The tables, columns, procedures and functions with the numbers that look-up gives are those of the name, in the order of the source.
