@@ -43,16 +43,16 @@ neither None g none = (refl, none)
 neither (Some f) None none = absurd cc
 neither (Some f) (Some g) none = absurd cc
 
-none-first : (f : Option Fault) (fs : List (Option Fault)) → first_of (f ∷ fs) ≡ None → (f ≡ None) × (first_of fs ≡ None)
+pub none-first : (f : Option Fault) (fs : List (Option Fault)) → first_of (f ∷ fs) ≡ None → (f ≡ None) × (first_of fs ≡ None)
 none-first f fs none = neither f (first_of fs) (sym (first_of_cons f fs) ∙ none)
 
-unbroken : (b : Bool) (rule : Rule) (place : Place) → breaks_if b rule place ≡ None → b ≡ false
+pub unbroken : (b : Bool) (rule : Rule) (place : Place) → breaks_if b rule place ≡ None → b ≡ false
 unbroken true rule place none = absurd cc
 unbroken false rule place none = refl
 
 -- ---- names of which none stands twice
 
-abbrev Knows : {A : Type 0} → List Spelling → List (Spelling × A) → Type 0
+abbrev pub Knows : {A : Type 0} → List Spelling → List (Spelling × A) → Type 0
 Knows before xs = (n : Spelling) → list_any (is_spelled n) before ≡ is_some (named n xs)
 
 some-by : {A : Type 0} (x y : A) (b c : Bool) (o q : Option A) → is_some o ≡ c || is_some q → is_some (if b then Some y else o) ≡ c || is_some (if b then Some y else q)
@@ -68,7 +68,7 @@ last-named : {A : Type 0} (n m : Spelling) (x : A) (xs : List (Spelling × A)) �
 last-named n m x [] = last-by x (is_spelled n m)
 last-named n m x (p ∷ xs) = some-by x p.1 (is_spelled n p.0) (is_spelled n m) (named n (xs ++ (m, x) ∷ [])) (named n xs) (last-named n m x xs)
 
-knows-more : {A : Type 0} (before : List Spelling) (m : Spelling) (x : A) (xs : List (Spelling × A)) → Knows before xs → Knows (m ∷ before) (xs ++ (m, x) ∷ [])
+pub knows-more : {A : Type 0} (before : List Spelling) (m : Spelling) (x : A) (xs : List (Spelling × A)) → Knows before xs → Knows (m ∷ before) (xs ++ (m, x) ∷ [])
 knows-more before m x xs h n = ap (λ b. is_spelled n m || b) (h n) ∙ sym (last-named n m x xs)
 
 tables-new : (seen : List Spelling) (known : List (Spelling × Columns)) (ts : List TableTree) → Knows seen known → first_of (repeated_from rule.TableRepeated seen (map (λ t. t.name) ts)) ≡ None → AreNew known ts
@@ -89,11 +89,13 @@ columns-new seen columns (elements.Column name kind default rules ∷ es) k none
     ∙ append_assoc columns ((name.name, type_of kind) ∷ []) (columns_declared es)
 columns-new seen columns (elements.Rule r ∷ es) k none = columns-new seen columns es k none
 
-table-columns : (t : TableTree) → table_fault t ≡ None → columns_of (table_elements t) ≡ columns_declared (table_elements t)
-table-columns t none =
+pub no-repeat : (t : TableTree) → table_fault t ≡ None → first_of (repeated_from rule.ColumnRepeated [] (column_names (table_elements t))) ≡ None
+no-repeat t none =
     let es : List Element = table_elements t in
-    let parts = none-first (repeated rule.ColumnRepeated (column_names es)) (too_many (slice_get (column_names es) 100) ∷ key_fault t.name (keys_of es) ∷ map (element_fault (alone t.name.name (columns_of es)) (columns_of es)) es) none in
-    columns-new [] [] es (λ n. refl) parts.0
+    (none-first (repeated rule.ColumnRepeated (column_names es)) (too_many (slice_get (column_names es) 100) ∷ key_fault t.name (keys_of es) ∷ map (element_fault (alone t.name.name (columns_of es)) (columns_of es)) es) none).0
+
+pub table-columns : (t : TableTree) → table_fault t ≡ None → columns_of (table_elements t) ≡ columns_declared (table_elements t)
+table-columns t none = columns-new [] [] (table_elements t) (λ n. refl) (no-repeat t none)
 
 each-table : {B : Type 0} (g : Columns → TableTree → B) (ts : List TableTree) → first_of (map table_fault ts) ≡ None → map (λ t. g (columns_of (table_elements t)) t) ts ≡ map (λ t. g (columns_declared (table_elements t)) t) ts
 each-table g [] none = refl
@@ -124,7 +126,7 @@ defined-names key place [] = refl
 defined-names key place (elements.Column name kind default rules ∷ es) = ap (λ l. name.name ∷ l) (defined-names key (suc place) es)
 defined-names key place (elements.Rule r ∷ es) = defined-names key place es
 
-each-same : {A B C : Type 0} (g : B → C) (f : A → B) (h : A → C) → ((x : A) → g (f x) ≡ h x) → (xs : List A) → map g (map f xs) ≡ map h xs
+pub each-same : {A B C : Type 0} (g : B → C) (f : A → B) (h : A → C) → ((x : A) → g (f x) ≡ h x) → (xs : List A) → map g (map f xs) ≡ map h xs
 each-same g f h same [] = refl
 each-same g f h same (x ∷ xs) = ap (λ y. y ∷ map g (map f xs)) (same x) ∙ ap (λ l. h x ∷ l) (each-same g f h same xs)
 

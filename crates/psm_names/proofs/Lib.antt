@@ -14,3 +14,4 @@ pub mod DeclaredBefore
 pub mod EachOnce
 pub mod FilesDeclared
 pub mod Held
+pub mod Keys

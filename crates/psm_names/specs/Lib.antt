@@ -10,3 +10,4 @@ pub mod StatementReferents
 pub mod FileOccurrences
 pub mod DeclaredNames
 pub mod DeclaredInFiles
+pub mod KeyOccurrences
