@@ -7,3 +7,11 @@ pub mod ReferentsOfStatements
 pub mod Simples
 pub mod Statements
 pub mod Files
+pub mod Found
+pub mod AtScopes
+pub mod Opening
+pub mod DeclaredBefore
+pub mod EachOnce
+pub mod FilesDeclared
+pub mod Held
+pub mod Keys

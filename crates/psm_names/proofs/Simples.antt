@@ -121,7 +121,7 @@ rows-give : (s : ResolverScope) (rows : List Values) → Gives s.symbols (togeth
 rows-give s [] = gives-none
 rows-give s (row ∷ rows) = gives-both (exprs-give s (several row.values)) (rows-give s rows)
 
-columns-give : (symbols : SymbolTable) (columns : Columns) (ns : List Identifier) → Gives symbols (map (λ i. Column i) (map (column_of columns) ns)) (map (λ n. ColumnName n.name columns) ns)
+pub columns-give : (symbols : SymbolTable) (columns : Columns) (ns : List Identifier) → Gives symbols (map (λ i. Column i) (map (column_of columns) ns)) (map (λ n. ColumnName n.name columns) ns)
 columns-give symbols columns [] = gives-none
 columns-give symbols columns (n ∷ ns) = gives-one (column-is symbols columns n) (columns-give symbols columns ns)
 

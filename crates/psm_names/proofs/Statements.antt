@@ -1,11 +1,12 @@
 -- The referents of a resolved statement are those that look-up gives for its occurrences: an induction over statements.
-use Rattle.std.proofs.Common.{◌≡◌, ℕ, suc, Bool, List, [], ◌∷◌, ◌++◌, length, map, Option, None, refl, ap, sym, ◌∙◌, subst}
+use Rattle.std.proofs.Common.{◌≡◌, ℕ, suc, Bool, List, [], ◌∷◌, ◌++◌, length, map, Option, Some, None, refl, ap, sym, ◌∙◌, subst}
 use Rattle.psm_scope.specs.Scopes.{Spelling, undeclared}
 use Rattle.psm_scope.specs.Scopes as scope
 use Rattle.psm_scope.specs.Lookup as lookup
-use Rattle.psm_rules.specs.StatementFaults.{label_name, several}
+use Rattle.psm_rules.specs.StatementFaults.{good_state, label_name, several}
 use Rattle.psm_rules.specs.CheckerScope.{SymbolTable}
 use Rattle.psm_tree.specs.declared.name.Identifier.{Identifier}
+use Rattle.psm_tree.specs.declared.file.Parameter.{Parameter}
 use Rattle.psm_tree.specs.declared.file.Routine.{Routine}
 use Rattle.psm_tree.specs.declared.statement.Block.{Block, roll-Block}
 use Rattle.psm_tree.specs.declared.statement.Branch.{Branch, roll-Branch}
@@ -18,6 +19,7 @@ use Rattle.psm_tree.specs.declared.statement.HandlerValue.{HandlerValue}
 use Rattle.psm_tree.specs.declared.statement.HandlerValue.TheVariants as handled
 use Rattle.psm_tree.specs.declared.statement.OrderedQuery.{OrderedQuery}
 use Rattle.psm_tree.specs.declared.statement.Statement.{Statement, roll-Statement}
+use Rattle.psm_tree.specs.declared.types.State.{State}
 use Rattle.psm_tree.specs.declared.statement.Block.TheOpen.{Statement-F, Block-F, Branch-F, Handler-F}
 use Rattle.psm_tree.specs.declared.statement.Block.TheOpen as layers
 use Rattle.psm_tree.specs.declared.statement.Block.TheFolds.{ind-Statement, map-Block, map-Statement, map-Branch, map-Handler, fold-roll-Block, fold-roll-Statement, fold-roll-Branch, fold-roll-Handler}
@@ -33,16 +35,16 @@ use Rattle.psm_declare.specs.Numbering.{Numbering, next_slot}
 use Rattle.psm_declare.specs.Declarations.{Numbered, cursors_of, declarations_of, is_downward, numbered_after, numbered_by, numbered_cursor, numbered_cursors, opened, ordered, ordered_query, slots_from}
 use Rattle.psm_resolve.specs.Blocks as resolving
 use Rattle.psm_resolve.specs.Blocks.{ForItem, all, block_layer, branch_layer, for_items, handler_layer, head_of, in_scopes, in_loop, inside, item_slots, numbered_head, resolve_block, resolve_branch, resolve_handler, resolve_statement, statement_layer, value_for, value_of}
-use Rattle.psm_resolve.specs.Files.{resolve_routine, routine_numbered}
+use Rattle.psm_resolve.specs.Files.{resolve_parameter, resolve_routine, routine_numbered}
 use Rattle.psm_resolve.specs.Statements.{declared_as}
 use Rattle.psm_names.specs.Referents.{Referent, Condition, Block as BlockReferent, Declaration as DeclarationOf, together}
-use Rattle.psm_names.specs.Occurrences.{Occurrence, Site, looked_up}
+use Rattle.psm_names.specs.Occurrences.{Declared, Occurrence, Site, looked_up, of_declared}
 use Rattle.psm_names.specs.ExprOccurrences.{expr_occurrences, query_occurrences}
 use Rattle.psm_names.specs.ExprReferents.{query_referents}
-use Rattle.psm_names.specs.Declaring.{Ordinals, Point, control, in_cursors, in_declarations, in_for, in_head, optional_occurrences, variables_from, with_cursors, with_declarations}
+use Rattle.psm_names.specs.Declaring.{Ordinals, Point, control, in_cursors, in_declarations, in_for, in_head, condition_declared, item_names, names_of, optional_occurrences, stated, variables_from, with_cursors, with_declarations}
 use Rattle.psm_names.specs.StatementOccurrences as places
-use Rattle.psm_names.specs.StatementOccurrences.{Listing, all_of, begin, begun, block_occurrences, branch_occurrences, declaring, followed, handler_occurrences, in_value, only, routine_occurrences, statement_occurrences}
-use Rattle.psm_names.specs.StatementReferents.{branch_referents, handler_referents, of_cursor, of_declaration, of_head, declaring_slots, of_value, routine_referents, statement_referents}
+use Rattle.psm_names.specs.StatementOccurrences.{Listing, all_of, begin, begun, block_occurrences, branch_occurrences, declaring, followed, handler_occurrences, in_value, only, parameter_names, routine_occurrences, statement_occurrences}
+use Rattle.psm_names.specs.StatementReferents.{branch_referents, handler_referents, of_cursor, of_declaration, of_head, declaring_slots, of_value, routine_referents, slots_from as counted_from, statement_referents}
 use Rattle.psm_names.specs.Sites.{known, site_of}
 use Rattle.psm_names.proofs.Knowing.{levels-known}
 use Rattle.psm_names.proofs.LookedUp.{Gives, gives-as, gives-both, gives-none, gives-one}
@@ -71,21 +73,33 @@ lists-then {symbols} {x} {y} {n} {m} {k} f g h j =
     record { gives = gives-both h.gives j'.gives; after = j'.after }
 
 -- a block begins
-lists-begun : {x : List Referent} {n m : Ordinals} (s : ResolverScope) (f : Listing) → Lists s.symbols x m (f n) → Lists s.symbols (DeclarationOf (BlockReferent (length s.scopes)) ∷ x) m (followed (begun (site_of s)) f n)
-lists-begun s f h = record { gives = gives-one (ap (λ k. DeclarationOf (BlockReferent k) ∷ []) (sym (levels-known s.scopes))) h.gives; after = h.after }
+lists-begun : {x : List Referent} {n m : Ordinals} (label : Option Spelling) (s : ResolverScope) (f : Listing) → Lists s.symbols x m (f n) → Lists s.symbols (DeclarationOf (BlockReferent (length s.scopes)) ∷ x) m (followed (begun label (site_of s)) f n)
+lists-begun label s f h = record { gives = gives-one (ap (λ k. DeclarationOf (BlockReferent k) ∷ []) (sym (levels-known s.scopes))) h.gives; after = h.after }
 
 -- ---- declarations
 
-slots-give : (symbols : SymbolTable) (k : ℕ) (ns : List Identifier) → Gives symbols (declaring_slots (slots_from k ns)) (variables_from k ns)
+slots-give : (symbols : SymbolTable) (k : ℕ) (ns : List Identifier) → Gives symbols (declaring_slots (slots_from k ns)) (variables_from k (names_of ns))
 slots-give symbols k [] = gives-none
 slots-give symbols k (n ∷ ns) = gives-one refl (slots-give symbols (suc k) ns)
 
-items-give : (symbols : SymbolTable) (k : ℕ) (is : List ForItem) → Gives symbols (declaring_slots (item_slots k is)) (variables_from k is)
+items-give : (symbols : SymbolTable) (k : ℕ) (is : List ForItem) → Gives symbols (declaring_slots (item_slots k is)) (variables_from k (item_names is))
 items-give symbols k [] = gives-none
 items-give symbols k (i ∷ is) = gives-one refl (items-give symbols (suc k) is)
 
 abbrev at_control : SymbolTable → Scopes → ResolverScope
 at_control symbols scopes = record { symbols = symbols; scopes = scopes; row = None }
+
+-- no declaration of a condition is kept
+stated-kept : (s : Option Spelling) → of_declared (stated s) ≡ []
+stated-kept None = refl
+stated-kept (Some s) = refl
+
+condition-kept : (k : ℕ) (state : Option State) → of_declared (condition_declared k state) ≡ []
+condition-kept k None = refl
+condition-kept k (Some s) = stated-kept (good_state s.text)
+
+gives-kept : {symbols : SymbolTable} {name : Option Spelling} {r : Referent} {x : List Referent} {os : List Occurrence} → of_declared r ≡ [] → Gives symbols x os → Gives symbols x (Declared name r ∷ os)
+gives-kept {symbols} {name} {r} {x} {os} e h = record { is = h.is ∙ ap (λ l. l ++ looked_up symbols os) (sym e) }
 
 declarations-give : (symbols : SymbolTable) (numbered : Numbered) (xs : List Declaration) → Gives symbols (together (map of_declaration (declarations_of symbols numbered xs))) (in_declarations symbols (point numbered) xs)
 declarations-give symbols numbered [] = gives-none
@@ -95,9 +109,10 @@ declarations-give symbols numbered (declarations.Variables place names kind defa
     (declaration-point numbered (declarations.Variables place names kind default))
     (declarations-give symbols (numbered_after numbered (declarations.Variables place names kind default)) xs))
 declarations-give symbols numbered (declarations.Condition place name state ∷ xs) =
-    subst (λ p. Gives symbols (together (map of_declaration (declarations_of symbols (numbered_after numbered (declarations.Condition place name state)) xs))) (in_declarations symbols p xs))
+    gives-kept (condition-kept (ordinals numbered.1).conditions state)
+    (subst (λ p. Gives symbols (together (map of_declaration (declarations_of symbols (numbered_after numbered (declarations.Condition place name state)) xs))) (in_declarations symbols p xs))
     (declaration-point numbered (declarations.Condition place name state))
-    (declarations-give symbols (numbered_after numbered (declarations.Condition place name state)) xs)
+    (declarations-give symbols (numbered_after numbered (declarations.Condition place name state)) xs))
 
 -- ---- cursors: an order leaves no name
 
@@ -119,7 +134,7 @@ head-gives : (s : ResolverScope) (head : ForHead) (n : Numbering) → Gives s.sy
 head-gives s head n =
     gives-one refl
     (gives-both (ordered-gives s head.query)
-    (subst (λ is. Gives s.symbols (declaring_slots (item_slots (next_slot n) (for_items s head.query.query))) (variables_from (next_slot n) is)) (items-same s head.query.query) (items-give s.symbols (next_slot n) (for_items s head.query.query))))
+    (subst (λ is. Gives s.symbols (declaring_slots (item_slots (next_slot n) (for_items s head.query.query))) (variables_from (next_slot n) (item_names is))) (items-same s head.query.query) (items-give s.symbols (next_slot n) (for_items s head.query.query))))
 
 declaring-lists : (s : ResolverScope) (numbered : Numbered) (xs : List Declaration) (cursors : List CursorDeclaration) →
     let declared = numbered_by numbered xs in
@@ -271,7 +286,7 @@ compound-claim xs cursors handlers statements label s n =
     let is : point numbered ≡ after = cursors-point declared cursors ∙ ap (λ p. with_cursors p cursors) (declarations-point before xs) in
     let own : Listing = declaring (site_of s) (point before) xs cursors in
     let rest : Point → Listing = λ p. followed (all_of (where_it_is s p) (handling handlers)) (all_of (where_it_is s p) (steps statements)) in
-    lists-begun {n = ordinals n} s (followed own (rest after))
+    lists-begun {n = ordinals n} label s (followed own (rest after))
     (lists-then {n = ordinals n} own (rest after) (declaring-lists s before xs cursors)
     (subst (λ p. Lists s.symbols (together (map handler_referents hs.0) ++ together (map statement_referents ss.0)) (ordinals ss.1) (rest p (ordinals numbered.1))) is
     (lists-then (all_of (site_of within) (handling handlers)) (all_of (site_of within) (steps statements)) (handlers-list within handlers numbered.1) (statements-list within statements hs.1))))
@@ -280,17 +295,17 @@ block-claim : (y : Block-F B S P H) (label : Option Spelling) (s : ResolverScope
 block-claim (layers.Compound place atomic xs cursors handlers statements) label s n = lists-as (standing-Compound _ _ ∙ ap (λ l. DeclarationOf (BlockReferent (length s.scopes)) ∷ l) (standing-block _)) (compound-claim xs cursors handlers statements label s n)
 block-claim (layers.Loop place statements) label s n =
     let ys : List S = statements.first ∷ statements.rest in
-    lists-as (standing-Loop _ _) (lists-begun s (all_of (site_of (in_loop label s)) (steps ys)) (statements-list (in_loop label s) ys n))
+    lists-as (standing-Loop _ _) (lists-begun label s (all_of (site_of (in_loop label s)) (steps ys)) (statements-list (in_loop label s) ys n))
 block-claim (layers.While place test statements) label s n =
     let ys : List S = statements.first ∷ statements.rest in
     let rest : Listing = all_of (site_of (in_loop label s)) (steps ys) in
-    lists-as (standing-While _ _ _) (lists-begun s (followed (only (expr_occurrences test (site_of s))) rest) (lists-then (only (expr_occurrences test (site_of s))) rest (lists-only (ordinals n) (expr-gives test s)) (statements-list (in_loop label s) ys n)))
+    lists-as (standing-While _ _ _) (lists-begun label s (followed (only (expr_occurrences test (site_of s))) rest) (lists-then (only (expr_occurrences test (site_of s))) rest (lists-only (ordinals n) (expr-gives test s)) (statements-list (in_loop label s) ys n)))
 block-claim (layers.Repeat place statements until) label s n =
     let ys : List S = statements.first ∷ statements.rest in
     let first : Listing = all_of (site_of (in_loop label s)) (steps ys) in
     let last : Listing = only (expr_occurrences until (site_of s)) in
     let m : Numbering = (all (in_loop label s) (map resolve_statement (map (λ y. y.0) ys)) n).1 in
-    lists-as (standing-Repeat _ _ _) (lists-begun s (followed first last) (lists-then first last (statements-list (in_loop label s) ys n) (lists-only (ordinals m) (expr-gives until s))))
+    lists-as (standing-Repeat _ _ _) (lists-begun label s (followed first last) (lists-then first last (statements-list (in_loop label s) ys n) (lists-only (ordinals m) (expr-gives until s))))
 block-claim (layers.For place head statements) label s n =
     let ys : List S = statements.first ∷ statements.rest in
     let numbered : Numbered = numbered_head s label head n in
@@ -301,7 +316,7 @@ block-claim (layers.For place head statements) label s n =
     let own : Listing = λ m. (in_head (site_of s) head m, after.1) in
     let rest : Point → Listing = λ p. all_of (where_it_is s p) (steps ys) in
     lists-as (standing-For _ _ _)
-    (lists-begun {n = ordinals n} s (followed own (rest after))
+    (lists-begun {n = ordinals n} label s (followed own (rest after))
     (lists-then {n = ordinals n} own (rest after) (record { gives = head-gives s head n; after = ap (λ p. p.1) is })
     (subst (λ p. Lists s.symbols (together (map statement_referents ss.0)) (ordinals ss.1) (rest p (ordinals numbered.1))) is (statements-list within ys numbered.1))))
 
@@ -350,8 +365,19 @@ statement-lists = ind-Statement OfBlock OfStatement OfBranch OfHandler block-ste
 
 -- ---- routines
 
-pub routine-gives : (symbols : SymbolTable) (r : Routine) → routine_referents (resolve_routine symbols r) ≡ looked_up symbols (routine_occurrences symbols r)
-routine-gives symbols r =
+parameters-give : (symbols : SymbolTable) (k : ℕ) (ps : List Parameter) → Gives symbols (declaring_slots (counted_from k (map resolve_parameter ps))) (variables_from k (parameter_names ps))
+parameters-give symbols k [] = gives-none
+parameters-give symbols k (p ∷ ps) = gives-one refl (parameters-give symbols (suc k) ps)
+
+-- the body, and what is numbered after it
+pub body-lists : (symbols : SymbolTable) (r : Routine) →
+    let numbered = routine_numbered r in
+    let resolved = resolve_statement r.body (record { symbols = symbols; scopes = numbered.0; row = None }) numbered.1 in
+    Lists symbols (statement_referents resolved.0) (ordinals resolved.1) (statement_occurrences r.body (control symbols (begin r).0) (begin r).1)
+body-lists symbols r =
     let s : ResolverScope = at_control symbols (routine_numbered r).0 in
-    let x : List Referent = statement_referents (resolve_statement r.body s (routine_numbered r).1).0 in
-    subst (λ p. x ≡ looked_up symbols (statement_occurrences r.body (control symbols p.0) p.1).0) (begin-point r) (statement-lists r.body s (routine_numbered r).1).gives.is
+    let body = resolve_statement r.body s (routine_numbered r).1 in
+    subst (λ p. Lists symbols (statement_referents body.0) (ordinals body.1) (statement_occurrences r.body (control symbols p.0) p.1)) (begin-point r) (statement-lists r.body s (routine_numbered r).1)
+
+pub routine-gives : (symbols : SymbolTable) (r : Routine) → routine_referents (resolve_routine symbols r) ≡ looked_up symbols (routine_occurrences symbols r)
+routine-gives symbols r = (gives-both (parameters-give symbols 0 r.parameters) (body-lists symbols r).gives).is

@@ -32,7 +32,7 @@ use Rattle.psm_tree.specs.declared.statement.ForCursor.{ForCursor}
 use Rattle.psm_tree.specs.declared.statement.ForHead.{ForHead}
 use Rattle.psm_resolved.specs.declared.statement.ResolvedCondition.{ResolvedCondition}
 use Rattle.psm_resolved.specs.declared.statement.ResolvedCondition.TheVariants as conditions
-use Rattle.psm_names.specs.Referents.{Variable, Cursor, perhaps}
+use Rattle.psm_names.specs.Referents.{Referent, Null, Variable, Cursor, Condition, perhaps}
 use Rattle.psm_names.specs.Occurrences.{EnclosingScopes, KnownVariable, Occurrence, Declared, Site}
 use Rattle.psm_names.specs.ExprOccurrences.{expr_occurrences, expr_seen, on_row, query_occurrences, row_of}
 
@@ -98,17 +98,29 @@ abbrev pub with_declarations : Point → List Declaration → Point
 with_declarations p [] = p
 with_declarations p (x ∷ xs) = with_declarations (with_declaration p x) xs
 
--- so many variables, counted from k
-abbrev pub variables_from : {A : Type 0} → ℕ → List A → List Occurrence
+-- variables with these names, counted from k
+abbrev pub variables_from : ℕ → List (Option Spelling) → List Occurrence
 variables_from k [] = []
-variables_from k (x ∷ xs) = Declared (Variable k) ∷ variables_from (suc k) xs
+variables_from k (n ∷ ns) = Declared n (Variable k) ∷ variables_from (suc k) ns
+
+abbrev pub names_of : List Identifier → List (Option Spelling)
+names_of ns = map (λ n. Some n.name) ns
+
+-- what is declared as a condition; a text that is no SQLSTATE of a condition is nothing
+abbrev pub stated : Option Spelling → Referent
+stated None = Null
+stated (Some s) = Condition (conditions.State s)
+
+abbrev pub condition_declared : ℕ → Option State → Referent
+condition_declared k None = Condition (conditions.Own k)
+condition_declared k (Some s) = stated (good_state s.text)
 
 abbrev pub optional_occurrences : Site → Option Expr → List Occurrence
 optional_occurrences site e = perhaps (option_map (λ e. expr_occurrences e site) e)
 
 abbrev pub in_declaration : SymbolTable → Point → Declaration → List Occurrence
-in_declaration symbols p (declarations.Variables place names kind default) = variables_from p.1.variables (several names) ++ optional_occurrences (control symbols p.0) default
-in_declaration symbols p (declarations.Condition place name state) = []
+in_declaration symbols p (declarations.Variables place names kind default) = variables_from p.1.variables (names_of (several names)) ++ optional_occurrences (control symbols p.0) default
+in_declaration symbols p (declarations.Condition place name state) = Declared (Some name.name) (condition_declared p.1.conditions state) ∷ []
 
 abbrev pub in_declarations : SymbolTable → Point → List Declaration → List Occurrence
 in_declarations symbols p [] = []
@@ -122,7 +134,7 @@ with_cursors p (x ∷ xs) = with_cursors (with_cursor p x.name.name) xs
 
 abbrev pub in_cursors : SymbolTable → Point → List CursorDeclaration → List Occurrence
 in_cursors symbols p [] = []
-in_cursors symbols p (x ∷ xs) = Declared (Cursor p.1.cursors) ∷ (query_occurrences x.query.query (control symbols p.0) ++ in_cursors symbols (with_cursor p x.name.name) xs)
+in_cursors symbols p (x ∷ xs) = Declared (Some x.name.name) (Cursor p.1.cursors) ∷ (query_occurrences x.query.query (control symbols p.0) ++ in_cursors symbols (with_cursor p x.name.name) xs)
 
 -- ---- FOR: each item of its query declares a variable, and each column of `*` one. An item has its own name, or that of the column
 -- that it is. It has the type of the column, or else NUMERIC(18, s) or VARCHAR(4000).
@@ -185,5 +197,12 @@ with_for_cursor p (Some cursor) = with_cursor p cursor.name.name
 abbrev pub in_for : Site → Option Spelling → ForHead → Ordinals → Point
 in_for site label head n = with_items (with_for_cursor (For label head.name.name undeclared ∷ site.scopes, n) head.cursor) (for_items site head.query.query)
 
+abbrev pub cursor_name : Option ForCursor → Option Spelling
+cursor_name None = None
+cursor_name (Some cursor) = Some cursor.name.name
+
+abbrev pub item_names : List Item → List (Option Spelling)
+item_names is = map (λ i. i.0) is
+
 abbrev pub in_head : Site → ForHead → Ordinals → List Occurrence
-in_head site head n = Declared (Cursor n.cursors) ∷ (query_occurrences head.query.query site ++ variables_from n.variables (for_items site head.query.query))
+in_head site head n = Declared (cursor_name head.cursor) (Cursor n.cursors) ∷ (query_occurrences head.query.query site ++ variables_from n.variables (item_names (for_items site head.query.query)))

@@ -8,3 +8,6 @@ pub mod SimpleOccurrences
 pub mod StatementOccurrences
 pub mod StatementReferents
 pub mod FileOccurrences
+pub mod DeclaredNames
+pub mod DeclaredInFiles
+pub mod KeyOccurrences

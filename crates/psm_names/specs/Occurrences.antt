@@ -62,8 +62,8 @@ pub data Occurrence : Type 0 where
   ProcedureName : Spelling → ℕ → Occurrence
   -- a call of a function, with the kinds of its arguments
   FunctionName : Spelling → List ArgKind → Occurrence
-  -- what is declared there, or a block that begins there
-  Declared : Referent → Occurrence
+  -- what is declared there, or a block that begins there, and its name; an item of a FOR statement, its cursor and a block may have none
+  Declared : Option Spelling → Referent → Occurrence
 
 -- ---- what look-up gives; where it gives nothing, in no accepted file, NULL or the number 0 stands for it
 
@@ -110,6 +110,12 @@ abbrev pub columns_from : ℕ → Columns → List Referent
 columns_from i [] = []
 columns_from i (c ∷ columns) = Column i ∷ columns_from (suc i) columns
 
+-- no declaration of a condition is kept
+abbrev pub of_declared : Referent → List Referent
+of_declared Null = []
+of_declared (Condition c) = []
+of_declared r = Declaration r ∷ []
+
 abbrev pub referents : SymbolTable → Occurrence → List Referent
 referents symbols NullLiteral = Null ∷ []
 referents symbols (Name t site) = of_meaning (name_meaning t site.scopes site.row) ∷ []
@@ -124,7 +130,7 @@ referents symbols (ConditionName n scopes) = Condition (or_first (lookup.conditi
 referents symbols (StateName s) = Condition (state_or_success (good_state s.text)) ∷ []
 referents symbols (ProcedureName n count) = Procedure (procedure_number (procedure n count symbols.procedures)) ∷ []
 referents symbols (FunctionName n kinds) = Function (function_number (function symbols.functions n kinds)) ∷ []
-referents symbols (Declared r) = Declaration r ∷ []
+referents symbols (Declared name r) = of_declared r
 
 abbrev pub looked_up : SymbolTable → List Occurrence → List Referent
 looked_up symbols [] = []

@@ -1,5 +1,5 @@
 -- The occurrences of names and of declarations in a statement and in a routine, in the order of the source (ISO/IEC 9075-4:1996).
-use Rattle.std.specs.Prelude.{ℕ, List, [], ◌∷◌, ◌++◌, length, map, Option}
+use Rattle.std.specs.Prelude.{ℕ, List, [], ◌∷◌, ◌++◌, length, map, Option, Some}
 use Rattle.psm_scope.specs.Scopes.{Spelling, Scope, Compound, Loop, Action, undeclared}
 use Rattle.psm_scope.specs.Scopes as scope
 use Rattle.psm_rules.specs.CheckerScope.{SymbolTable}
@@ -25,7 +25,7 @@ use Rattle.psm_names.specs.Referents as referents
 use Rattle.psm_names.specs.Referents.{together}
 use Rattle.psm_names.specs.Occurrences.{EnclosingScopes, KnownVariable, Occurrence, Declared, ConditionName, StateName, Site}
 use Rattle.psm_names.specs.ExprOccurrences.{expr_occurrences}
-use Rattle.psm_names.specs.Declaring.{Ordinals, Point, control, in_cursors, in_declarations, in_for, in_head, optional_occurrences, with_cursors, with_declarations, with_variable}
+use Rattle.psm_names.specs.Declaring.{Ordinals, Point, control, in_cursors, in_declarations, in_for, in_head, optional_occurrences, variables_from, with_cursors, with_declarations, with_variable}
 use Rattle.psm_names.specs.SimpleOccurrences.{simple_occurrences}
 
 -- occurrences where so much is declared before, and what is declared before what comes after them
@@ -56,11 +56,11 @@ abbrev pub inside : Site → Scope KnownVariable ResolvedCondition ℕ → Site
 inside site f = in_scopes site (f ∷ site.scopes)
 
 -- a block, which LEAVE and ITERATE know by its level
-abbrev pub begun : Site → Listing
-begun site = only (Declared (referents.Block (length site.scopes)) ∷ [])
+abbrev pub begun : Option Spelling → Site → Listing
+begun label site = only (Declared label (referents.Block (length site.scopes)) ∷ [])
 
-abbrev pub looping : Site → Listing → Listing
-looping site listing = followed (begun site) listing
+abbrev pub looping : Option Spelling → Site → Listing → Listing
+looping label site listing = followed (begun label site) listing
 
 -- a compound statement: what it declares is seen in its handlers and statements
 abbrev pub declaring : Site → Point → List Declaration → List CursorDeclaration → Listing
@@ -71,18 +71,18 @@ abbrev pub compound : Option Spelling → Site → List Declaration → List Cur
 compound label site xs cursors handlers statements n =
     let opened : Point = (Compound label undeclared ∷ site.scopes, n) in
     let within = in_scopes site (with_cursors (with_declarations opened xs) cursors).0 in
-    followed (begun site) (followed (declaring site opened xs cursors) (followed (all_of within handlers) (all_of within statements))) n
+    followed (begun label site) (followed (declaring site opened xs cursors) (followed (all_of within handlers) (all_of within statements))) n
 
 abbrev pub for_loop : Option Spelling → Site → ForHead → List Part → Listing
 for_loop label site head statements n =
     let point = in_for site label head n in
-    followed (begun site) (followed (λ n. (in_head site head n, point.1)) (all_of (in_scopes site point.0) statements)) n
+    followed (begun label site) (followed (λ n. (in_head site head n, point.1)) (all_of (in_scopes site point.0) statements)) n
 
 abbrev pub block_layer : Block-F BlockPart Part Part Part → BlockPart
 block_layer (layers.Compound place atomic xs cursors handlers statements) label site = compound label site xs cursors handlers statements
-block_layer (layers.Loop place statements) label site = looping site (all_of (inside site (Loop label)) (several statements))
-block_layer (layers.While place test statements) label site = looping site (followed (only (expr_occurrences test site)) (all_of (inside site (Loop label)) (several statements)))
-block_layer (layers.Repeat place statements until) label site = looping site (followed (all_of (inside site (Loop label)) (several statements)) (only (expr_occurrences until site)))
+block_layer (layers.Loop place statements) label site = looping label site (all_of (inside site (Loop label)) (several statements))
+block_layer (layers.While place test statements) label site = looping label site (followed (only (expr_occurrences test site)) (all_of (inside site (Loop label)) (several statements)))
+block_layer (layers.Repeat place statements until) label site = looping label site (followed (all_of (inside site (Loop label)) (several statements)) (only (expr_occurrences until site)))
 block_layer (layers.For place head statements) label site = for_loop label site head (several statements)
 
 abbrev pub statement_layer : Statement-F BlockPart Part Part Part → Part
@@ -126,5 +126,8 @@ with_parameters p (x ∷ xs) = with_parameters (with_variable (type_known (type_
 abbrev pub begin : Routine → Point
 begin r = with_parameters (scope.Routine r.name.name undeclared ∷ [], record { variables = 0; cursors = 0; conditions = 0 }) r.parameters
 
+abbrev pub parameter_names : List Parameter → List (Option Spelling)
+parameter_names ps = map (λ p. Some p.name.name) ps
+
 abbrev pub routine_occurrences : SymbolTable → Routine → List Occurrence
-routine_occurrences symbols r = (statement_occurrences r.body (control symbols (begin r).0) (begin r).1).0
+routine_occurrences symbols r = variables_from 0 (parameter_names r.parameters) ++ (statement_occurrences r.body (control symbols (begin r).0) (begin r).1).0

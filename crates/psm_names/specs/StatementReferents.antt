@@ -1,5 +1,5 @@
 -- The referents that stand in a resolved statement, in the order of the source.
-use Rattle.std.specs.Prelude.{ℕ, List, [], ◌∷◌, ◌++◌, map, Option, option_map}
+use Rattle.std.specs.Prelude.{ℕ, suc, List, [], ◌∷◌, ◌++◌, map, Option, option_map}
 use Rattle.psm_cond.specs.declared.handlers.ConditionValue.{ConditionValue}
 use Rattle.psm_cond.specs.declared.handlers.ConditionValue.TheVariants as values
 use Rattle.psm_resolved.specs.declared.expr.ResolvedExpr.{ResolvedExpr}
@@ -142,5 +142,10 @@ branch_referents = fold-ResolvedBranch R R R R statement_layer block_layer branc
 abbrev pub handler_referents : ResolvedHandler → R
 handler_referents = fold-ResolvedHandler R R R R statement_layer block_layer branch_layer handler_layer
 
+-- the first parameter has slot 0, and so on
+abbrev pub slots_from : {A : Type 0} → ℕ → List A → List ℕ
+slots_from k [] = []
+slots_from k (x ∷ xs) = k ∷ slots_from (suc k) xs
+
 abbrev pub routine_referents : ResolvedRoutine → R
-routine_referents r = statement_referents r.body
+routine_referents r = declaring_slots (slots_from 0 r.parameters) ++ statement_referents r.body

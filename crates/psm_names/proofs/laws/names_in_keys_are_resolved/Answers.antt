@@ -1,0 +1,8 @@
+use Rattle.psm_names.proofs.Keys.{keys-resolved, uniques-resolved}
+use Rattle.psm_names.proofs.laws.names_in_keys_are_resolved.Goals as goal
+
+pub returns-clause-keys : goal.returns-clause-keys
+returns-clause-keys c = keys-resolved
+
+pub returns-clause-uniques : goal.returns-clause-uniques
+returns-clause-uniques c = uniques-resolved
