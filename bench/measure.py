@@ -45,10 +45,15 @@ def write(folder, module, script):
 
 def once(program, folder, turns=None, seconds=0, megabytes=0):
     """Runs the program on the module and the script in the folder, with so much time and memory at most, or any."""
-    output = Path(folder) / "output.txt"
     words = [program, "run", str(Path(folder) / "module.sql"), str(Path(folder) / "script.sql")]
     if turns:
         words += ["--turns", str(turns)]
+    return measured(folder, words, seconds, megabytes)
+
+
+def measured(folder, words, seconds=0, megabytes=0):
+    """Runs these words, with so much time and memory at most, or any. What they write is kept in the folder while it stands."""
+    output = Path(folder) / "output.txt"
     command = [sys.executable, "-I", "-S", str(HERE / "once.py"), str(output), str(seconds), str(megabytes), *words]
     told = subprocess.run(command, stdout=subprocess.PIPE, check=True).stdout.split()
     with open(output, "rb") as file:
@@ -62,3 +67,12 @@ def run(program, module, script, turns=None, runs=1):
     with tempfile.TemporaryDirectory(prefix="psm-bench-") as folder:
         write(folder, module, script)
         return min((once(program, folder, turns) for _ in range(runs)), key=lambda each: each.elapsed)
+
+
+def listed(program, module, runs=1):
+    """The run of `compile` on the module that took the least time by the clock, of so many runs, and the bytes of the listing."""
+    with tempfile.TemporaryDirectory(prefix="psm-bench-") as folder:
+        write(folder, module, "")
+        words = [program, "compile", str(Path(folder) / "module.sql")]
+        done = min((measured(folder, words) for _ in range(runs)), key=lambda each: each.elapsed)
+        return done, (Path(folder) / "output.txt").stat().st_size
