@@ -1,30 +1,26 @@
 //! The code of an expression.
-ghost use Rattle.std.specs.Prelude.{◌≡◌, IsTrue};
-ghost use Rattle.psm_exprcode.specs.WellFormed.{code_of, does_fit, is_well_formed as are_well_formed};
+ghost use Rattle.std.specs.Prelude.{◌≡◌};
+ghost use Rattle.psm_exprcode.specs.WellFormed.{code_of, does_fit};
 
 use crate::checking::{Kinds, ends_with, is_well_formed};
 use crate::op::Letter;
 use crate::raw::RawExpr;
 use std::marker::Model;
 
-/// The code of an expression, seen as its lines: each way to a line brings exactly the letters that the line
-/// states, every way to the end brings one operand of one letter, jumps go ahead, and types, scales and
-/// constants are within bounds.
+/// The code of an expression, seen as its lines. They may be any lines: [`ExprCode::fits`] says whether they
+/// are well formed over columns and variables of known letters, which is what an evaluation of them needs.
 #[derive(Debug, Drop)]
 pub struct ExprCode {
     lines: RawExpr,
 }
 
 impl Model for ExprCode {
-    ghost use Rattle.std.specs.Prelude.{List, IsTrue};
+    ghost use Rattle.std.specs.Prelude.{List};
     ghost use Rattle.psm_exprcode.specs.declared.op.Line.{Line};
-    ghost use Rattle.psm_exprcode.specs.WellFormed.{is_well_formed};
 
     ghost Value = { List Line };
 
     ghost view = { λ c. c.lines };
-
-    ghost invariant = { λ c. IsTrue (is_well_formed c.lines) };
 }
 
 impl ExprCode {
@@ -39,10 +35,16 @@ impl ExprCode {
         }
     }
 
+    /// The lines as code, whatever they are, as a listing may state them. Takes no memory.
+    pub fn listed(lines: RawExpr) -> ExprCode
+        ensures { result ≡ lines }
+    {
+        ExprCode { lines }
+    }
+
     /// Lends the lines.
     pub fn lines(&self) -> &RawExpr
         ensures value { result.now ≡ self.now }
-        ensures well_formed { IsTrue (are_well_formed self.now) }
     {
         &self.lines
     }
