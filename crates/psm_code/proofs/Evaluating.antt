@@ -1,7 +1,6 @@
 -- Expressions of well-formed code, over rows and variables of the letters that they see, end in values of the letters with which they end.
-use Rattle.std.proofs.Common.{◌≡◌, ℕ, suc, Bool, true, false, ◌&&◌, List, [], ◌∷◌, refl, ap, sym, ◌∙◌, Option, Some, None, Result, Ok, Err}
-use Rattle.std.specs.Prelude.{IsSome, if◌then◌else◌}
-use Rattle.psm_num.proofs.Literals.{and_first, and_second}
+use Rattle.std.proofs.Common.{◌≡◌, Bool, true, List, ◌∷◌, refl, ap, sym, ◌∙◌, Option, Some, None, Result, Ok, Err}
+use Rattle.std.specs.Prelude.{IsSome}
 use Rattle.psm_sqlstate.specs.declared.state.SqlState.{SqlState}
 use Rattle.psm_value.specs.declared.datum.Datum.{Datum}
 use Rattle.psm_exprcode.specs.declared.op.Letter.{Letter}
@@ -11,47 +10,15 @@ use Rattle.psm_exprcode.specs.declared.operand.Operand.{Operand}
 use Rattle.psm_exprcode.specs.declared.operand.Operand.TheVariants.{Value, Truth}
 use Rattle.psm_exprcode.specs.Evaluated.{evaluated, Outcome, TypeChecks}
 use Rattle.psm_exprcode.specs.Kinds.{are_of, has_letter, is_of, is_truths, is_value}
-use Rattle.psm_exprcode.specs.WellFormed.{are_lines, does_fit, ends_with, is_line, is_of_kind, lands, of_any_kind}
+use Rattle.psm_exprcode.specs.WellFormed.{does_fit}
 use Rattle.psm_exprcode.proofs.Running.{evaluated_letter, evaluated_some}
-use Rattle.psm_exprcode.proofs.Standing.{both_true}
 use Rattle.psm_table.specs.Evaluator.{and_then, collected, mapped}
 use Rattle.psm_tablecode.specs.Codes.{value_in}
-use Rattle.psm_code.specs.declared.rule.CodeRule.TheVariants.{Range, Stack}
-use Rattle.psm_code.specs.Instructions.{end_letter, known_end, letter_that, or_number}
-use Rattle.psm_code.specs.Rules.{unless}
-use Rattle.psm_code.specs.TableRules.{expr_at, expr_faults, expr_line_faults, names_there, possible_end}
-use Rattle.psm_code.proofs.Faults.{clean_head, clean_tail, two_hold, Clean}
-
--- ---- letters that pass a test
-
-that_some : (test : Letter → Bool) (e : Letter) → letter_that test ≡ Some e → test e ≡ true
-that_some test e h = n (test N) refl h where
-  b : (t : Bool) → test B ≡ t → (if t then Some B else None) ≡ Some e → test e ≡ true
-  b true q h = let same : B ≡ e = cc in ap test (sym same) ∙ q
-  b false q h = absurd (cc)
-
-  t : (u : Bool) → test T ≡ u → (if u then Some T else (if test B then Some B else None)) ≡ Some e → test e ≡ true
-  t true q h = let same : T ≡ e = cc in ap test (sym same) ∙ q
-  t false q h = b (test B) refl h
-
-  n : (u : Bool) → test N ≡ u → (if u then Some N else (if test T then Some T else (if test B then Some B else None))) ≡ Some e → test e ≡ true
-  n true q h = let same : N ≡ e = cc in ap test (sym same) ∙ q
-  n false q h = t (test T) refl h
-
-if_none : {A : Type 0} (b : Bool) (a : A) (o : Option A) → (if b then Some a else o) ≡ None → (b ≡ false) × (o ≡ None)
-if_none true a o h = absurd (cc)
-if_none false a o h = (refl, h)
-
-that_none : (test : Letter → Bool) (e : Letter) → letter_that test ≡ None → test e ≡ false
-that_none test e h =
-    let n = if_none (test N) N (if test T then Some T else (if test B then Some B else None)) h in
-    let t = if_none (test T) T (if test B then Some B else None) n.1 in
-    let b = if_none (test B) B None t.1 in
-    each e n.0 t.0 b.0 where
-      each : (e : Letter) → test N ≡ false → test T ≡ false → test B ≡ false → test e ≡ false
-      each N n t b = n
-      each T n t b = t
-      each B n t b = b
+use Rattle.psm_code.specs.Instructions.{end_letter, known_end, or_number}
+use Rattle.psm_code.specs.TableRules.{expr_faults}
+use Rattle.psm_code.proofs.ExprRules.{clean_fits}
+use Rattle.psm_code.proofs.Faults.{Clean}
+use Rattle.psm_code.proofs.OneEnd.{fit-known}
 
 -- ---- expressions
 
@@ -62,34 +29,10 @@ pub record Fits (columns variables : List Letter) (due : Letter → Bool) (lines
   pub is_due : due end ≡ true
   pub fits : does_fit columns variables lines end ≡ true
 
-unless_holds : (b : Bool) → unless b Stack ≡ None → b ≡ true
-unless_holds true h = refl
-unless_holds false h = absurd (cc)
-
-lines_well_formed : (columns variables : List Letter) (end : Letter) (at : ℕ) (lines : List Line) → Clean (expr_line_faults columns variables end at lines) → are_lines (is_of_kind columns variables) end at lines ≡ true
-lines_well_formed columns variables end at [] h = refl
-lines_well_formed columns variables end at (l ∷ after) h =
-    let t = two_hold (names_there columns variables l.op) (is_line (is_of_kind columns variables) end at l after) Range Stack (clean_head _ (expr_line_faults columns variables end (suc at) after) h) in
-    both_true (is_line (is_of_kind columns variables) end at l after) (are_lines (is_of_kind columns variables) end (suc at) after) t.1 (lines_well_formed columns variables end (suc at) after (clean_tail _ (expr_line_faults columns variables end (suc at) after) h))
-
-expr_by : (columns variables : List Letter) (due : Letter → Bool) (lines : List Line) (found other : Option Letter) → known_end columns variables lines ≡ found → possible_end due lines ≡ other
-    → Clean (expr_at columns variables due lines found other) → Fits columns variables due lines
-expr_by columns variables due lines (Some end) other e f h = record {
-  end = end;
-  known = e;
-  is_due = unless_holds (due end) (clean_head (unless (due end) Stack) (expr_line_faults columns variables end 0 lines) h);
-  fits = that_some (λ e. does_fit columns variables lines e) end e;
-}
-expr_by columns variables due lines None (Some end) e f h =
-    let any = that_some (λ e. due e && ends_with of_any_kind lines e) end f in
-    let first = and_first (lands end lines 0 []) (are_lines of_any_kind end 0 lines) (and_second (due end) (ends_with of_any_kind lines end) any) in
-    let fits : does_fit columns variables lines end ≡ true = both_true (lands end lines 0 []) (are_lines (is_of_kind columns variables) end 0 lines) first (lines_well_formed columns variables end 0 lines h) in
-    let no = that_none (λ e. does_fit columns variables lines e) end e in
-    absurd (cc)
-expr_by columns variables due lines None None e f h = absurd h
-
 pub expr_fits : (columns variables : List Letter) (due : Letter → Bool) (lines : List Line) → Clean (expr_faults columns variables due lines) → Fits columns variables due lines
-expr_fits columns variables due lines h = expr_by columns variables due lines (known_end columns variables lines) (possible_end due lines) refl refl h
+expr_fits columns variables due lines h =
+    let f = clean_fits columns variables due lines h in
+    record { end = f.0; known = fit-known columns variables lines f.0 f.2; is_due = f.1; fits = f.2 }
 
 -- its letter as the table of instructions has it
 pub end_is : (columns variables : List Letter) (due : Letter → Bool) (lines : List Line) (f : Fits columns variables due lines) → end_letter columns variables lines ≡ f.end

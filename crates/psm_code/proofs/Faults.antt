@@ -31,6 +31,11 @@ clean_of n [] e = tt
 clean_of n (None ∷ rs) e = clean_of (suc n) rs e
 clean_of n (Some q ∷ rs) e = absurd (cc)
 
+pub none_of : (n : ℕ) (rs : List (Option CodeRule)) → Clean rs → fault_in n rs ≡ None
+none_of n [] h = refl
+none_of n (None ∷ rs) h = none_of (suc n) rs h
+none_of n (Some q ∷ rs) h = absurd h
+
 pub clean_head : (o : Option CodeRule) (rs : List (Option CodeRule)) → Clean (o ∷ rs) → o ≡ None
 clean_head None rs h = refl
 clean_head (Some q) rs h = absurd h

@@ -15,6 +15,8 @@ pub mod Quiet
 pub mod Operating
 pub mod Entering
 pub mod Calls
+pub mod ExprRules
+pub mod OneEnd
 pub mod Evaluating
 pub mod Answering
 pub mod Asking

@@ -20,9 +20,8 @@ use Rattle.psm_cond.specs.declared.handlers.HandlerKind.TheVariants.{Continue, E
 use Rattle.psm_cond.specs.Handlers.{context_at}
 use Rattle.psm_exprcode.specs.declared.op.Letter.{Letter}
 use Rattle.psm_exprcode.specs.declared.op.Letter.TheVariants.{N}
-use Rattle.psm_exprcode.specs.declared.op.Op.{Op}
 use Rattle.psm_exprcode.specs.declared.op.Op.TheVariants as op
-use Rattle.psm_exprcode.specs.Kinds.{has_letter, some_letter, some_value}
+use Rattle.psm_exprcode.specs.Kinds.{some_letter, some_value}
 use Rattle.psm_exprcode.specs.Operations.{Effect}
 use Rattle.psm_exprcode.specs.WellFormed.{is_type, left_of, same_stack}
 use Rattle.psm_code.specs.declared.code.Parameter.{Parameter}
@@ -37,7 +36,7 @@ use Rattle.psm_code.specs.Instructions.{instruction_effect, may_raise}
 use Rattle.psm_code.specs.Parts.{block_at, gives, handler_at, line_at, routine_at, slots_of}
 use Rattle.psm_code.specs.PlanRules.{cursor_fault, plan_faults, query_faults}
 use Rattle.psm_code.specs.Rules.{each_after, fault_in, first_of, is_same, is_some, is_there, there, unless, where_there}
-use Rattle.psm_code.specs.TableRules.{are_there, table_faults}
+use Rattle.psm_code.specs.TableRules.{are_there, is_in_bounds, is_of_letter, table_faults, target_of}
 
 -- ---- the line of a routine, and those of its parameters and variables
 
@@ -204,12 +203,6 @@ handler_fault r before h = first_of (
 abbrev pub slot_there : RawRoutine → ℕ → Bool
 slot_there r slot = is_there (slots_of r) slot
 
--- scales and types are within bounds
-abbrev pub is_in_bounds : Op → Bool
-is_in_bounds (op.Rescale s) = nat_le s 18
-is_in_bounds (op.Cast to) = is_type to
-is_in_bounds o = true
-
 -- what an instruction names is there
 abbrev pub names_there : RawCode → RawRoutine → Instruction → Bool
 names_there code r (instruction.Operation (op.Variable slot)) = slot_there r slot
@@ -237,9 +230,7 @@ names_there code r i = true
 
 -- the line at which an instruction may go on instead of the one that follows
 abbrev pub jump_of : Instruction → Option ℕ
-jump_of (instruction.Operation (op.Jump p)) = Some p
-jump_of (instruction.Operation (op.JumpUnlessTrue p)) = Some p
-jump_of (instruction.Operation (op.JumpUnlessNull p)) = Some p
+jump_of (instruction.Operation o) = target_of o
 jump_of (instruction.Next c end) = Some end
 jump_of i = None
 
@@ -278,7 +269,7 @@ follows_with r at s None = false
 follows_with r at s (Some e) = stated_after r at e (left_of e.takes s)
 
 abbrev pub constant_fits : Instruction → Bool
-constant_fits (instruction.Operation (op.Constant k d)) = has_letter k d
+constant_fits (instruction.Operation o) = is_of_letter o
 constant_fits i = true
 
 abbrev pub stack_follows : RawCode → RawRoutine → ℕ → CodeLine → Bool

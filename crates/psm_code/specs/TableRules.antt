@@ -1,5 +1,5 @@
 -- The rules of tables and of expressions in code, line by line of the listing.
-use Rattle.std.specs.Prelude.{ℕ, suc, Bool, true, false, ◌&&◌, not, nat_eq, List, [], ◌∷◌, ◌++◌, map, slice_get, Option, Some, None, Result, Ok, Err}
+use Rattle.std.specs.Prelude.{ℕ, suc, Bool, true, false, ◌&&◌, ◌||◌, not, nat_eq, nat_le, nat_lt, List, [], ◌∷◌, ◌++◌, length, map, reverse, slice_get, Option, Some, None, Result, Ok, Err}
 use Rattle.std.specs.List.{flat_map, list_all}
 use Rattle.std.specs.Ordering.{int_eq}
 use Rattle.psm_sqlstate.specs.declared.state.SqlState.{SqlState}
@@ -12,44 +12,111 @@ use Rattle.psm_exprcode.specs.declared.op.Letter.TheVariants.{N, B}
 use Rattle.psm_exprcode.specs.declared.op.Line.{Line}
 use Rattle.psm_exprcode.specs.declared.op.Op.{Op}
 use Rattle.psm_exprcode.specs.declared.op.Op.TheVariants as op
-use Rattle.psm_exprcode.specs.Kinds.{is_letter}
-use Rattle.psm_exprcode.specs.WellFormed.{ends_with, is_line, is_of_kind, is_type, of_any_kind}
+use Rattle.psm_exprcode.specs.Kinds.{has_letter, is_letter, some_letter, some_value}
+use Rattle.psm_exprcode.specs.Operations.{Effect, effect}
+use Rattle.psm_exprcode.specs.WellFormed.{is_of_kind, is_type, left_of, same_stack}
 use Rattle.psm_table.specs.declared.definition.Column.{Column}
 use Rattle.psm_table.specs.declared.definition.TableDef.{TableDef}
 use Rattle.psm_code.specs.declared.code.CodeTable.{CodeTable}
 use Rattle.psm_code.specs.declared.rule.CodeRule.{CodeRule}
-use Rattle.psm_code.specs.declared.rule.CodeRule.TheVariants.{Range, Stack, Definition}
-use Rattle.psm_code.specs.Instructions.{column_letters, known_end, letter_that}
-use Rattle.psm_code.specs.Rules.{are_distinct, each_after, first_of, is_same, is_some, is_there, unless, where_there}
+use Rattle.psm_code.specs.declared.rule.CodeRule.TheVariants.{Range, Target, Stack, Turn, Definition}
+use Rattle.psm_code.specs.Instructions.{column_letters}
+use Rattle.psm_code.specs.Rules.{are_distinct, each_after, first_of, is_same, is_some, is_there, there, unless, where_there}
 
--- ---- expressions over columns and variables of known letters
+-- ---- expressions over columns and variables of known letters; lines are numbered from 0, and a jump may lead to their end
 
 abbrev pub names_there : List Letter → List Letter → Op → Bool
 names_there columns variables (op.Variable i) = is_there variables i
 names_there columns variables (op.Column i) = is_there columns i
 names_there columns variables o = true
 
-abbrev pub expr_line_fault : List Letter → List Letter → Letter → ℕ → Line → List Line → Option CodeRule
-expr_line_fault columns variables end at l after = first_of (
-    unless (names_there columns variables l.op) Range
-    ∷ unless (is_line (is_of_kind columns variables) end at l after) Stack ∷ [])
+-- scales and types are within bounds
+abbrev pub is_in_bounds : Op → Bool
+is_in_bounds (op.Rescale s) = nat_le s 18
+is_in_bounds (op.Cast to) = is_type to
+is_in_bounds o = true
 
-abbrev pub expr_line_faults : List Letter → List Letter → Letter → ℕ → List Line → List (Option CodeRule)
-expr_line_faults columns variables end at [] = []
-expr_line_faults columns variables end at (l ∷ after) = expr_line_fault columns variables end at l after ∷ expr_line_faults columns variables end (suc at) after
+-- a constant is of its letter
+abbrev pub is_of_letter : Op → Bool
+is_of_letter (op.Constant k d) = has_letter k d
+is_of_letter o = true
 
--- the letter that is due with which it could end, were its columns and variables of other kinds
-abbrev pub possible_end : (Letter → Bool) → List Line → Option Letter
-possible_end due lines = letter_that (λ e. due e && ends_with of_any_kind lines e)
+-- the line at which an operation may go on instead of the one that follows
+abbrev pub target_of : Op → Option ℕ
+target_of (op.Jump p) = Some p
+target_of (op.JumpUnlessTrue p) = Some p
+target_of (op.JumpUnlessNull p) = Some p
+target_of o = None
 
--- its own line, where the letter with which it ends has to be due, and then its lines
-abbrev pub expr_at : List Letter → List Letter → (Letter → Bool) → List Line → Option Letter → Option Letter → List (Option CodeRule)
-expr_at columns variables due lines (Some end) other = unless (due end) Stack ∷ expr_line_faults columns variables end 0 lines
-expr_at columns variables due lines None (Some end) = None ∷ expr_line_faults columns variables end 0 lines
-expr_at columns variables due lines None None = Some Stack ∷ expr_line_faults columns variables N 0 lines
+-- the operands, the last one first, are those that a line states; at the end, where a letter is asked for, one of that letter
+abbrev pub are_stated_at : Option Letter → Option Line → List Letter → Bool
+are_stated_at end (Some l) s = same_stack s (reverse l.stack)
+are_stated_at None None s = true
+are_stated_at (Some k) None s = same_stack s (k ∷ [])
 
+-- at the line that follows, and at the one to which an operation may jump
+abbrev pub falls_on : Option Letter → List Line → ℕ → Option (List Letter) → List Letter → Bool
+falls_on end lines at None rest = true
+falls_on end lines at (Some puts) rest = are_stated_at end (slice_get lines (suc at)) (puts ++ rest)
+
+abbrev pub jumps_on : Option Letter → List Line → Option (ℕ × List Letter) → List Letter → Bool
+jumps_on end lines None rest = true
+jumps_on end lines (Some jump) rest = are_stated_at end (slice_get lines jump.0) (jump.1 ++ rest)
+
+abbrev pub are_stated_after : Option Letter → List Line → ℕ → Effect → Option (List Letter) → Bool
+are_stated_after end lines at e None = false
+are_stated_after end lines at e (Some rest) = falls_on end lines at e.fall_through rest && jumps_on end lines e.branching rest
+
+-- the operation of a line finds the operands that it takes, and brings those that are stated wherever it goes on
+abbrev pub operands_follow : List Letter → List Letter → Option Letter → List Line → ℕ → Op → List Letter → Bool
+operands_follow columns variables end lines at o s =
+    is_of_letter o && some_value (λ k. is_of_kind columns variables o k && some_letter (λ x. are_stated_after end lines at (effect o k x) (left_of (effect o k x).takes s)))
+
+-- the first line states no operand
+abbrev pub is_bare_first : ℕ → List Letter → Bool
+is_bare_first at s = not (nat_eq at 0) || same_stack [] s
+
+-- the rule that a line with that operation over those operands breaks by itself, whatever it brings at the end
+abbrev pub op_fault : List Letter → List Letter → List Line → ℕ → Op → List Letter → Option CodeRule
+op_fault columns variables lines at o s = first_of (
+    unless (names_there columns variables o && is_in_bounds o) Range
+    ∷ unless (where_there (target_of o) (λ p. nat_le p (length lines))) Target
+    ∷ unless (is_bare_first at s && operands_follow columns variables None lines at o s) Stack
+    ∷ unless (where_there (target_of o) (nat_lt at)) Turn ∷ [])
+
+abbrev pub expr_line_faults : List Letter → List Letter → List Line → ℕ → List Line → List (Option CodeRule)
+expr_line_faults columns variables lines at [] = []
+expr_line_faults columns variables lines at (l ∷ after) = op_fault columns variables lines at l.op (reverse l.stack) ∷ expr_line_faults columns variables lines (suc at) after
+
+-- ---- the end of an expression
+
+abbrev pub is_at : ℕ → Option ℕ → Bool
+is_at n None = false
+is_at n (Some p) = nat_eq p n
+
+-- an operation of n lines goes on at their end
+abbrev pub reaches_end : ℕ → ℕ → Op → Bool
+reaches_end n at o = (there (effect o N N).fall_through && nat_eq (suc at) n) || is_at n (target_of o)
+
+-- whether a test holds of each line that goes on at the end
+abbrev pub at_ends : (ℕ → Op → List Letter → Bool) → ℕ → ℕ → List Line → Bool
+at_ends test n at [] = true
+at_ends test n at (l ∷ after) = (not (reaches_end n at l.op) || test at l.op (reverse l.stack)) && at_ends test n (suc at) after
+
+-- each line that goes on at the end brings one operand there, of the letter
+abbrev pub all_bring : List Letter → List Letter → List Line → Letter → Bool
+all_bring columns variables lines k = at_ends (operands_follow columns variables (Some k) lines) (length lines) 0 lines
+
+-- Some line goes on at the end, and those that do bring one operand there, of one letter that is due. This isn't asked where one of
+-- them breaks a rule by itself.
+abbrev pub ends_due : List Letter → List Letter → (Letter → Bool) → List Line → Bool
+ends_due columns variables due lines =
+    not (at_ends (λ at o s. not (there (op_fault columns variables lines at o s))) (length lines) 0 lines)
+    || (not (at_ends (λ at o s. false) (length lines) 0 lines) && some_letter (λ k. due k && all_bring columns variables lines k))
+
+-- an expression: its own line, at which it is told that it doesn't end with one operand of a letter that is due, and its lines
 abbrev pub expr_faults : List Letter → List Letter → (Letter → Bool) → List Line → List (Option CodeRule)
-expr_faults columns variables due lines = expr_at columns variables due lines (known_end columns variables lines) (possible_end due lines)
+expr_faults columns variables due lines = unless (ends_due columns variables due lines) Stack ∷ expr_line_faults columns variables lines 0 lines
 
 -- ---- columns
 

@@ -1,19 +1,29 @@
 //! Laws of code and of its runs.
-ghost use Rattle.std.specs.Prelude.{◌≡◌, ℕ, List, [], length, IsTrue, Some, None};
+ghost use Rattle.std.specs.Prelude.{◌≡◌, ◌↔◌, ℕ, Bool, List, [], length, IsTrue, Some, None};
 ghost use Rattle.psm_value.specs.declared.datum.Datum.{Datum};
+ghost use Rattle.psm_exprcode.specs.declared.op.Letter.{Letter};
+ghost use Rattle.psm_exprcode.specs.declared.op.Line.{Line};
+ghost use Rattle.psm_exprcode.specs.WellFormed.{does_fit};
 ghost use Rattle.psm_table.specs.Table.{Contents};
 ghost use Rattle.psm_code.specs.declared.code.RawCode.{RawCode};
 ghost use Rattle.psm_code.specs.declared.code.RawRoutine.{RawRoutine};
 ghost use Rattle.psm_code.specs.Calling.{started};
 ghost use Rattle.psm_code.specs.Parts.{routine_at, taking};
 ghost use Rattle.psm_code.specs.RoutineRules.{first_fault};
+ghost use Rattle.psm_code.specs.Rules.{fault_in};
 ghost use Rattle.psm_code.specs.Run.{step, Ran};
 ghost use Rattle.psm_code.specs.MachineInvariant.{is_due, AreKept, MachineInvariant, StaysWellFormed};
 ghost use Rattle.psm_code.specs.State.{End, Machine};
+ghost use Rattle.psm_code.specs.TableRules.{expr_faults};
 
 /// A run of a routine has one end at most, and one machine at that end.
 pub fn runs_have_one_end()
     ensures end { (code : RawCode) (routine : ℕ) (args : List Datum) (tables : List Contents) (turns : ℕ) (e f : End) (m n : Machine) → Ran code routine args tables turns e m → Ran code routine args tables turns f n → (e ≡ f) × (m ≡ n) }
+{}
+
+/// An expression breaks no rule exactly where it fits its columns and variables and ends with a letter that is due.
+pub fn expressions_that_fit_break_no_rule()
+    ensures { (columns variables : List Letter) (due : Letter → Bool) (lines : List Line) (n : ℕ) → (fault_in n (expr_faults columns variables due lines) ≡ None) ↔ ((end : Letter) × IsTrue (due end) × IsTrue (does_fit columns variables lines end)) }
 {}
 
 /// Code without tables and routines is well-formed.
