@@ -41,7 +41,6 @@ pub mod Placed
 pub mod BlocksLawful
 pub mod AllLawful
 pub mod ContextsWellFormed
-pub mod OneEnd
 pub mod RowLines
 pub mod QueryLetters
 pub mod QueriesWellFormed

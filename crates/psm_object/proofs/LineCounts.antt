@@ -21,11 +21,11 @@ use Rattle.psm_code.specs.declared.code.RawCode.{RawCode}
 use Rattle.psm_code.specs.declared.code.RawRoutine.{RawRoutine}
 use Rattle.psm_code.specs.declared.lines.CodeLine.{CodeLine}
 use Rattle.psm_code.specs.declared.rule.CodeRule.{CodeRule}
-use Rattle.psm_code.specs.Instructions.{column_letters, columns_at, known_end, variables_of}
+use Rattle.psm_code.specs.Instructions.{column_letters, columns_at, variables_of}
 use Rattle.psm_code.specs.PlanRules.{cursor_fault, is_column_letter, is_due, item_in, items_in, operand_in, or_none, cursor_table, plan_faults, query_faults, set_faults, set_in, sets_in, test_in}
 use Rattle.psm_code.specs.RoutineRules.{code_faults, context_faults, handler_fault, line_faults, parameter_fault, routine_fault, routine_faults, type_fault, declared_fault}
 use Rattle.psm_code.specs.Rules.{each_after}
-use Rattle.psm_code.specs.TableRules.{column_fault, key_fault, name_fault, expr_at, expr_faults, expr_line_faults, possible_end, table_faults, unique_fault}
+use Rattle.psm_code.specs.TableRules.{column_fault, key_fault, name_fault, expr_faults, expr_line_faults, table_faults, unique_fault}
 use Rattle.psm_object.specs.Expressions.{expression_lines, operation_line, test_lines}
 use Rattle.psm_object.specs.Handlers.{condition_line, context_line, handler_line}
 use Rattle.psm_object.specs.Instructions.{code_line}
@@ -63,17 +63,12 @@ of_each_after f g before (x ∷ xs) h = both (f x ∷ []) (g before x) (map f xs
 
 -- ---- expressions
 
-expression_line_count : (columns variables : List Letter) (end : Letter) (at : ℕ) (lines : List Line) → Alike (map operation_line lines) (expr_line_faults columns variables end at lines)
-expression_line_count columns variables end at [] = refl
-expression_line_count columns variables end at (l ∷ lines) = ap suc (expression_line_count columns variables end (suc at) lines)
-
-by_ends : (columns variables : List Letter) (due : Letter → Bool) (lines : List Line) (end other : Option Letter) → Alike (expression_lines lines) (expr_at columns variables due lines end other)
-by_ends columns variables due lines (Some end) other = ap suc (expression_line_count columns variables end 0 lines)
-by_ends columns variables due lines None (Some end) = ap suc (expression_line_count columns variables end 0 lines)
-by_ends columns variables due lines None None = ap suc (expression_line_count columns variables N 0 lines)
+expression_line_count : (columns variables : List Letter) (all : List Line) (at : ℕ) (lines : List Line) → Alike (map operation_line lines) (expr_line_faults columns variables all at lines)
+expression_line_count columns variables all at [] = refl
+expression_line_count columns variables all at (l ∷ lines) = ap suc (expression_line_count columns variables all (suc at) lines)
 
 expression_count : (columns variables : List Letter) (due : Letter → Bool) (lines : List Line) → Alike (expression_lines lines) (expr_faults columns variables due lines)
-expression_count columns variables due lines = by_ends columns variables due lines (known_end columns variables lines) (possible_end due lines)
+expression_count columns variables due lines = ap suc (expression_line_count columns variables lines 0 lines)
 
 test_count : (code : RawCode) (r : RawRoutine) (table : ℕ) (test : Option (List Line)) → Alike (test_lines test) (test_in code r table test)
 test_count code r table None = refl

@@ -1,7 +1,6 @@
 -- Faults that are looked for line by line of a listing.
-use Rattle.std.specs.Prelude.{◌≡◌, ℕ, suc, ◌+◌, Bool, true, false, List, [], ◌∷◌, slice_get, take, Option, Some, None, Result, Ok, Err}
+use Rattle.std.specs.Prelude.{◌≡◌, ℕ, suc, List, [], ◌∷◌, slice_get, take, Option, Some, None, Result, Ok, Err}
 use Rattle.psm_code.specs.declared.rule.CodeRule.{CodeRule}
-use Rattle.psm_code.specs.declared.rule.CodeRule.TheVariants.{Stack}
 use Rattle.psm_verify.specs.declared.fault.CodeFault.{CodeFault}
 use Rattle.psm_verify.specs.declared.fault.Stop.{Stop}
 use Rattle.psm_verify.specs.declared.fault.Stop.TheVariants.{Fault, Memory}
@@ -17,11 +16,6 @@ abbrev pub Finds : Result ℕ CodeFault → Result ℕ Stop → Type 0
 Finds due (Ok n) = due ≡ Ok n
 Finds due (Err (Fault f)) = due ≡ Err f
 Finds due (Err Memory) = Unit {0}
-
--- a line on which all hangs, and n after it that break no rule
-abbrev pub passing : Bool → ℕ → ℕ → Result ℕ CodeFault
-passing true n count = Ok (suc n + count)
-passing false n count = Err (record { line = n; rule = Stack })
 
 -- the lines of the item at a place, which sees those before it
 abbrev pub item_in : {A B : Type 0} → (List A → A → List B) → List A → Option A → List B

@@ -1,16 +1,16 @@
 //! Expressions over columns and variables of known letters (ISO/IEC 9075:1992, clause 6).
-ghost use Rattle.std.specs.Prelude.{◌≡◌, ◌+◌, ◌&&◌, length, IfOk, None, Ok};
-ghost use Rattle.psm_exprcode.specs.WellFormed.{ends_with, of_any_kind};
+ghost use Rattle.std.specs.Prelude.{◌≡◌, ◌&&◌, IfOk};
+ghost use Rattle.psm_exprcode.specs.Kinds.{some_letter};
 ghost use Rattle.psm_code.specs.Instructions.{known_end as known_end_of};
-ghost use Rattle.psm_code.specs.TableRules.{expr_at, expr_faults, possible_end as possible_end_of};
-ghost use Rattle.psm_verify.specs.Checked.{Finds, checked, passing};
-ghost use Rattle.psm_verify.specs.Placed.{due_of};
+ghost use Rattle.psm_code.specs.TableRules as rules;
+ghost use Rattle.psm_verify.specs.Checked.{Finds, checked};
+ghost use Rattle.psm_verify.specs.Placed.{due_of, is_due_end};
 
 use crate::fault::{CodeFault, Stop};
 use crate::listing::{next, skip};
-use crate::placed::Placed;
+use crate::placed::{EndTest, Placed};
 use psm_code::CodeRule;
-use psm_exprcode::{ExprCode, Letter, RawExpr};
+use psm_exprcode::{ExprCode, Letter};
 use std::alloc::{AllocError, Global};
 
 /// The letters with which an expression may end.
@@ -49,6 +49,7 @@ pub(crate) fn known_end(columns: &[Letter], variables: &[Letter], code: &ExprCod
 
 /// An expression: its own line, and those of its code. One that fits is seen as a whole, and its lines are looked at one by one only
 /// where it doesn't.
+#[tactic(auto, using(crate::proofs::Placing::passing_is))]
 pub(crate) fn expression(
     alloc: Global,
     line: u64,
@@ -57,20 +58,41 @@ pub(crate) fn expression(
     due: Due,
     code: &ExprCode,
 ) -> Result<u64, Stop>
-    ensures { Finds (checked line (expr_faults columns.now variables.now (due_of due) code.now)) result }
+    ensures { Finds (checked line (rules.expr_faults columns.now variables.now (due_of due) code.now)) result }
 {
-    match known_end(columns, variables, code) {
-        Some(end) => known(line, due, end, code.lines().len()),
-        None => unknown(alloc, line, columns, variables, due, code.lines()),
+    if is_due(due, known_end(columns, variables, code)) {
+        skip(next(line)?, code.lines().len())
+    } else {
+        let lines = code.lines();
+        unknown(
+            alloc,
+            line,
+            due,
+            Placed {
+                lines,
+                columns,
+                variables,
+            },
+        )
     }
 }
 
-// One that fits, and ends with that letter.
-fn known(line: u64, due: Due, end: Letter, count: usize) -> Result<u64, Stop>
-    ensures { Finds (passing (due_of due end) line count) result }
+// Whether there is a letter, and it is due.
+fn is_due(due: Due, end: Option<Letter>) -> bool
+    ensures { result ≡ is_due_end (due_of due) end }
 {
-    if due.is(end) {
-        skip(next(line)?, count)
+    match end {
+        Some(end) => due.is(end),
+        None => false,
+    }
+}
+
+// One that doesn't fit, or ends with another letter.
+fn unknown(alloc: Global, line: u64, due: Due, placed: Placed<'_>) -> Result<u64, Stop>
+    ensures { Finds (checked line (rules.expr_faults placed.entry.columns.now placed.entry.variables.now (due_of due) placed.entry.lines.now)) result }
+{
+    if ends_due(alloc, due, &placed)? {
+        placed.each(alloc, next(line)?)
     } else {
         Err(Stop::Fault(CodeFault {
             line,
@@ -79,47 +101,42 @@ fn known(line: u64, due: Due, end: Letter, count: usize) -> Result<u64, Stop>
     }
 }
 
-// One that doesn't fit.
-fn unknown(
+// Whether some line goes on at the end, and those that do bring one operand there, of one letter that is due. That isn't asked where
+// one of them breaks a rule by itself.
+fn ends_due(alloc: Global, due: Due, placed: &Placed<'_>) -> Result<bool, AllocError>
+    ensures { IfOk result (λ b. b ≡ rules.ends_due placed.now.columns.now placed.now.variables.now (due_of due) placed.now.lines.now) }
+{
+    if !placed.at_ends(alloc, EndTest::Faultless)? {
+        return Ok(true);
+    }
+    if placed.at_ends(alloc, EndTest::Absent)? {
+        return Ok(false);
+    }
+    some_bring(alloc, due, placed)
+}
+
+fn some_bring(alloc: Global, due: Due, placed: &Placed<'_>) -> Result<bool, AllocError>
+    ensures { IfOk result (λ b. b ≡ some_letter (λ k. due_of due k && rules.all_bring placed.now.columns.now placed.now.variables.now placed.now.lines.now k)) }
+{
+    if all_bring(alloc, due, placed, Letter::N)? {
+        return Ok(true);
+    }
+    if all_bring(alloc, due, placed, Letter::T)? {
+        return Ok(true);
+    }
+    all_bring(alloc, due, placed, Letter::B)
+}
+
+fn all_bring(
     alloc: Global,
-    line: u64,
-    columns: &[Letter],
-    variables: &[Letter],
     due: Due,
-    lines: &RawExpr,
-) -> Result<u64, Stop>
-    ensures { Finds (checked line (expr_at columns.now variables.now (due_of due) lines.now None (possible_end_of (due_of due) lines.now))) result }
+    placed: &Placed<'_>,
+    letter: Letter,
+) -> Result<bool, AllocError>
+    ensures { IfOk result (λ b. b ≡ (due_of due letter && rules.all_bring placed.now.columns.now placed.now.variables.now placed.now.lines.now letter)) }
 {
-    match possible_end(alloc, due, lines)? {
-        Some(end) => Placed { lines, end }.each(alloc, next(line)?, columns, variables),
-        None => Err(Stop::Fault(CodeFault {
-            line,
-            rule: CodeRule::Stack,
-        })),
-    }
-}
-
-// The letter that is due with which the lines could end, were their columns and variables of other kinds.
-fn possible_end(alloc: Global, due: Due, lines: &RawExpr) -> Result<Option<Letter>, AllocError>
-    ensures { IfOk result (λ end. end ≡ possible_end_of (due_of due) lines.now) }
-{
-    if may_end(alloc, due, lines, Letter::N)? {
-        return Ok(Some(Letter::N));
-    }
-    if may_end(alloc, due, lines, Letter::T)? {
-        return Ok(Some(Letter::T));
-    }
-    if may_end(alloc, due, lines, Letter::B)? {
-        return Ok(Some(Letter::B));
-    }
-    Ok(None)
-}
-
-fn may_end(alloc: Global, due: Due, lines: &RawExpr, end: Letter) -> Result<bool, AllocError>
-    ensures { IfOk result (λ b. b ≡ (due_of due end && ends_with of_any_kind lines.now end)) }
-{
-    if due.is(end) {
-        Placed { lines, end }.ends(alloc)
+    if due.is(letter) {
+        placed.at_ends(alloc, EndTest::Brings(letter))
     } else {
         Ok(false)
     }
