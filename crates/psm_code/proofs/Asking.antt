@@ -25,9 +25,11 @@ use Rattle.psm_tablecode.specs.Codes.{items_of, over, set_function, set_of}
 use Rattle.psm_code.specs.declared.code.RawCode.{RawCode}
 use Rattle.psm_code.specs.declared.code.RawRoutine.{RawRoutine}
 use Rattle.psm_code.specs.Instructions.{columns_at, end_letter, item_letters, set_letter, variables_of}
-use Rattle.psm_code.specs.PlanRules.{is_due, item_in, items_in, operand_in, set_in}
+use Rattle.psm_code.specs.declared.rule.CodeRule.TheVariants.{Definition}
+use Rattle.psm_code.specs.Rules.{unless}
+use Rattle.psm_code.specs.PlanRules.{has_operand, is_due, item_in, items_in, operand_in, set_in}
 use Rattle.psm_code.proofs.Evaluating.{end_is, expr_fits, taken, value_letter, Fits}
-use Rattle.psm_code.proofs.Faults.{clean_first, clean_second, Clean}
+use Rattle.psm_code.proofs.Faults.{clean_first, clean_second, clean_tail, Clean}
 -- ---- rows of a walk
 
 use Rattle.psm_code.proofs.Answering.{due_value, function_letter, op_letter, walked_all}
@@ -65,7 +67,7 @@ module _ (code : RawCode) (r : RawRoutine) (table : ℕ) where
   sets_fit : (ags : List Aggregate) → Clean (flat_map (set_in code r table) ags) → SetsFit ags
   sets_fit [] h = tt
   sets_fit (a ∷ ags) h =
-      (operand_fits a.function a.operand (clean_first (set_in code r table a) (flat_map (set_in code r table) ags) h), sets_fit ags (clean_second (set_in code r table a) (flat_map (set_in code r table) ags) h))
+      (operand_fits a.function a.operand (clean_tail (unless (has_operand a.function a.operand) Definition) (operand_in code r table a.function a.operand) (clean_first (set_in code r table a) (flat_map (set_in code r table) ags) h)), sets_fit ags (clean_second (set_in code r table a) (flat_map (set_in code r table) ags) h))
 
   operand_value : (f : SetFunction) (o : Option (List Line)) → OperandFits f o → is_value (op_letter Columns Variables o) ≡ true
   operand_value f None h = refl

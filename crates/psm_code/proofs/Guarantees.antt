@@ -31,9 +31,9 @@ use Rattle.psm_code.specs.declared.instruction.Instruction.TheVariants as instru
 use Rattle.psm_code.specs.declared.rule.CodeRule.TheVariants as rule
 use Rattle.psm_code.specs.Instructions.{column_letters, columns_at, columns_of_table, variables_of}
 use Rattle.psm_code.specs.Parts.{slots_of}
-use Rattle.psm_code.specs.PlanRules.{is_column_letter, is_due, item_in, items_in, operand_in, set_faults, set_in, set_line, test_in}
+use Rattle.psm_code.specs.PlanRules.{has_operand, is_column_letter, is_due, item_in, items_in, operand_in, set_faults, set_in, set_line, test_in}
 use Rattle.psm_code.specs.RoutineRules.{first_fault}
-use Rattle.psm_code.specs.Rules.{each_after, is_among, is_there, where_there}
+use Rattle.psm_code.specs.Rules.{each_after, is_among, is_there, unless, where_there}
 use Rattle.psm_code.specs.MachineInvariant.{are_stored, MachineInvariant}
 use Rattle.psm_code.specs.State.{Machine}
 use Rattle.psm_code.specs.TableRules.{column_fault, expr_faults, key_fault, name_fault, unique_fault}
@@ -129,7 +129,7 @@ module _ (code : RawCode) (r : RawRoutine) (table : ℕ) where
   sets_given (f ∷ fs) h =
       let rest = flat_map (set_in code r table) fs in
       both_true (gives_set (columns_at code table) (variables_of r) f) (list_all (gives_set (columns_at code table) (variables_of r)) fs)
-      (set_given f.function f.operand (clean_first (set_in code r table f) rest h)) (sets_given fs (clean_second (set_in code r table f) rest h))
+      (set_given f.function f.operand (clean_tail (unless (has_operand f.function f.operand) rule.Definition) (operand_in code r table f.function f.operand) (clean_first (set_in code r table f) rest h))) (sets_given fs (clean_second (set_in code r table f) rest h))
 
   items_given : (i : Items) → Clean (items_in code r table i) → give_items (columns_at code table) (variables_of r) i ≡ true
   items_given (items.Rows codes) h = rows_given codes h

@@ -47,8 +47,20 @@ abbrev pub operand_in : RawCode → RawRoutine → ℕ → SetFunction → Optio
 operand_in code r table f None = []
 operand_in code r table f (Some lines) = expr_in code r table (is_due f) lines
 
+-- COUNT alone counts rows, and so may have no operand
+abbrev pub counts_rows : SetFunction → Bool
+counts_rows sets.Count = true
+counts_rows sets.Sum = false
+counts_rows sets.Min = false
+counts_rows sets.Max = false
+counts_rows sets.Avg = false
+
+abbrev pub has_operand : SetFunction → Option (List Line) → Bool
+has_operand f None = counts_rows f
+has_operand f (Some lines) = true
+
 abbrev pub set_in : RawCode → RawRoutine → ℕ → Aggregate → List (Option CodeRule)
-set_in code r table a = None ∷ operand_in code r table a.function a.operand
+set_in code r table a = unless (has_operand a.function a.operand) Definition ∷ operand_in code r table a.function a.operand
 
 abbrev pub item_in : RawCode → RawRoutine → ℕ → List Line → List (Option CodeRule)
 item_in code r table lines = None ∷ expr_in code r table is_value lines

@@ -25,7 +25,7 @@ use Rattle.psm_code.specs.declared.code.RawCode.{RawCode}
 use Rattle.psm_code.specs.declared.code.RawRoutine.{RawRoutine}
 use Rattle.psm_code.specs.declared.rule.CodeRule.TheVariants.{Range, Definition}
 use Rattle.psm_code.specs.Instructions.{columns_at, variables_of}
-use Rattle.psm_code.specs.PlanRules.{cursor_fault, has_items, has_rows, is_due, item_in, items_in, operand_in, query_faults, set_in, test_in}
+use Rattle.psm_code.specs.PlanRules.{cursor_fault, has_items, has_operand, has_rows, is_due, item_in, items_in, operand_in, query_faults, set_in, test_in}
 use Rattle.psm_code.specs.Rules.{is_some, is_there, there, where_there}
 use Rattle.psm_codegen.specs.declared.known.Known.{Known}
 use Rattle.psm_codegen.specs.Queries.{AggregatesFit, ExprsFit, ItemsFit, Layer, OperandFits, QueryMade, RowTestFits, are_items, is_test_perhaps, is_value_of, letter_of_row_type}
@@ -36,7 +36,7 @@ use Rattle.psm_typing.specs.Queries.{IsQuery}
 use Rattle.psm_typing.specs.TypingContext.{TypingContext}
 use Rattle.psm_codegen_wellformed.proofs.Faultless.{Faultless, faultless-append}
 use Rattle.psm_codegen_wellformed.proofs.QueryLetters.{Knows, made-items}
-use Rattle.psm_codegen_wellformed.proofs.RowLines.{fit-faultless, none_of-two}
+use Rattle.psm_codegen_wellformed.proofs.RowLines.{fit-faultless, none_of-two, none_unless}
 
 -- ---- items
 
@@ -70,6 +70,13 @@ module _ (code : RawCode) (r : RawRoutine) (table : ℕ) where
   operand-faultless f (Some e) None h d = absurd h
   operand-faultless f (Some e) (Some c) h d = fit-faultless Columns Variables (is_due f) c (letter_of_row_type (row_type_of Columns Variables e)) h d
 
+  -- COUNT alone has no operand
+  operand-there : (f : SetFunction) (e : Option ResolvedExpr) (c : Option (List Line)) → OperandFits Columns Variables e c → is_operand Columns Variables f e ≡ true → has_operand f c ≡ true
+  operand-there f None None h d = d
+  operand-there f None (Some c) h d = absurd h
+  operand-there f (Some e) None h d = absurd h
+  operand-there f (Some e) (Some c) h d = refl
+
   sets-faultless : (is : List ResolvedItem) (sets : List Aggregate) → AggregatesFit Columns Variables is sets → list_all (is_set_function Columns Variables) is ≡ true → Faultless (flat_map (set_in code r table) sets)
   sets-faultless [] [] h d = tt
   sets-faultless [] (a ∷ others) h d = absurd h
@@ -78,9 +85,9 @@ module _ (code : RawCode) (r : RawRoutine) (table : ℕ) where
       let item = out-ResolvedItem i in
       let first = is_set_function Columns Variables i in
       let rest = list_all (is_set_function Columns Variables) is in
-      let one : Faultless (operand_in code r table a.function a.operand) =
-      operand-faultless a.function item.operand a.operand h.1 (ap (λ f. is_operand Columns Variables f item.operand) h.0 ∙ and_first first rest d) in
-      (refl, faultless-append (operand_in code r table a.function a.operand) (flat_map (set_in code r table) others) one (sets-faultless is others h.2 (and_second first rest d)))
+      let due : is_operand Columns Variables a.function item.operand ≡ true = ap (λ f. is_operand Columns Variables f item.operand) h.0 ∙ and_first first rest d in
+      let one : Faultless (operand_in code r table a.function a.operand) = operand-faultless a.function item.operand a.operand h.1 due in
+      (none_unless (has_operand a.function a.operand) Definition (operand-there a.function item.operand a.operand h.1 due), faultless-append (operand_in code r table a.function a.operand) (flat_map (set_in code r table) others) one (sets-faultless is others h.2 (and_second first rest d)))
 
   items-faultless : (layer : Layer) (items : Items) → ItemsFit Columns Variables layer items → are_items Columns Variables layer ≡ true → are_well_formed Columns Variables layer ≡ true → Faultless (items_in code r table items)
   items-faultless (layers.Rows es) (coded.Rows cs) h v p = rows-faultless es cs h v

@@ -21,10 +21,11 @@ use Rattle.psm_code.specs.declared.code.RawCode.{RawCode}
 use Rattle.psm_code.specs.declared.code.RawRoutine.{RawRoutine}
 use Rattle.psm_code.specs.declared.lines.CodeLine.{CodeLine}
 use Rattle.psm_code.specs.declared.rule.CodeRule.{CodeRule}
+use Rattle.psm_code.specs.declared.rule.CodeRule.TheVariants.{Definition}
 use Rattle.psm_code.specs.Instructions.{column_letters, columns_at, variables_of}
-use Rattle.psm_code.specs.PlanRules.{cursor_fault, is_column_letter, is_due, item_in, items_in, operand_in, or_none, cursor_table, plan_faults, query_faults, set_faults, set_in, sets_in, test_in}
+use Rattle.psm_code.specs.PlanRules.{cursor_fault, has_operand, is_column_letter, is_due, item_in, items_in, operand_in, or_none, cursor_table, plan_faults, query_faults, set_faults, set_in, sets_in, test_in}
 use Rattle.psm_code.specs.RoutineRules.{code_faults, context_faults, handler_fault, line_faults, parameter_fault, routine_fault, routine_faults, type_fault, declared_fault}
-use Rattle.psm_code.specs.Rules.{each_after}
+use Rattle.psm_code.specs.Rules.{each_after, unless}
 use Rattle.psm_code.specs.TableRules.{column_fault, key_fault, name_fault, expr_faults, expr_line_faults, table_faults, unique_fault}
 use Rattle.psm_object.specs.Expressions.{expression_lines, operation_line, test_lines}
 use Rattle.psm_object.specs.Handlers.{condition_line, context_line, handler_line}
@@ -89,7 +90,7 @@ table_count before t =
 
 -- ---- queries and plans
 
-aggregate_count_by : (code : RawCode) (r : RawRoutine) (table : ℕ) (f : SetFunction) (operand : Option (List Line)) → Alike (function_lines f operand) (None ∷ operand_in code r table f operand)
+aggregate_count_by : (code : RawCode) (r : RawRoutine) (table : ℕ) (f : SetFunction) (operand : Option (List Line)) → Alike (function_lines f operand) (unless (has_operand f operand) Definition ∷ operand_in code r table f operand)
 aggregate_count_by code r table f None = refl
 aggregate_count_by code r table f (Some lines) = ap suc (expression_count (columns_at code table) (variables_of r) (is_due f) lines)
 

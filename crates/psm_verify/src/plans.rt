@@ -7,7 +7,7 @@ ghost use Rattle.psm_verify.specs.Checked.{Finds, checked, item_at};
 ghost use Rattle.psm_verify.specs.Placed.{due_of};
 
 use crate::expressions::{Due, expression};
-use crate::fault::Stop;
+use crate::fault::{CodeFault, Stop};
 use crate::listing::{next, passed};
 use crate::numbers::is_there;
 use crate::verify_context::VerifyContext;
@@ -74,8 +74,15 @@ impl<'a> VerifyContext<'a> {
     fn set(&self, alloc: Global, line: u64, table: usize, set: &Aggregate) -> Result<u64, Stop>
         ensures { Finds (checked line (plans.set_in self.now.code.now self.now.routine.now table set.now)) result }
     {
-        let line = next(line)?;
-        self.operand(alloc, line, table, set.function, &set.operand)
+        if has_operand(set) {
+            let line = next(line)?;
+            self.operand(alloc, line, table, set.function, &set.operand)
+        } else {
+            Err(Stop::Fault(CodeFault {
+                line,
+                rule: CodeRule::Definition,
+            }))
+        }
     }
 
     fn items_of_rows(
@@ -169,6 +176,13 @@ fn has_items(items: &Items) -> bool
         Items::Rows(codes) => !codes.items().is_empty(),
         Items::Sets(sets) => !sets.items().is_empty(),
     }
+}
+
+// COUNT alone counts rows, and so may have no operand.
+fn has_operand(set: &Aggregate) -> bool
+    ensures { result ≡ plans.has_operand set.now.function set.now.operand }
+{
+    set.operand.is_some() || set.function == SetFunction::Count
 }
 
 /// The cursors of a routine.

@@ -10,7 +10,7 @@ use Rattle.psm_resolved.specs.declared.expr.ResolvedItem.{ResolvedItem, out-Reso
 use Rattle.psm_resolved.specs.declared.expr.ResolvedItems.{out-ResolvedItems}
 use Rattle.psm_resolved.specs.declared.expr.ResolvedQuery.{ResolvedQuery, out-ResolvedQuery}
 use Rattle.psm_resolved.specs.RowType.{row_type_of}
-use Rattle.psm_code.specs.PlanRules.{is_due}
+use Rattle.psm_code.specs.PlanRules.{counts_rows, is_due}
 use Rattle.psm_code.specs.Rules.{is_some}
 use Rattle.psm_codegen.specs.declared.known.Known.{Known}
 use Rattle.psm_codegen.specs.Queries.{Layer, is_query, item_letters, letter_of_row_type}
@@ -19,7 +19,7 @@ use Rattle.psm_codegen.specs.Written.{letters_at}
 -- ---- set functions
 
 abbrev pub is_operand : List Letter → List Letter → SetFunction → Option ResolvedExpr → Bool
-is_operand columns variables function None = true
+is_operand columns variables function None = counts_rows function
 is_operand columns variables function (Some e) = is_due function (letter_of_row_type (row_type_of columns variables e))
 
 abbrev pub is_set_function : List Letter → List Letter → ResolvedItem → Bool
