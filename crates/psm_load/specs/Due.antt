@@ -1,0 +1,109 @@
+-- Which lines are due in a text: each line says which stand behind it.
+use Rattle.std.specs.Prelude.{ℕ, suc, Bool, true, false, List, [], ◌∷◌, ◌++◌, replicate, nat_eq, Option, Some, None, if◌then◌else◌}
+use Rattle.psm_words.specs.Reading.{◌>>=◌}
+use Rattle.psm_load.specs.Forms.{ItemHead, PlanHead, QueryHead, TableHead, column_at, condition_at, context_at, first_at, handler_at, item_at, key_at, plan_at, query_at, set_at, table_at, unique_at, Delete, DeleteAt, Function, Insert, InsertQuery, Rows, Update, UpdateAt, Value}
+use Rattle.psm_load.specs.InstructionForms.{code_line_at, operation_line_at}
+use Rattle.psm_load.specs.OperationForms.{expression_at}
+use Rattle.psm_load.specs.RoutineForms.{ControlCounts, DataCounts, RoutineHead, cursor_at, parameter_at, routine_at, slot_at}
+
+pub data Due : Type 0 where
+  First Table Column Key Unique Routine Parameter Slot Query Item Cursor Plan Set Condition Context Handler Line Expression Operation : Due
+
+-- ---- what stands behind a line
+
+abbrev pub behind_first : ℕ × ℕ → List Due
+behind_first (tables, routines) = replicate tables Table ++ replicate routines Routine
+
+abbrev pub behind_table : TableHead → List Due
+behind_table (name, (columns, (uniques, checks))) = replicate columns Column ++ Key ∷ replicate uniques Unique ++ replicate checks Expression
+
+abbrev pub data_due : DataCounts → List Due
+data_due (parameters, (slots, (queries, (cursors, plans)))) =
+    (replicate parameters Parameter ++ replicate slots Slot) ++ (replicate queries Query ++ replicate cursors Cursor ++ replicate plans Plan)
+
+abbrev pub control_due : ControlCounts → List Due
+control_due (conditions, (contexts, (handlers, lines))) = (replicate conditions Condition ++ replicate contexts Context ++ replicate handlers Handler) ++ replicate lines Line
+
+abbrev pub behind_routine : RoutineHead → List Due
+behind_routine (is_function, (name, (kept, (control, returns)))) = data_due kept ++ control_due control
+
+abbrev pub test_due : Bool → List Due
+test_due false = []
+test_due true = Expression ∷ []
+
+abbrev pub behind_query : QueryHead → List Due
+behind_query (table, (downward, (items, has_test))) = replicate items Item ++ test_due has_test
+
+abbrev pub behind_item : ItemHead → List Due
+behind_item Value = Expression ∷ []
+behind_item (Function f) = Expression ∷ []
+behind_item Rows = []
+
+abbrev pub behind_plan : PlanHead → List Due
+behind_plan (Insert table rows column columns) = []
+behind_plan (InsertQuery table query column columns) = []
+behind_plan (Update table sets has_test) = replicate sets Set ++ test_due has_test
+behind_plan (Delete table has_test) = test_due has_test
+behind_plan (UpdateAt cursor sets) = replicate sets Set
+behind_plan (DeleteAt cursor) = []
+
+-- nothing stands behind it
+abbrev pub fits : {A : Type 0} → Option A → Option (List Due)
+fits form = form >>= λ a. Some []
+
+-- the lines that stand behind a line, if it is one of the kind that is due
+abbrev pub behind : Due → List ℕ → Option (List Due)
+behind First l = first_at l >>= λ c. Some (behind_first c)
+behind Table l = table_at l >>= λ t. Some (behind_table t)
+behind Column l = fits (column_at l)
+behind Key l = fits (key_at l)
+behind Unique l = fits (unique_at l)
+behind Routine l = routine_at l >>= λ r. Some (behind_routine r)
+behind Parameter l = fits (parameter_at l)
+behind Slot l = fits (slot_at l)
+behind Query l = query_at l >>= λ q. Some (behind_query q)
+behind Item l = item_at l >>= λ i. Some (behind_item i)
+behind Cursor l = fits (cursor_at l)
+behind Plan l = plan_at l >>= λ p. Some (behind_plan p)
+behind Set l = set_at l >>= λ i. Some (Expression ∷ [])
+behind Condition l = fits (condition_at l)
+behind Context l = fits (context_at l)
+behind Handler l = fits (handler_at l)
+behind Line l = fits (code_line_at l)
+behind Expression l = expression_at l >>= λ m. Some (replicate m Operation)
+behind Operation l = fits (operation_line_at l)
+
+-- ---- the first line that doesn't fit
+
+-- how it goes on after a line
+abbrev pub going_on : ℕ → Option (List Due) → (List Due → Option ℕ) → Option ℕ
+going_on n None others = Some n
+going_on n (Some more) others = others more
+
+-- the number of the first line that isn't the one that is due, or that is missing, counted from n
+abbrev pub misfit : ℕ → List Due → List (List ℕ) → Option ℕ
+misfit n [] [] = None
+misfit n (d ∷ ds) [] = Some n
+misfit n [] (l ∷ ls) = Some n
+misfit n (d ∷ ds) (l ∷ ls) = going_on n (behind d l) (λ more. misfit (suc n) (more ++ ds) ls)
+
+-- the lines of a text that end with a line feed, and what follows the last one
+abbrev pub on_line : ℕ → List (List ℕ) × List ℕ → List (List ℕ) × List ℕ
+on_line c ([], rest) = ([], c ∷ rest)
+on_line c (l ∷ ls, rest) = ((c ∷ l) ∷ ls, rest)
+
+abbrev pub new_line : List (List ℕ) × List ℕ → List (List ℕ) × List ℕ
+new_line x = ([] ∷ x.0, x.1)
+
+abbrev pub lines_in : List ℕ → List (List ℕ) × List ℕ
+lines_in [] = ([], [])
+lines_in (c ∷ s) = if nat_eq c 10 then new_line (lines_in s) else on_line c (lines_in s)
+
+-- a last line without line feed doesn't fit
+abbrev pub misfit_in : List (List ℕ) → List ℕ → Option ℕ
+misfit_in lines [] = misfit 1 (First ∷ []) lines
+misfit_in lines (c ∷ rest) = misfit 1 (First ∷ []) (lines ++ [] ∷ [])
+
+-- the number of the first line by which a text is no listing, if it isn't one
+abbrev pub first_misfit : List ℕ → Option ℕ
+first_misfit text = misfit_in (lines_in text).0 (lines_in text).1
