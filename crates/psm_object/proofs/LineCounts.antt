@@ -11,7 +11,7 @@ use Rattle.psm_exprcode.specs.declared.op.Line.{Line}
 use Rattle.psm_exprcode.specs.declared.query.Query.{Query}
 use Rattle.psm_exprcode.specs.declared.set_item.SetItem.{SetItem}
 use Rattle.psm_exprcode.specs.Kinds.{is_letter, is_value}
-use Rattle.psm_exprcode.specs.declared.op.Letter.TheVariants.{N, B}
+use Rattle.psm_exprcode.specs.declared.op.Letter.TheVariants.{B}
 use Rattle.psm_table.specs.declared.definition.TableDef.{TableDef}
 use Rattle.psm_cond.specs.declared.handlers.Context.{Context}
 use Rattle.psm_code.specs.declared.code.CodeTable.{CodeTable}

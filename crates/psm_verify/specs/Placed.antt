@@ -1,5 +1,5 @@
 -- What is said of the lines of an expression by their places.
-use Rattle.std.specs.Prelude.{ℕ, Bool, false, ◌&&◌, ◌||◌, not, List, length, reverse, slice_get, Option, Some, None}
+use Rattle.std.specs.Prelude.{ℕ, Bool, false, ◌&&◌, ◌||◌, not, nat_lt, List, [], ◌∷◌, length, reverse, slice_get, Option, Some, None}
 use Rattle.psm_exprcode.specs.declared.op.Letter.{Letter}
 use Rattle.psm_exprcode.specs.declared.op.Line.{Line}
 use Rattle.psm_exprcode.specs.declared.op.Op.{Op}
@@ -7,8 +7,9 @@ use Rattle.psm_exprcode.specs.Kinds.{is_letter, is_value, some_letter}
 use Rattle.psm_exprcode.specs.Operations.{effect}
 use Rattle.psm_exprcode.specs.WellFormed.{is_of_kind, left_of}
 use Rattle.psm_code.specs.declared.rule.CodeRule.{CodeRule}
-use Rattle.psm_code.specs.Rules.{there, where_there}
-use Rattle.psm_code.specs.TableRules.{are_stated_after, op_fault, operands_follow, reaches_end}
+use Rattle.psm_code.specs.declared.rule.CodeRule.TheVariants.{Stack, Turn}
+use Rattle.psm_code.specs.Rules.{first_of, there, unless, where_there}
+use Rattle.psm_code.specs.TableRules.{are_stated_after, is_bare_first, op_fault, operands_follow, reaches_end, target_of}
 use Rattle.psm_verify.specs.declared.expressions.Due.{Due}
 use Rattle.psm_verify.specs.declared.expressions.Due.TheVariants.{Value, Only}
 use Rattle.psm_verify.specs.declared.placed.EndTest.{EndTest}
@@ -27,6 +28,12 @@ is_due_end due (Some e) = due e
 -- the operands of an operation follow for a value of that kind where it may be of either
 abbrev pub follows_for : List Letter → List Letter → Option Letter → List Line → ℕ → Op → List Letter → Letter → Bool
 follows_for columns variables end lines at o s k = is_of_kind columns variables o k && some_letter (λ x. are_stated_after end lines at (effect o k x) (left_of (effect o k x).takes s))
+
+-- the rule on operands and on jumps that an operation breaks by itself
+abbrev pub stack_fault : List Letter → List Letter → List Line → ℕ → Op → List Letter → Option CodeRule
+stack_fault columns variables lines at o s = first_of (
+    unless (is_bare_first at s && operands_follow columns variables None lines at o s) Stack
+    ∷ unless (where_there (target_of o) (nat_lt at)) Turn ∷ [])
 
 -- what is asked of an operation that goes on at the end
 abbrev pub test_of : List Letter → List Letter → List Line → EndTest → ℕ → Op → List Letter → Bool

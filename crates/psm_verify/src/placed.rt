@@ -8,7 +8,7 @@ ghost use Rattle.psm_exprcode.specs.WellFormed.{is_of_kind as is_of_known, left_
 ghost use Rattle.psm_code.specs.Rules.{there, where_there};
 ghost use Rattle.psm_code.specs.TableRules as rules;
 ghost use Rattle.psm_verify.specs.Checked.{Finds, checked};
-ghost use Rattle.psm_verify.specs.Placed.{end_at, end_over, fault_at, follows_for as follow_with, test_of};
+ghost use Rattle.psm_verify.specs.Placed.{end_at, end_over, fault_at, follows_for as follow_with, stack_fault, test_of};
 
 use crate::fault::Stop;
 use crate::listing::passed;
@@ -233,7 +233,24 @@ impl<'a> Placed<'a> {
         if !is_within(target_of(op), self.lines.len()) {
             return Ok(Some(CodeRule::Target));
         }
-        if !is_bare_first(at, stack) || !self.follow(alloc, None, at, op, stack)? {
+        self.stack_fault(alloc, at, op, stack)
+    }
+
+    // The same of its operands and of a jump that isn't ahead.
+    fn stack_fault(
+        &self,
+        alloc: Global,
+        at: usize,
+        op: &Op,
+        stack: &[Letter],
+    ) -> Result<Option<CodeRule>, AllocError>
+        requires { at < length self.now.lines.now }
+        ensures { IfOk result (λ fault. fault ≡ stack_fault self.now.columns.now self.now.variables.now self.now.lines.now at op.now stack.now) }
+    {
+        if !is_bare_first(at, stack) {
+            return Ok(Some(CodeRule::Stack));
+        }
+        if !self.follow(alloc, None, at, op, stack)? {
             return Ok(Some(CodeRule::Stack));
         }
         if is_ahead(at, target_of(op)) {
@@ -290,7 +307,10 @@ impl<'a> Placed<'a> {
     {
         match test {
             EndTest::Absent => Ok(false),
-            EndTest::Faultless => Ok(self.op_fault(alloc, at, op, stack)?.is_none()),
+            EndTest::Faultless => match self.op_fault(alloc, at, op, stack)? {
+                None => Ok(true),
+                Some(_) => Ok(false),
+            },
             EndTest::Brings(letter) => self.follow(alloc, Some(letter), at, op, stack),
         }
     }
