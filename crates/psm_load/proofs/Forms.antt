@@ -1,19 +1,19 @@
 -- Lines that count others, and those of handlers, are read as they are written.
-use Rattle.std.proofs.Common.{◌≡◌, ℕ, Bool, true, false, List, [], ◌∷◌, ◌++◌, map, Option, Some, None, refl, sym, ap, subst, ◌∙◌, append_assoc, eqb-true}
+use Rattle.std.proofs.Common.{◌≡◌, ℕ, Bool, true, false, List, [], ◌∷◌, ◌++◌, map, Option, Some, refl, ap, subst, ◌∙◌}
 use Rattle.std.specs.Prelude.{codes, nat_eq, if◌then◌else◌}
 use Rattle.psm_cond.specs.declared.handlers.HandlerKind.{HandlerKind}
 use Rattle.psm_cond.specs.declared.handlers.HandlerKind.TheVariants.{Continue, Exit, Undo}
-use Rattle.psm_words.specs.Words.{number, quoted, state_word, IsStateWord}
+use Rattle.psm_words.specs.Words.{number, quoted}
 use Rattle.psm_words.specs.Reading.{◌>>=◌, after, state_at}
 use Rattle.psm_words.proofs.Several.{after_takes, bind_some, some_is}
 use Rattle.psm_object.specs.Handlers.{handler_kind_word}
-use Rattle.psm_object.specs.Words.{flag, further, spaced}
+use Rattle.psm_object.specs.Words.{flag, spaced}
 use Rattle.psm_load.specs.Forms.{HandlerHead, PlanHead, TableHead, ValueWord, as_named, as_state, classes, handler_at, handler_kinds, index, insert_at, plan_at, plans, table_at, value_at, Delete, DeleteAt, Insert, InsertQuery, Named, NotFound, SqlException, SqlWarning, State, Update, UpdateAt}
 use Rattle.psm_load.specs.Heads.{EachIs, IsHandlerHead, IsIndex, IsName, IsPlanHead, IsTableHead, IsValueWord, expression_head_line, handler_head_line, plan_details, plan_head_line, plan_name, table_head_line, value_head}
 use Rattle.psm_load.specs.OperationForms.{expression_at}
-use Rattle.psm_load.specs.Readers.{both, by_word, chosen, flag_at, index_at, last, line, made, name_at, on, one_of, some, word, LineReader, Reader}
+use Rattle.psm_load.specs.Readers.{both, by_word, chosen, flag_at, index_at, last, made, name_at, on, one_of, some, word}
 use Rattle.psm_load.proofs.Operations.{number_rest}
-use Rattle.psm_load.proofs.Spelled.{◌&◌, begin, ends, field, follow_fields, is_boundary, is_solid, made_after, made_again, next_word, pair, same_line, some_words, table_word, After, Fields, Found, Leads, Rest, Spelled, Written}
+use Rattle.psm_load.proofs.Spelled.{◌&◌, begin, ends, field, follow_fields, is_boundary, is_solid, made_after, made_again, next_word, pair, same_line, some_words, table_word, Fields, Found, Leads, Rest, Spelled, Written}
 use Rattle.psm_load.proofs.Words.{flag_spelled, index_spelled, name_spelled, state_spelled}
 
 -- ---- TABLE and EXPR

@@ -15,7 +15,7 @@ use Rattle.psm_object.specs.Expressions.{operation_details, operation_mnemonic, 
 use Rattle.psm_object.specs.Words.{further}
 use Rattle.psm_load.specs.Heads.{IsIndex, IsOperation}
 use Rattle.psm_load.specs.OperationForms.{constant_at, operations, sides, value_letters, with_number}
-use Rattle.psm_load.specs.Readers.{alone, both, chosen, index_at, last, made, one_of, word, LineReader}
+use Rattle.psm_load.specs.Readers.{alone, both, chosen, index_at, last, made, one_of, word}
 use Rattle.psm_load.proofs.Spelled.{◌&◌, alone_after, ends, field, is_solid, made_after, made_again, pair, table_word, After, Found, Leads, Rest, Spelled}
 use Rattle.psm_load.proofs.Words.{datum_spelled, index_spelled, number_spelled, type_spelled}
 

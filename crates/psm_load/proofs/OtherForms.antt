@@ -1,5 +1,5 @@
 -- The other lines are read as they are written.
-use Rattle.std.proofs.Common.{◌≡◌, ℕ, Bool, true, false, List, [], ◌∷◌, ◌++◌, map, Option, Some, None, refl, sym, ap, subst, ◌∙◌}
+use Rattle.std.proofs.Common.{◌≡◌, ℕ, Bool, true, false, List, [], ◌∷◌, ◌++◌, map, Option, Some, refl, sym, ap, subst, ◌∙◌}
 use Rattle.std.specs.Prelude.{codes}
 use Rattle.psm_value.specs.declared.datum.Datum.{Datum}
 use Rattle.psm_value.specs.declared.sqltype.SqlType.{SqlType}
@@ -21,11 +21,11 @@ use Rattle.psm_object.specs.Tables.{column_line, key_line, unique_line}
 use Rattle.psm_object.specs.Words.{flag, further, spaced}
 use Rattle.psm_load.specs.Forms.{ItemHead, QueryHead, block_of, column_at, column_of, condition_at, context_at, context_kinds, context_of, directions, first_at, functions, index, item_at, items, key_at, query_at, set_at, unique_at, Function, Rows, Value}
 use Rattle.psm_load.specs.Heads.{AreColumns, AreControlCounts, AreDataCounts, ConditionHead, EachIs, IfThere, IsColumn, IsConditionHead, IsContext, IsContextKind, IsCursor, IsIndex, IsName, IsParameter, IsQueryHead, IsRoutineHead, condition_head_line, first_head_line, item_details, item_head_line, item_name, or_dash, query_head_line, routine_head_line}
-use Rattle.psm_load.specs.Readers.{alone, both, by_word, chosen, dash_or, flag_at, index_at, last, line, made, many, name_at, on, one_of, some, word, LineReader, Reader}
+use Rattle.psm_load.specs.Readers.{alone, both, by_word, chosen, dash_or, flag_at, last, made, many, name_at, on, one_of, some, word}
 use Rattle.psm_load.specs.RoutineForms.{ControlCounts, DataCounts, RoutineHead, control_counts_at, cursor_at, cursor_of, data_counts_at, modes, parameter_at, parameter_of, routine_at, routine_kinds, sensitivities, slot_at, updatabilities}
-use Rattle.psm_load.proofs.Forms.{AreThree, AreTwo, flag_field, index_field, name_field, three_fields, three_words, two_fields, two_rest, two_words}
+use Rattle.psm_load.proofs.Forms.{AreThree, AreTwo, flag_field, index_field, name_field, three_fields, three_words, two_rest, two_words}
 use Rattle.psm_load.proofs.Operations.{number_rest}
-use Rattle.psm_load.proofs.Spelled.{◌&◌, all_words, alone_after, begin, convert, ends, field, first_word, follow_fields, is_solid, made_after, made_again, next_word, pair, same_line, some_words, table_word, After, Fields, Found, Leads, Rest, Spelled, Written}
+use Rattle.psm_load.proofs.Spelled.{◌&◌, all_words, alone_after, begin, convert, ends, field, first_word, follow_fields, is_solid, made_after, made_again, next_word, pair, same_line, some_words, table_word, After, Fields, Found, Rest, Spelled, Written}
 use Rattle.psm_load.proofs.Words.{dash_spelled, datum_spelled, name_spelled, quoted_dashless, state_spelled, type_dashless, type_spelled}
 
 -- ---- fields

@@ -5,7 +5,6 @@ use Rattle.std.specs.Char.{is_ascii_digit}
 use Rattle.std.specs.List.{flat_map}
 use Rattle.std.specs.Result.{result_ok}
 use Rattle.std.proofs.lemmas.Fmt.{decimal_digit}
-use Rattle.std.specs.Str.{all_scalars}
 use Rattle.psm_text.specs.declared.fault.NameFault.{NameFault}
 use Rattle.psm_text.specs.declared.fault.NameFault.TheVariants.{Empty, TooLong}
 use Rattle.psm_text.specs.Name.{name_of}
@@ -15,7 +14,7 @@ use Rattle.psm_value.specs.declared.sqltype.SqlType.{SqlType}
 use Rattle.psm_value.specs.declared.sqltype.SqlType.TheVariants as kinds
 use Rattle.psm_exprcode.specs.declared.op.Letter.{Letter}
 use Rattle.psm_words.specs.Words.{character, datum_word, number, quoted, stack_word, state_word, type_word, FitsType, IsDatum, IsStateWord}
-use Rattle.psm_words.specs.Reading.{◌>>=◌, begins_with_digit, begins_with_letter, begins_with_point, datum_at, ends_datum, ends_stack, letter_of, number_at, quoted_at, stack_at, state_at, type_at}
+use Rattle.psm_words.specs.Reading.{◌>>=◌, begins_with_digit, begins_with_letter, begins_with_point, datum_at, ends_datum, ends_stack, number_at, quoted_at, stack_at, state_at, type_at}
 use Rattle.psm_words.proofs.DatumLaws.{datum_again, datum_takes}
 use Rattle.psm_words.proofs.NumberLaws.{number_again, number_takes}
 use Rattle.psm_words.proofs.QuotedLaws.{quoted_again, quoted_takes}

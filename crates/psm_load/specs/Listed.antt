@@ -1,6 +1,6 @@
--- Code whose parts the lines of a listing can say. Code that breaks no rule, and whose numbers have 32 bits, is such code.
+-- Code whose parts the lines of a listing can say: numbers have 32 bits, names, data and types are within bounds, lists of columns have
+-- one, and COUNT alone has no operand. A value of Rust's types is such code where it breaks no rule and no list has 2^32 items.
 use Rattle.std.specs.Prelude.{◌≡◌, ℕ, true, List, [], ◌∷◌, length, map, codes, is_some, Option, Some, None}
-use Rattle.psm_value.specs.declared.sqltype.SqlType.{SqlType}
 use Rattle.psm_cond.specs.declared.handlers.ConditionValue.{ConditionValue}
 use Rattle.psm_cond.specs.declared.handlers.ConditionValue.TheVariants as values
 use Rattle.psm_cond.specs.declared.handlers.Declared.{Declared}
@@ -19,7 +19,7 @@ use Rattle.psm_code.specs.declared.code.Plan.TheVariants as plans
 use Rattle.psm_code.specs.declared.code.RawCode.{RawCode}
 use Rattle.psm_code.specs.declared.code.RawRoutine.{RawRoutine}
 use Rattle.psm_code.specs.PlanRules.{counts_rows}
-use Rattle.psm_words.specs.Words.{FitsType, IsStateWord}
+use Rattle.psm_words.specs.Words.{FitsType}
 use Rattle.psm_load.specs.Forms.{HandlerHead, QueryHead, ValueWord, Named, NotFound, SqlException, SqlWarning, State}
 use Rattle.psm_load.specs.Heads.{AreColumns, ConditionHead, EachIs, IsCodeLine, IsColumn, IsConditionHead, IsContext, IsCursor, IsHandlerHead, IsIndex, IsOperation, IsParameter, IsQueryHead, IsRoutineHead, IsTableHead, table_head}
 use Rattle.psm_load.specs.RoutineForms.{RoutineHead}
