@@ -320,24 +320,24 @@ def calls_of_routines(n):
     return Files(in_module(f"{made}\nPROCEDURE p (OUT r INT) BEGIN {calls} END;"), "CALL p(?);\n", called(n - 1))
 
 
-# The kinds of parameters, each with the variable of calls_that_no_function_fits that has it.
+# The kinds of parameters, each with a variable of the kind. Of the kinds of a first parameter, the argument has a lower kind, which
+# no function has as its first, or is NULL.
 PARAMETERS = [("SMALLINT", "s"), ("INT", "i"), ("NUMERIC", "d"), ("CHAR", "c"), ("VARCHAR(9)", "v")]
-# The kinds of a first parameter, each with a variable of a lower kind, which no function has as its first.
+NUMBERS = PARAMETERS[:3]
 FIRSTS = [("NUMERIC", "i"), ("VARCHAR(9)", "c")]
+NULL_FIRST = [("NUMERIC", "NULL")]
 
 
-@kind(8_000, 36_000)
-def calls_that_no_function_fits(n):
-    """n functions of one name and of 6 or 7 parameters, and n calls that none of them fits exactly"""
-    lists = itertools.chain(*(itertools.product(FIRSTS, *[PARAMETERS] * rest) for rest in (5, 6)))
-    lists = list(itertools.islice(lists, n))
+def one_name(lists):
+    """A function f for each list of parameters, and a call of it with the arguments of the list."""
 
     def function(i):
         listed = ",".join(f"a{at} {type_of}" for at, (type_of, _) in enumerate(lists[i]))
         return f"FUNCTION f ({listed}) RETURNS INT RETURN {i};"
 
+    n = len(lists)
     made = many(n, function)
-    calls = many(n, lambda i: f"SET r = r + f({','.join(variable for _, variable in lists[i])});")
+    calls = many(n, lambda i: f"SET r = r + f({','.join(argument for _, argument in lists[i])});")
     body = f"""PROCEDURE p (OUT r INT) BEGIN
   DECLARE s SMALLINT DEFAULT 1; DECLARE i INT DEFAULT 1; DECLARE d NUMERIC DEFAULT 1;
   DECLARE c CHAR DEFAULT 'a'; DECLARE v VARCHAR(9) DEFAULT 'a';
@@ -345,6 +345,30 @@ def calls_that_no_function_fits(n):
 {calls}
 END;"""
     return Files(in_module(made + "\n" + body), "CALL p(?);\n", called(n * (n - 1) // 2))
+
+
+def first_lists(n, firsts, kinds, lengths):
+    """The first n lists of one of `firsts` and then so many of `kinds`, for each of the lengths."""
+    lists = itertools.chain(*(itertools.product(firsts, *[kinds] * rest) for rest in lengths))
+    return list(itertools.islice(lists, n))
+
+
+@kind(8_000, 36_000)
+def calls_that_no_function_fits(n):
+    """n functions of one name and of 6 or 7 parameters, and n calls that none of them fits exactly"""
+    return one_name(first_lists(n, FIRSTS, PARAMETERS, (5, 6)))
+
+
+@kind(4_000, 16_000)
+def calls_with_ten_numbers(n):
+    """n functions of one name and of ten numbers, and n calls that none of them fits exactly"""
+    return one_name(first_lists(n, FIRSTS[:1], NUMBERS, (9,)))
+
+
+@kind(8_000, 15_000)
+def calls_with_null(n):
+    """n functions of one name and of 7 parameters, each with another list from the second on, and n calls with NULL before it"""
+    return one_name(first_lists(n, NULL_FIRST, PARAMETERS, (6,)))
 
 
 @kind(8_000, 300_000, runs=True)
