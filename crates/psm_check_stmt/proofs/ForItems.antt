@@ -2,7 +2,7 @@
 use Rattle.std.proofs.Common.{◌≡◌, ℕ, ◌<◌, ◌+◌, suc, true, List, [], ◌∷◌, length, get_or, drop, Option, Some, None, map, option_map, refl, ap, sym, ◌∙◌, add-one, zero, arith}
 use Rattle.std.specs.Prelude.{slice_get}
 use Rattle.psm_scope.specs.Rows.{columns_known}
-use Rattle.psm_scope.proofs.Calls.{dropped}
+use Rattle.psm_scope.proofs.Lists.{dropped}
 use Rattle.psm_value.specs.declared.sqltype.SqlType.{SqlType}
 use Rattle.psm_scope.specs.Scopes.{Spelling}
 use Rattle.psm_scope.specs.KeptScopes.{can_declare_here, declared_here, redeclared}

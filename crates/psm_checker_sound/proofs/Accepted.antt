@@ -5,7 +5,7 @@ use Rattle.std.specs.List.{list_all}
 use Rattle.psm_list.specs.Several.{several_map}
 use Rattle.psm_token.specs.declared.place.Place.{Place}
 use Rattle.psm_value.specs.declared.sqltype.SqlType.{SqlType}
-use Rattle.psm_scope.proofs.Calls.{both}
+use Rattle.psm_scope.proofs.Lists.{both}
 use Rattle.psm_scope.specs.Scopes.{Spelling}
 use Rattle.psm_scope.specs.Lookup as lookup
 use Rattle.psm_scope.specs.Lookup.{RowTable, as_column, as_variable, column_meant, is_table, meant, or_else, index_named}

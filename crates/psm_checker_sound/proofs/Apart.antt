@@ -7,7 +7,7 @@ use Rattle.std.proofs.lemmas.Bool.Decides.{nat_tests}
 use Rattle.std.proofs.lemmas.List.{length-map, map-append}
 use Rattle.psm_value.specs.declared.sqltype.SqlType.{SqlType}
 use Rattle.psm_value.specs.declared.sqltype.SqlType.TheVariants as types
-use Rattle.psm_scope.proofs.Linked.{spelled_back}
+use Rattle.psm_scope.proofs.Found.{spelled_back}
 use Rattle.psm_scope.specs.Choice as choice
 use Rattle.psm_scope.specs.Scopes.{is_spelled}
 use Rattle.psm_scope.specs.KindNumbers.{is_kind}

@@ -10,7 +10,7 @@ use Rattle.psm_exprcode.specs.declared.op.Letter.{Letter}
 use Rattle.psm_exprcode.specs.declared.op.Letter.TheVariants.{B}
 use Rattle.psm_exprcode.specs.Kinds.{is_value, letter_of}
 use Rattle.psm_exprcode.specs.WellFormed.{is_type}
-use Rattle.psm_scope.proofs.Calls.{both}
+use Rattle.psm_scope.proofs.Lists.{both}
 use Rattle.psm_scope.specs.Choice as choice
 use Rattle.psm_scope.specs.Choice.{all_go, goes_to, kind_of}
 use Rattle.psm_scope.specs.Exact.{is_typed}

@@ -4,7 +4,7 @@ use Rattle.std.specs.Prelude.{Result, Ok, IsTrue, if◌then◌else◌, slice_get
 use Rattle.std.specs.List.{list_all}
 use Rattle.psm_value.specs.declared.sqltype.SqlType.{SqlType}
 use Rattle.psm_exprcode.specs.WellFormed.{is_type}
-use Rattle.psm_scope.proofs.Calls.{both}
+use Rattle.psm_scope.proofs.Lists.{both}
 use Rattle.psm_scope.specs.declared.kinds.ArgKind.{ArgKind}
 use Rattle.psm_scope.specs.declared.kinds.ArgKind.TheVariants.{SmallInt, Integer, Numeric, Char, VarChar, Null}
 use Rattle.psm_scope.specs.Choice.{Signature, Candidate, all_go, candidates, chosen, is_candidate, kind_of, lowest, narrowed, narrowed_by, only, rank_in}

@@ -14,7 +14,7 @@ use Rattle.psm_value.specs.declared.sqltype.SqlType.{SqlType}
 use Rattle.psm_value.proofs.Stable.{stored-again}
 use Rattle.psm_exprcode.specs.WellFormed.{is_type}
 use Rattle.psm_exprcode.proofs.Types.{within_is}
-use Rattle.psm_scope.proofs.Linked.{spelled_back}
+use Rattle.psm_scope.proofs.Found.{spelled_back}
 use Rattle.psm_scope.specs.Scopes.{Spelling, is_spelled}
 use Rattle.psm_rules.specs.declared.rule.Rule.TheVariants as rule
 use Rattle.psm_rules.specs.ExprFaults.{type_fault}

@@ -3,7 +3,7 @@ use Rattle.std.proofs.Common.{◌≡◌, ℕ, Bool, true, not, List, [], ◌∷�
 use Rattle.std.specs.List.{list_all}
 use Rattle.std.specs.Prelude.{IfSome, IsTrue}
 use Rattle.psm_scope.specs.Rows.{columns_known}
-use Rattle.psm_scope.proofs.Calls.{both}
+use Rattle.psm_scope.proofs.Lists.{both}
 use Rattle.psm_value.specs.declared.sqltype.SqlType.{SqlType}
 use Rattle.psm_scope.specs.Scopes.{Spelling}
 use Rattle.psm_scope.specs.Lookup.{RowTable, named}

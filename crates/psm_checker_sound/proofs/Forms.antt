@@ -12,7 +12,7 @@ use Rattle.psm_exprcode.specs.declared.op.Letter.{Letter}
 use Rattle.psm_exprcode.specs.declared.op.Letter.TheVariants.{T, B}
 use Rattle.psm_exprcode.specs.Kinds.{is_value, letter_of}
 use Rattle.psm_exprcode.specs.WellFormed.{is_type}
-use Rattle.psm_scope.proofs.Calls.{both}
+use Rattle.psm_scope.proofs.Lists.{both}
 use Rattle.psm_scope.specs.Lookup.{as_variable}
 use Rattle.psm_scope.specs.declared.kinds.ArgKind.TheVariants as kind
 use Rattle.psm_scope.specs.declared.known.Variable.{Variable}

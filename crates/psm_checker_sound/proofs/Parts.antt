@@ -5,7 +5,7 @@ use Rattle.std.specs.List.{list_all}
 use Rattle.psm_token.specs.declared.place.Place.{Place}
 use Rattle.psm_exprcode.specs.declared.op.Letter.TheVariants.{B}
 use Rattle.psm_exprcode.specs.Kinds.{is_value}
-use Rattle.psm_scope.proofs.Calls.{both}
+use Rattle.psm_scope.proofs.Lists.{both}
 use Rattle.psm_scope.specs.Exact.{is_typed}
 use Rattle.psm_rules.specs.declared.fault.Fault.{Fault}
 use Rattle.psm_rules.specs.declared.rule.Rule.{Rule}

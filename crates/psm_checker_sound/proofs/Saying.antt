@@ -7,7 +7,7 @@ use Rattle.psm_token.specs.declared.token.Placed.{Placed}
 use Rattle.psm_grammar.specs.Language.{Words, Lang, Test, Many}
 use Rattle.psm_grammar.specs.Grammar.{lang, level, next, nothing, seq, or, ahead, many, image}
 use Rattle.psm_grammar.specs.Forms.{optional, after_token, before_token}
-use Rattle.psm_scope.proofs.Calls.{both}
+use Rattle.psm_scope.proofs.Lists.{both}
 use Rattle.psm_tree.specs.Parts.{Part, Enclosed, Arguments, ExistsRest, CaseRest, CastRest, CoalesceRest, NullIfRest, FunctionRest, PositionRest, SubstringRest, TrimRest, BeginRest, LoopRest, WhileRest, RepeatRest, ForRest, IfRest, CaseStatementRest, HandlerRest, BodyRest, DeclareRest, Body, Branches, NamedRest, Variables, Condition, Cursor, Declared, Named, Handled, V}
 use Rattle.psm_tree.specs.ExprGrammar.{Gram, within_parens}
 use Rattle.psm_tree.specs.ExprValues as values

@@ -17,7 +17,7 @@ use Rattle.psm_token.specs.Numbers.{literal_at}
 use Rattle.psm_token.specs.Spells.{At, Piece, Pieces, Spells, at_start}
 use Rattle.psm_grammar.specs.Grammar.{Spells as Derives}
 use Rattle.psm_grammar.specs.Language.{Words, toks}
-use Rattle.psm_scope.proofs.Calls.{both}
+use Rattle.psm_scope.proofs.Lists.{both}
 use Rattle.psm_tree.specs.FileGrammar.{file, script}
 use Rattle.psm_tree.specs.Productions.{productions}
 use Rattle.psm_tree.specs.Reading.{ReadsAll}

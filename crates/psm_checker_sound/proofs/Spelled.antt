@@ -9,7 +9,7 @@ use Rattle.psm_token.specs.declared.token.Token.TheVariants as tokens
 use Rattle.psm_grammar.specs.Language.{Test}
 use Rattle.psm_grammar.specs.Grammar.{token, seq, many}
 use Rattle.psm_grammar.specs.Forms.{optional, after_token}
-use Rattle.psm_scope.proofs.Calls.{both}
+use Rattle.psm_scope.proofs.Lists.{both}
 use Rattle.psm_tree.specs.Tests.{number, number_of}
 use Rattle.psm_tree.specs.ExprGrammar
 use Rattle.psm_tree.specs.ExprGrammar.{Gram, within_parens}

@@ -5,7 +5,7 @@ use Rattle.std.specs.List.{list_all}
 use Rattle.psm_list.specs.Several.{Several}
 use Rattle.psm_token.specs.declared.place.Place.{Place}
 use Rattle.psm_grammar.specs.Forms.{optional}
-use Rattle.psm_scope.proofs.Calls.{both}
+use Rattle.psm_scope.proofs.Lists.{both}
 use Rattle.psm_tree.specs.StatementValues as values
 use Rattle.psm_tree.specs.declared.expr.Expr.{Expr}
 use Rattle.psm_tree.specs.declared.expr.Pick.{Pick}

@@ -8,7 +8,7 @@ use Rattle.psm_list.specs.Several.{Several}
 use Rattle.psm_value.specs.declared.sqltype.SqlType.{SqlType}
 use Rattle.psm_exprcode.specs.declared.op.Letter.{Letter}
 use Rattle.psm_exprcode.specs.Kinds.{letter_of}
-use Rattle.psm_scope.proofs.Calls.{both}
+use Rattle.psm_scope.proofs.Lists.{both}
 use Rattle.psm_scope.specs.Scopes.{Spelling, is_spelled}
 use Rattle.psm_scope.specs.Lookup as lookup
 use Rattle.psm_rules.specs.declared.fault.Fault.{Fault}

@@ -6,7 +6,7 @@ use Rattle.psm_list.specs.Several.{Several}
 use Rattle.psm_value.specs.declared.sqltype.SqlType.{SqlType}
 use Rattle.psm_exprcode.specs.declared.op.Letter.TheVariants.{B}
 use Rattle.psm_scope.specs.Rows.{columns_known}
-use Rattle.psm_scope.proofs.Calls.{both}
+use Rattle.psm_scope.proofs.Lists.{both}
 use Rattle.psm_scope.specs.Lookup.{RowTable, named}
 use Rattle.psm_rules.specs.declared.fault.Fault.{Fault}
 use Rattle.psm_rules.specs.declared.checked.Checked.{Checked}

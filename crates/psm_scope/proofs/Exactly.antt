@@ -16,7 +16,7 @@ use Rattle.psm_scope.specs.Choice.{Candidate, Signature, all_go, candidates, cho
 use Rattle.psm_scope.specs.Exact.{exact, is_typed}
 use Rattle.psm_scope.specs.KindNumbers.{is_kind, kind_number}
 use Rattle.psm_scope.specs.Pass.{added, joined, order, order_in}
-use Rattle.psm_scope.proofs.Calls.{both}
+use Rattle.psm_scope.proofs.Lists.{both}
 use Rattle.psm_scope.proofs.Narrowing.{Each, narrowed_more, narrowed_none}
 
 -- ---- kinds are told apart by their numbers

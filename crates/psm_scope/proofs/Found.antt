@@ -16,14 +16,33 @@ use Rattle.psm_scope.specs.Exact.{choice_of, exact, exact_of, is_exact, is_typed
 use Rattle.psm_scope.specs.KindNumbers.{is_kind}
 use Rattle.psm_scope.specs.Keys.{same_function}
 use Rattle.psm_scope.specs.Signatures.{IsFound, signature_of}
-use Rattle.psm_scope.proofs.Calls.{both}
 use Rattle.psm_scope.proofs.Exactly.{are_kinds-Decides, chosen_exactly}
-use Rattle.psm_scope.proofs.Linked.{length_map, map_last, spelled_back}
+use Rattle.psm_scope.proofs.Lists.{both}
+
+-- ---- a list with one item more
+
+pub map_last : {A B : Type 0} (f : A → B) (xs : List A) (x : A) → map f (xs ++ x ∷ []) ≡ map f xs ++ f x ∷ []
+map_last f [] x = refl
+map_last f (y ∷ ys) x = ap (λ l. f y ∷ l) (map_last f ys x)
+
+pub length_last : {A : Type 0} (xs : List A) (x : A) → length (xs ++ x ∷ []) ≡ suc (length xs)
+length_last [] x = refl
+length_last (y ∷ ys) x = ap suc (length_last ys x)
+
+pub length_map : {A B : Type 0} (f : A → B) (xs : List A) → length (map f xs) ≡ length xs
+length_map f [] = refl
+length_map f (x ∷ xs) = ap suc (length_map f xs)
+
+pub spelled_back : (a b : List ℕ) → pointwise nat_eq a b ≡ pointwise nat_eq b a
+spelled_back a b = same_from_decides (pointwise nat_eq a b) (pointwise nat_eq b a) (bytes_eq-Decides a b) (
+  λ e. sym ((bytes_eq-Decides b a).0 e),
+  λ e. (bytes_eq-Decides b a).1 (sym e),
+)
 
 -- ---- one function more
 
 -- a candidate, or none
-abbrev one_if : Bool → Candidate → List Candidate
+abbrev pub one_if : Bool → Candidate → List Candidate
 one_if true c = c ∷ []
 one_if false c = []
 
@@ -53,7 +72,7 @@ of_last [] c = refl
 of_last (d ∷ []) c = refl
 of_last (d ∷ e ∷ cs) c = refl
 
-none_last : (cs : List Candidate) → cs ++ [] ≡ cs
+pub none_last : (cs : List Candidate) → cs ++ [] ≡ cs
 none_last [] = refl
 none_last (c ∷ cs) = ap (λ l. c ∷ l) (none_last cs)
 

@@ -9,7 +9,7 @@ use Rattle.psm_scope.specs.Scopes.{Spelling, Scope, Routine, Compound, Loop, For
 use Rattle.psm_scope.specs.Lookup.{condition, cursor, is_called, labels, named, or_else, sees_past, variable, variables_called}
 use Rattle.std.specs.Option.{option_map}
 use Rattle.psm_scope.specs.KeptScopes.{Declares, Part, can_declare_here, is_action, labelled, level}
-use Rattle.psm_scope.proofs.Calls.{dropped}
+use Rattle.psm_scope.proofs.Lists.{dropped}
 
 -- the scope at a depth
 pub inside : {A : Type 0} (xs view : List A) (k : ℕ) (x : A) → reverse xs ≡ view → k < length view → x ≡ get_or xs (length xs - 1 - k) x → slice_get view k ≡ Some x

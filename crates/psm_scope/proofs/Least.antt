@@ -14,7 +14,7 @@ use Rattle.psm_scope.proofs.Narrowing.{Each, all_least, above_least, each_map, l
 
 -- ---- filters
 
-filter_same : (p q : Candidate → Bool) (cs : List Candidate) → Each (λ c. p c ≡ q c) cs → filter p cs ≡ filter q cs
+pub filter_same : (p q : Candidate → Bool) (cs : List Candidate) → Each (λ c. p c ≡ q c) cs → filter p cs ≡ filter q cs
 filter_same p q [] e = refl
 filter_same p q (c ∷ cs) e = λ i. if e.0 i then c ∷ filter_same p q cs e.1 i else filter_same p q cs e.1 i
 
@@ -22,7 +22,7 @@ all_same : (p q : Candidate → Bool) (cs : List Candidate) → Each (λ c. p c 
 all_same p q [] e = refl
 all_same p q (c ∷ cs) e = λ i. e.0 i && all_same p q cs e.1 i
 
-filter_filter : (p q : Candidate → Bool) (cs : List Candidate) → filter p (filter q cs) ≡ filter (λ c. q c && p c) cs
+pub filter_filter : (p q : Candidate → Bool) (cs : List Candidate) → filter p (filter q cs) ≡ filter (λ c. q c && p c) cs
 filter_filter p q [] = refl
 filter_filter p q (c ∷ cs) = by (q c) (filter_filter p q cs)
   where
@@ -54,7 +54,7 @@ all_kept : (cs : List Candidate) → list_all (λ d. true) cs ≡ true
 all_kept [] = refl
 all_kept (c ∷ cs) = all_kept cs
 
-kept : (cs : List Candidate) → filter (λ c. true) cs ≡ cs
+pub kept : (cs : List Candidate) → filter (λ c. true) cs ≡ cs
 kept [] = refl
 kept (c ∷ cs) = ap (λ l. c ∷ l) (kept cs)
 

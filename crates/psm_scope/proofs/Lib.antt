@@ -1,9 +1,13 @@
-pub mod Calls
 pub mod Exactly
 pub mod Found
+pub mod Grouped
 pub mod Headed
 pub mod Inward
 pub mod Least
-pub mod Linked
+pub mod Lists
+pub mod Merged
 pub mod Named
+pub mod Narrowed
 pub mod Narrowing
+pub mod Places
+pub mod Sets

@@ -18,11 +18,11 @@ abbrev pub Each : (Candidate → Type 0) → List Candidate → Type 0
 Each P [] = Unit {0}
 Each P (c ∷ cs) = P c × Each P cs
 
-each_one : (P : Candidate → Type 0) (c : Candidate) (cs : List Candidate) (b : Bool) → (b ≡ true → P c) → Each P cs → Each P (if b then c ∷ cs else cs)
+pub each_one : (P : Candidate → Type 0) (c : Candidate) (cs : List Candidate) (b : Bool) → (b ≡ true → P c) → Each P cs → Each P (if b then c ∷ cs else cs)
 each_one P c cs true p e = (p refl, e)
 each_one P c cs false p e = e
 
-each_kept : (P Q : Candidate → Type 0) (p : Candidate → Bool) → ((c : Candidate) → Q c → p c ≡ true → P c) → (cs : List Candidate) → Each Q cs → Each P (filter p cs)
+pub each_kept : (P Q : Candidate → Type 0) (p : Candidate → Bool) → ((c : Candidate) → Q c → p c ≡ true → P c) → (cs : List Candidate) → Each Q cs → Each P (filter p cs)
 each_kept P Q p h [] e = tt
 each_kept P Q p h (c ∷ cs) e = each_one P c (filter p cs) (p c) (λ is. h c e.0 is) (each_kept P Q p h cs e.1)
 
@@ -36,7 +36,7 @@ abbrev pub least : ℕ → List Candidate → ℕ
 least place [] = 2
 least place (c ∷ cs) = min (rank_in place c) (least place cs)
 
-rank_small : (k : ArgKind) → rank k ≤ 2
+pub rank_small : (k : ArgKind) → rank k ≤ 2
 rank_small SmallInt = omega arith
 rank_small Integer = omega arith
 rank_small Numeric = omega arith
@@ -113,7 +113,7 @@ lowest_more place c cs =
 each_lowest : (P : Candidate → Type 0) (place : ℕ) (cs : List Candidate) → Each P cs → Each P (lowest place cs)
 each_lowest P place cs e = each_kept P P (λ c. list_all (λ d. nat_le (rank_in place c) (rank_in place d)) cs) (λ c p is. p) cs e
 
-each_narrowed : (P : Candidate → Type 0) (place : ℕ) (args : List ArgKind) (cs : List Candidate) → Each P cs → Each P (narrowed place args cs)
+pub each_narrowed : (P : Candidate → Type 0) (place : ℕ) (args : List ArgKind) (cs : List Candidate) → Each P cs → Each P (narrowed place args cs)
 each_narrowed P place [] cs e = e
 each_narrowed P place (Null ∷ others) cs e = each_narrowed P (suc place) others cs e
 each_narrowed P place (a ∷ others) cs e = each_narrowed P (suc place) others (lowest place cs) (each_lowest P place cs e)

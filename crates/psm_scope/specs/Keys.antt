@@ -2,22 +2,13 @@
 use Rattle.std.specs.Prelude.{Bool, ◌&&◌, nat_eq}
 use Rattle.std.specs.Cmp.Lexicographic.{pointwise}
 use Rattle.std.specs.Cow.{cow_slice_items}
-use Rattle.psm_scope.specs.declared.key.CallForm.{CallForm}
 use Rattle.psm_scope.specs.declared.key.CallKey.{CallKey}
-use Rattle.psm_scope.specs.declared.key.FormKey.{FormKey}
 use Rattle.psm_scope.specs.declared.key.FunctionKey.{FunctionKey}
 use Rattle.psm_scope.specs.KindNumbers.{is_kind}
-
-abbrev pub same_form : CallForm → CallForm → Bool
-same_form a b = nat_eq a.count b.count && nat_eq a.shape b.shape
 
 -- two keys are the same call
 abbrev pub same_call : CallKey → CallKey → Bool
 same_call a b = pointwise nat_eq a.name.name.now b.name.name.now && nat_eq a.count b.count
-
--- two keys are the same call in one form
-abbrev pub same_formed : FormKey → FormKey → Bool
-same_formed a b = pointwise nat_eq a.name.name.now b.name.name.now && same_form a.form b.form
 
 -- two keys are the same name and kinds
 abbrev pub same_function : FunctionKey → FunctionKey → Bool

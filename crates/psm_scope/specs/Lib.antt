@@ -1,3 +1,4 @@
+pub mod Blocks
 pub mod Choice
 pub mod Exact
 pub mod Scopes
@@ -10,5 +11,4 @@ pub mod Procedures
 pub mod Routines
 pub mod Rows
 pub mod KeptScopes
-pub mod Shapes
 pub mod Signatures

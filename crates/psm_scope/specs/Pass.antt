@@ -1,5 +1,5 @@
 -- One pass over the candidates of a call. Those that stay are the least in one order.
-use Rattle.std.specs.Prelude.{◌≡◌, ℕ, suc, Bool, true, false, not, length, slice_index_or, List, [], ◌∷◌, Option, Some, None}
+use Rattle.std.specs.Prelude.{◌≡◌, ℕ, suc, Bool, true, false, not, length, slice_index_or, List, [], ◌∷◌, ◌++◌, Option, Some, None}
 use Rattle.std.specs.List.{filter, list_all}
 use Rattle.std.specs.Ordering.{nat_cmp, ordering_then}
 use Rattle.std.specs.declared.cmp.Ordering.{Ordering}
@@ -37,6 +37,18 @@ joined Greater c cs = cs
 abbrev pub added : ℕ → List ArgKind → Candidate → List Candidate → List Candidate
 added place args c [] = c ∷ []
 added place args c (b ∷ more) = joined (order place args c.1 b.1) c (b ∷ more)
+
+-- what stays of two lists of candidates that are alike, by the order of the second beside the first
+abbrev pub stays : Ordering → List Candidate → List Candidate → List Candidate
+stays Less bs cs = cs
+stays Equal bs cs = bs ++ cs
+stays Greater bs cs = bs
+
+-- what stays of candidates that are alike and of others that come after them
+abbrev pub merged : ℕ → List ArgKind → List Candidate → List Candidate → List Candidate
+merged place args [] cs = cs
+merged place args (b ∷ bs) [] = b ∷ bs
+merged place args (b ∷ bs) (c ∷ cs) = stays (order place args c.1 b.1) (b ∷ bs) (c ∷ cs)
 
 -- ---- what the pass keeps of them: the first, and whether there is another one
 

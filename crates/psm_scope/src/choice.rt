@@ -1,11 +1,12 @@
 //! The choice of the function that a call means.
-ghost use Rattle.std.specs.Prelude.{◌≡◌, ◌<◌, length, IfSome, List as Seq};
+ghost use Rattle.std.specs.Prelude.{◌≡◌, length, IfSome, List as Seq};
 ghost use Rattle.std.specs.List.{list_all};
-ghost use Rattle.psm_scope.specs.Choice.{Candidate, all_go, chosen, goes_to, is_number as number, is_text as text, only};
+ghost use Rattle.psm_scope.specs.Choice.{Candidate, chosen, only};
 ghost use Rattle.psm_scope.specs.Exact.{is_typed};
-ghost use Rattle.psm_scope.specs.Pass.{IsAsLong, Sees, added, order, order_in};
+ghost use Rattle.psm_scope.specs.Pass.{IsAsLong, Sees, merged, order, order_in};
 
 use crate::fault::ChoiceFault;
+use crate::index::Exact;
 use crate::kinds::ArgKind;
 use crate::signatures::Signatures;
 use psm_text::Name;
@@ -24,8 +25,8 @@ struct Best<'a> {
 /// the parameter's: upwards in SMALLINT, INTEGER, NUMERIC; upwards in CHAR, VARCHAR; NULL goes to all. For each argument that isn't
 /// NULL, from the left, the candidates with the lowest kind of parameter stay. `NoRoutine` comes exactly where there is no candidate,
 /// and `Ambiguous` exactly where more than one stays. It takes no memory. Where no argument is NULL, a function with exactly the
-/// arguments' kinds is found at once. Else only functions of that name and number of parameters are looked at, each once, and
-/// where no argument is NULL only those whose parameters have the arguments' shape: numbers for numbers, texts for texts.
+/// arguments' kinds is found at once. Else the functions of that name and number of parameters are looked at, 64 at a time: for each
+/// 64 of them the time is that of so many steps as there are arguments.
 pub fn choose_routine(
     routines: &Signatures,
     name: &Name,
@@ -72,19 +73,20 @@ fn is_typed(kind: ArgKind) -> bool
     }
 }
 
-// The choice among all functions of that name and number of parameters, and of the arguments' shape where none is NULL.
+// The choice among the functions of that name and number of parameters, block by block.
 fn best_routine(routines: &Signatures, name: &Name, kinds: &[ArgKind]) -> Result<u32, ChoiceFault>
     ensures { result ≡ chosen routines.now name.now kinds.now }
 {
-    let alike = are_typed(kinds);
+    let group = match routines.group(name, kinds.len()) {
+        None => return Err(ChoiceFault::NoRoutine),
+        Some(group) => group,
+    };
     let mut best = None;
-    let mut at = routines.last(name, kinds, alike);
-    while let Some(number) = at {
-        let parameters = routines.kinds(number);
-        if all_go(kinds, parameters) {
-            best = Some(better(best, number, parameters, kinds));
+    for block in group.blocks() {
+        if let Some(found) = block.best(kinds) {
+            let parameters = routines.kinds(found.number);
+            best = Some(better(best, found, parameters, kinds));
         }
-        at = routines.earlier(number, alike);
     }
     only(best)
 }
@@ -105,30 +107,30 @@ fn only(best: Option<Best>) -> Result<u32, ChoiceFault>
     }
 }
 
-// The best of those so far and one more candidate.
+// The best of those so far and of those found after them, of which the first has the kinds.
 fn better<'a>(
     best: Option<Best<'a>>,
-    number: u32,
+    found: Exact,
     kinds: &'a [ArgKind],
     args: &[ArgKind],
 ) -> Best<'a>
     requires kinds { length kinds.now ≡ length args.now }
     requires best { IsAsLong (length args.now) best }
-    ensures seen { (cs : Seq Candidate) → Sees best.entry cs → Sees (Some result) (added 0 args.now (number, kinds.now) cs) }
+    ensures seen { (bs cs : Seq Candidate) → Sees best.entry bs → Sees (Some (record { number = found.number; kinds = kinds.entry; tied = found.tied })) cs → Sees (Some result) (merged 0 args.now bs cs) }
     ensures long { length result.kinds.now ≡ length args.now }
 {
     let alone = Best {
-        number,
+        number: found.number,
         kinds,
-        tied: false,
+        tied: found.tied,
     };
     match best {
         None => alone,
         Some(best) => match order(args, kinds, best.kinds) {
             Ordering::Less => alone,
             Ordering::Equal => Best {
-                number,
-                kinds,
+                number: best.number,
+                kinds: best.kinds,
                 tied: true,
             },
             Ordering::Greater => best,
@@ -151,33 +153,6 @@ fn order(args: &[ArgKind], kinds: &[ArgKind], others: &[ArgKind]) -> Ordering
     Ordering::Equal
 }
 
-// Whether the arguments go to the parameters, one for one.
-fn all_go(args: &[ArgKind], kinds: &[ArgKind]) -> bool
-    requires { length kinds.now ≡ length args.now }
-    ensures { result ≡ all_go args.now kinds.now }
-{
-    for (place, arg) in args.iter().enumerate() {
-        if !goes_to(*arg, kinds[place]) {
-            return false;
-        }
-    }
-    true
-}
-
-// Whether an argument of a kind goes to a parameter.
-fn goes_to(arg: ArgKind, parameter: ArgKind) -> bool
-    ensures { result ≡ goes_to arg parameter }
-{
-    match arg {
-        ArgKind::SmallInt => is_number(parameter),
-        ArgKind::Integer => is_number(parameter) && parameter.rank() >= 1,
-        ArgKind::Numeric => is_number(parameter) && parameter.rank() >= 2,
-        ArgKind::Char => is_text(parameter),
-        ArgKind::VarChar => is_text(parameter) && parameter.rank() >= 1,
-        ArgKind::Null => true,
-    }
-}
-
 fn order_in(arg: ArgKind, kind: ArgKind, other: ArgKind) -> Ordering
     ensures { result ≡ order_in arg kind other }
 {
@@ -188,23 +163,5 @@ fn order_in(arg: ArgKind, kind: ArgKind, other: ArgKind) -> Ordering
         | ArgKind::Numeric
         | ArgKind::Char
         | ArgKind::VarChar => kind.rank().cmp(&other.rank()),
-    }
-}
-
-fn is_number(kind: ArgKind) -> bool
-    ensures { result ≡ number kind }
-{
-    match kind {
-        ArgKind::SmallInt | ArgKind::Integer | ArgKind::Numeric => true,
-        ArgKind::Char | ArgKind::VarChar | ArgKind::Null => false,
-    }
-}
-
-fn is_text(kind: ArgKind) -> bool
-    ensures { result ≡ text kind }
-{
-    match kind {
-        ArgKind::Char | ArgKind::VarChar => true,
-        ArgKind::SmallInt | ArgKind::Integer | ArgKind::Numeric | ArgKind::Null => false,
     }
 }

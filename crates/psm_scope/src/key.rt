@@ -16,25 +16,11 @@ pub struct NameKey<'a> {
     pub name: &'a Name,
 }
 
-/// How many arguments a call has, and their shape if that is asked for, else 0.
-#[derive(Clone, Copy, Debug, PartialEq, Eq, Hash)]
-pub struct CallForm {
-    pub count: usize,
-    pub shape: u64,
-}
-
 /// The name and the number of arguments of a call, as a key of a map.
 #[derive(Clone, Copy, Debug, PartialEq, Eq, Hash)]
 pub struct CallKey<'a> {
     pub name: NameKey<'a>,
     pub count: usize,
-}
-
-/// The name and the form of a call, as a key of a map.
-#[derive(Clone, Copy, Debug, PartialEq, Eq, Hash)]
-pub struct FormKey<'a> {
-    pub name: NameKey<'a>,
-    pub form: CallForm,
 }
 
 /// The name of a function and the kinds of its parameters, as a key of a map. The kinds are lent to look for one.

@@ -1,6 +1,7 @@
 //! What names mean: in the scopes around a statement, in the table of a row expression, and as the function of a call.
 #![tactic(auto)]
 
+mod blocks;
 mod choice;
 mod fault;
 mod functions;
@@ -14,7 +15,6 @@ mod procedures;
 mod row;
 mod scope;
 mod scopes;
-mod shape;
 mod signatures;
 
 pub use choice::choose_routine;

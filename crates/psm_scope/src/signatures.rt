@@ -1,16 +1,16 @@
 //! The functions that can be called.
-ghost use Rattle.std.specs.Prelude.{◌≡◌, ◌<◌, ◌++◌, [], ◌∷◌, length, IfSome, Some, slice_get, IfOk, OnOk, OnErr};
-ghost use Rattle.std.specs.Option.{option_map};
+ghost use Rattle.std.specs.Prelude.{◌≡◌, ◌<◌, ◌++◌, [], ◌∷◌, length, Some, slice_get, IfOk, OnOk, OnErr};
+ghost use Rattle.std.specs.Option.{option_copied, option_map};
 ghost use Rattle.std.specs.Cow.{cow_slice_items};
+ghost use Rattle.psm_scope.specs.Blocks.{IsGroup};
 ghost use Rattle.psm_scope.specs.Choice.{Signature};
 ghost use Rattle.psm_scope.specs.Exact.{exact, exact_of};
-ghost use Rattle.psm_scope.specs.Shapes.{form_of};
-ghost use Rattle.psm_scope.specs.Signatures.{last_below};
+ghost use Rattle.psm_scope.specs.Signatures.{called};
 
+use crate::blocks::Group;
 use crate::index::{Exact, Index};
-use crate::key::{FormKey, FunctionKey, NameKey};
+use crate::key::{CallKey, FunctionKey, NameKey};
 use crate::kinds::ArgKind;
-use crate::shape::form_of;
 use indexmap::IndexMap;
 use psm_list::List;
 use psm_text::Name;
@@ -23,14 +23,10 @@ use std::marker::Model;
 struct Function<'a> {
     name: &'a Name,
     kinds: List<ArgKind>,
-    /// The number of the last function before it with its name and as many parameters.
-    earlier: Option<u32>,
-    /// That of the last one whose parameters have the same shape too.
-    alike: Option<u32>,
 }
 
 /// A list of functions, each a name with the kinds of its parameters, numbered from 0. A look-up by name and number of parameters,
-/// with their shape or without, or by name and kinds, goes through an index. The names are lent.
+/// or by name and kinds, goes through an index. The names are lent.
 #[derive(Drop)]
 pub struct Signatures<'a> {
     alloc: Global,
@@ -39,15 +35,15 @@ pub struct Signatures<'a> {
 }
 
 impl<'a> Model for Signatures<'a> {
-    ghost use Rattle.std.specs.Prelude.{List, map, true, false};
+    ghost use Rattle.std.specs.Prelude.{◌<◌, ◌^◌, List, length, map};
     ghost use Rattle.psm_scope.specs.Choice.{Signature};
-    ghost use Rattle.psm_scope.specs.Signatures.{IsFound, IsLinked, signature_of};
+    ghost use Rattle.psm_scope.specs.Signatures.{IsFound, IsGrouped, signature_of};
 
     ghost Value = { List Signature };
 
     ghost view = { λ s. map signature_of s.functions.items };
 
-    ghost invariant = { λ s. IsLinked false s.functions.items s.index.latest.entries × IsLinked true s.functions.items s.index.alike.entries × IsFound s.functions.items s.index.exact.entries };
+    ghost invariant = { λ s. (length s.functions.items < 2 ^ 32) × IsGrouped s.functions.items s.index.groups.entries × IsFound s.functions.items s.index.exact.entries };
 }
 
 impl<'a> Signatures<'a> {
@@ -59,8 +55,7 @@ impl<'a> Signatures<'a> {
             alloc,
             functions: Vec::new(alloc),
             index: Index {
-                latest: IndexMap::new(alloc),
-                alike: IndexMap::new(alloc),
+                groups: IndexMap::new(alloc),
                 exact: IndexMap::new(alloc),
             },
         }
@@ -71,21 +66,16 @@ impl<'a> Signatures<'a> {
         ensures ok { OnOk result (self.new ≡ self.old ++ record { name = name.now; kinds = kinds } ∷ []) }
         ensures err { OnErr result (self.new ≡ self.old) }
     {
-        let number = self.functions.len();
-        if number >= u32::MAX as usize {
+        let number = self.len();
+        if number == u32::MAX {
             return Err(AllocError);
         }
         self.functions.reserve(1)?;
-        let call = form_key(name, kinds.items(), false);
-        let shaped = form_key(name, kinds.items(), true);
+        let call = call_key(name, kinds.items().len());
         let function = function_key(self.alloc, name, kinds.items())?;
-        let links = self.index.add(call, shaped, function, number as u32)?;
-        self.functions.push(Function {
-            name,
-            kinds,
-            earlier: links.earlier,
-            alike: links.alike,
-        })?;
+        self.index
+            .add(self.alloc, call, function, number, kinds.items())?;
+        self.functions.push(Function { name, kinds })?;
         Ok(())
     }
 
@@ -104,18 +94,17 @@ impl<'a> Signatures<'a> {
         self.functions[number as usize].kinds.items()
     }
 
-    /// The number of the last function with that name and as many parameters as there are kinds, and with their shape if that is asked
-    /// for.
-    pub(crate) fn last(&self, name: &Name, kinds: &[ArgKind], alike: bool) -> Option<u32>
-        ensures { result ≡ last_below alike self.now name.now (form_of alike kinds.now) (length self.now) }
+    /// The functions with that name and number of parameters. `None` stands for no functions, and no functions may have a group.
+    pub(crate) fn group(&self, name: &Name, count: usize) -> Option<&Group>
+        ensures { IsGroup count (called 0 name.now count self.now) (option_copied result) }
     {
-        if alike {
-            self.index.alike.get(&form_key(name, kinds, true)).copied()
-        } else {
-            self.index
-                .latest
-                .get(&form_key(name, kinds, false))
-                .copied()
+        let key = call_key(name, count);
+        match self.index.groups.get_index_of(&key) {
+            None => None,
+            Some(at) => match self.index.groups.get_index(at) {
+                None => None,
+                Some((_, group)) => Some(group),
+            },
         }
     }
 
@@ -129,29 +118,15 @@ impl<'a> Signatures<'a> {
         };
         self.index.exact.get(&key).copied()
     }
-
-    /// The number of the last function before that one with its name and number of parameters, and with their shape if that is asked
-    /// for.
-    pub(crate) fn earlier(&self, number: u32, alike: bool) -> Option<u32>
-        requires { number < length self.now }
-        ensures { IfSome (slice_get self.now number) (λ s. result ≡ last_below alike self.now s.name (form_of alike s.kinds) number) }
-    {
-        let function = &self.functions[number as usize];
-        if alike {
-            function.alike
-        } else {
-            function.earlier
-        }
-    }
 }
 
-fn form_key<'a>(name: &'a Name, kinds: &[ArgKind], alike: bool) -> FormKey<'a>
+fn call_key<'a>(name: &'a Name, count: usize) -> CallKey<'a>
     ensures name { result.name.name ≡ name.entry }
-    ensures form { result.form ≡ form_of alike kinds.now }
+    ensures count { result.count ≡ count }
 {
-    FormKey {
+    CallKey {
         name: NameKey { name },
-        form: form_of(kinds, alike),
+        count,
     }
 }
 

@@ -1,0 +1,11 @@
+use Rattle.std.proofs.Common.{◌≡◌, ◌≤◌, length, drop, List}
+use Rattle.std.specs.Prelude.{true}
+use Rattle.psm_scope.specs.Choice.{Candidate, narrowed}
+use Rattle.psm_scope.specs.Blocks.{IsBlock, members, set_of}
+use Rattle.psm_scope.proofs.blocks.Block.narrowed.Given as goal
+
+abbrev pub invariant-loop-place : goal.invariant-loop-place
+invariant-loop-place l = record {
+  members : (cs : List Candidate) → IsBlock cs l.self → l.set ≤ set_of (λ c. true) cs → narrowed l.place (drop l.place l.args) (members l.stay cs) ≡ narrowed 0 l.args (members l.set cs);
+  within : l.stay ≤ l.set;
+}
