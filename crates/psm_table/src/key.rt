@@ -1,5 +1,6 @@
 ghost use Rattle.std.specs.Prelude.{◌≡◌, ◌++◌, IfOk, OnOk};
 ghost use Rattle.psm_table.specs.Key.{key_order, number_of, values_at, AreColumnsOf};
+ghost use Rattle.psm_table.specs.Parts.{values_of};
 ghost use Rattle.psm_table.specs.Place.{probe_key, FitsProbe};
 
 use crate::probe::{Probe, order_of, order_of_two};
@@ -17,8 +18,9 @@ pub struct Key {
     parts: Parts,
 }
 
+/// The values of a key as it keeps them: one value without memory of its own, or any number in a vector.
 #[derive(Debug, Drop)]
-enum Parts {
+pub enum Parts {
     One([Datum; 1]),
     Many(Vec<Datum>),
 }
@@ -35,6 +37,21 @@ impl Model for Key {
 }
 
 impl Key {
+    /// The key that is kept as these parts. It takes no memory.
+    pub fn of_parts(parts: Parts) -> Key
+        ensures { result ≡ values_of parts }
+    {
+        Key { parts }
+    }
+
+    /// What the key is kept as.
+    pub fn into_parts(self) -> Parts
+        ensures { values_of result ≡ self }
+    {
+        let Key { parts } = self;
+        parts
+    }
+
     /// The key of a vector's values.
     pub fn of(values: Vec<Datum>) -> Key
         ensures { result ≡ values.items }

@@ -16,7 +16,7 @@ mod walk;
 
 pub use definition::{Column, TableDef};
 pub use fault::RowFault;
-pub use key::Key;
+pub use key::{Key, Parts};
 pub use laws::{
     cursor_laws, legal_rows_add_nothing, order_of_rows, statements_leave_legal_tables, undo_laws,
     unique_laws,

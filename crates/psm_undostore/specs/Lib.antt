@@ -1,4 +1,5 @@
 pub mod Journal
+pub mod Packed
 pub mod Touched
 pub mod Undo
 pub mod Undone

@@ -9,6 +9,7 @@ ghost use Rattle.psm_undostore.specs.Undone.{before, contents_of, undone};
 
 use crate::entry::{Change, Entry};
 use crate::journaled::{change_row, erase_row, insert_row};
+use crate::packed::Packed;
 use psm_segstack::SegStack;
 use psm_table::{Key, Row, RowFault, Steps, Table};
 use std::alloc::Global;
@@ -25,7 +26,7 @@ const FEW_ENTRIES: usize = 1024;
 #[derive(Drop)]
 pub struct Journal {
     alloc: Global,
-    entries: SegStack<Entry>,
+    entries: SegStack<Packed>,
 }
 
 impl Model for Journal {
@@ -149,7 +150,7 @@ impl Journal {
 }
 
 fn undo_from<L: Ledger>(
-    entries: &mut SegStack<Entry>,
+    entries: &mut SegStack<Packed>,
     tables: &mut [Table],
     place: usize,
     steps: &mut Steps<L>,
@@ -170,7 +171,17 @@ fn undo_from<L: Ledger>(
 }
 
 /// Undoes the last change of some tables.
-fn undo_entry<L: Ledger>(entry: Entry, tables: &mut [Table], steps: &mut Steps<L>)
+fn undo_entry<L: Ledger>(entry: Packed, tables: &mut [Table], steps: &mut Steps<L>)
+    requires ready { IsReady tables.old entry }
+    requires good { (d : State) → IsTable (undone entry.change (slice_index_or tables.old entry.table d).contents) }
+    ensures taken { Takes entry tables.old tables.new }
+    ensures steps { steps.new ≤ steps.old + 2 }
+{
+    undo_unpacked(entry.into_entry(), tables, steps);
+}
+
+/// The same of an entry that is not packed.
+fn undo_unpacked<L: Ledger>(entry: Entry, tables: &mut [Table], steps: &mut Steps<L>)
     requires ready { IsReady tables.old entry }
     requires good { (d : State) → IsTable (undone entry.change (slice_index_or tables.old entry.table d).contents) }
     ensures taken { Takes entry tables.old tables.new }

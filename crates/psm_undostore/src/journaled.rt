@@ -6,6 +6,7 @@ ghost use Rattle.psm_store.specs.RowCalls.{AnswersFound, AnswersInsert, row_afte
 ghost use Rattle.psm_undostore.specs.Journal.{Records};
 
 use crate::entry::{Change, Entry};
+use crate::packed::Packed;
 use psm_segstack::SegStack;
 use psm_table::{Key, Row, RowFault, Steps, Table};
 use std::alloc::Global;
@@ -14,7 +15,7 @@ use std::sync::ledger::{Blank, Ledger};
 /// Puts a row into table number `t`. The step isn't counted.
 pub(crate) fn insert_row<L: Ledger>(
     alloc: Global,
-    entries: &mut SegStack<Entry>,
+    entries: &mut SegStack<Packed>,
     t: u32,
     table: &mut Table,
     row: Row,
@@ -33,16 +34,16 @@ pub(crate) fn insert_row<L: Ledger>(
     let key = table.key_of(alloc, &row)?;
     let mut steps: Steps<L> = Steps::open(blank);
     table.insert(row, &mut steps)?;
-    entries.push(Entry {
+    entries.push(Packed::of(Entry {
         table: t,
         change: Change::Inserted(key),
-    });
+    }));
     Ok(())
 }
 
 /// Takes the row that has the key out of table number `t`. The step isn't counted.
 pub(crate) fn erase_row<L: Ledger>(
-    entries: &mut SegStack<Entry>,
+    entries: &mut SegStack<Packed>,
     t: u32,
     table: &mut Table,
     key: &Key,
@@ -61,10 +62,10 @@ pub(crate) fn erase_row<L: Ledger>(
     let mut steps: Steps<L> = Steps::open(blank);
     match table.hide(key, &mut steps) {
         Some(row) => {
-            entries.push(Entry {
+            entries.push(Packed::of(Entry {
                 table: t,
                 change: Change::Erased(row),
-            });
+            }));
             Ok(())
         }
         None => Err(RowFault::Absent),
@@ -73,7 +74,7 @@ pub(crate) fn erase_row<L: Ledger>(
 
 /// Puts a row in the place of the row that has its key in table number `t`. The step isn't counted.
 pub(crate) fn change_row<L: Ledger>(
-    entries: &mut SegStack<Entry>,
+    entries: &mut SegStack<Packed>,
     t: u32,
     table: &mut Table,
     row: Row,
@@ -92,10 +93,10 @@ pub(crate) fn change_row<L: Ledger>(
     let mut steps: Steps<L> = Steps::open(blank);
     match table.swap(row, &mut steps) {
         Ok(was) => {
-            entries.push(Entry {
+            entries.push(Packed::of(Entry {
                 table: t,
                 change: Change::Changed(was),
-            });
+            }));
             Ok(())
         }
         Err(fault) => Err(fault),

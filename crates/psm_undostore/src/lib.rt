@@ -4,6 +4,7 @@
 mod entry;
 mod journal;
 mod journaled;
+mod packed;
 mod plain;
 mod touched;
 mod undo_store;

@@ -1,25 +1,17 @@
-use Rattle.std.proofs.Common.{◌∙◌, ap, refl, subst}
-use Rattle.std.proofs.lemmas.List.{get_or_default}
-use Rattle.psm_table.specs.State.{State, StillKeeps}
+use Rattle.std.proofs.Common.{sym, subst, get_or}
+use Rattle.psm_table.specs.State.{State}
+use Rattle.psm_table.specs.Table.{IsTable}
+use Rattle.psm_undostore.specs.declared.entry.Entry.{Entry}
+use Rattle.psm_undostore.specs.Journal.{IsReady, Takes}
 use Rattle.psm_undostore.specs.Undone.{undone}
 use Rattle.psm_undostore.proofs.journal.undo_entry.Goals as goal
 
-pub undo_change-requires-clause-can : goal.undo_change-requires-clause-can
-undo_change-requires-clause-can g c = c.requires.ready.can c.index-tables-table.result
+pub undo_unpacked-requires-clause-ready : goal.undo_unpacked-requires-clause-ready
+undo_unpacked-requires-clause-ready g c = subst (λ (e : Entry). IsReady c.args.tables.now e) (sym c.into_entry.ensures) c.requires.ready
 
-pub undo_change-requires-clause-good : goal.undo_change-requires-clause-good
-undo_change-requires-clause-good g c = c.requires.good c.index-tables-table.result
+pub undo_unpacked-requires-clause-good : goal.undo_unpacked-requires-clause-good
+undo_unpacked-requires-clause-good g c =
+    subst (λ (e : Entry). (d : State) → IsTable (undone e.change (get_or c.args.tables.now e.table d).contents)) (sym c.into_entry.ensures) c.requires.good
 
 pub returns-clause-taken : goal.returns-clause-taken
-returns-clause-taken g c = record {
-  state = c.undo_change.new.table;
-  others = refl;
-  back = λ d.
-      c.undo_change.ensures.table
-      ∙ ap (λ (s : State). undone c.args.entry.change s.contents)
-      (get_or_default c.args.tables.now c.args.entry.table c.index-tables-table.result d c.requires.ready.inside);
-  keeps = λ d.
-      subst (λ (s : State). StillKeeps s c.undo_change.new.table)
-      (get_or_default c.args.tables.now c.args.entry.table c.index-tables-table.result d c.requires.ready.inside)
-      c.undo_change.ensures.keeps;
-}
+returns-clause-taken g c = subst (λ (e : Entry). Takes e c.args.tables.now c.undo_unpacked.new.tables) c.into_entry.ensures c.undo_unpacked.ensures.taken
