@@ -36,13 +36,13 @@ use Rattle.psm_object.specs.Tables.{column_line, key_line, table_line, table_lin
 use Rattle.psm_object.specs.Words.{count, flag, spaced}
 use Rattle.psm_load.specs.Due.{Due, behind, behind_first, behind_item, behind_plan, behind_query, behind_routine, behind_table, control_due, data_due, fits, going_on, misfit, test_due, Column, Condition, Context, Cursor, Expression, First, Item, Key, Operation, Parameter, Routine, Set, Slot, Table, Unique}
 use Rattle.psm_load.specs.Due as due
-use Rattle.psm_load.specs.Forms.{ItemHead, PlanHead, QueryHead, TableHead, Delete, DeleteAt, Function, Insert, InsertQuery, Rows, Update, UpdateAt, Value}
-use Rattle.psm_load.specs.Heads.{EachIs, IsColumn, IsCodeLine, IsConditionHead, IsContext, IsCursor, IsHandlerHead, IsIndex, IsOperation, IsParameter, IsPlanHead, handler_head_line, item_head_line, or_dash, plan_head_line, query_head_line, routine_head_line, table_head, value_head}
-use Rattle.psm_load.specs.RoutineForms.{RoutineHead}
+use Rattle.psm_load_line.specs.Forms.{ItemHead, PlanHead, QueryHead, TableHead, Delete, DeleteAt, Function, Insert, InsertQuery, Rows, Update, UpdateAt, Value}
+use Rattle.psm_load_line.specs.Heads.{EachIs, IsColumn, IsCodeLine, IsConditionHead, IsContext, IsCursor, IsHandlerHead, IsIndex, IsOperation, IsParameter, IsPlanHead, handler_head_line, item_head_line, or_dash, plan_head_line, query_head_line, routine_head_line, table_head, value_head}
+use Rattle.psm_load_line.specs.RoutineForms.{RoutineHead}
 use Rattle.psm_load.specs.Listed.{AreListed, AreListedItems, AreListedSets, IsListed, IsListedExpr, IsListedPlan, IsListedQuery, IsListedRoutine, IsListedSet, IsListedTable, IsListedTest, condition_head, handler_head, item_count, query_head, routine_head, value_of}
-use Rattle.psm_load.proofs.Forms.{expression_written, handler_written, plan_written, table_written}
-use Rattle.psm_load.proofs.Instructions.{code_line_written, operation_line_written}
-use Rattle.psm_load.proofs.OtherForms.{column_written, condition_written, context_written, cursor_written, first_written, item_written, key_written, parameter_written, query_written, routine_written, set_written, slot_written, unique_written}
+use Rattle.psm_load_line.proofs.Forms.{expression_written, handler_written, plan_written, table_written}
+use Rattle.psm_load_line.proofs.Instructions.{code_line_written, operation_line_written}
+use Rattle.psm_load_line.proofs.OtherForms.{column_written, condition_written, context_written, cursor_written, first_written, item_written, key_written, parameter_written, query_written, routine_written, set_written, slot_written, unique_written}
 
 -- ---- lines one after another
 

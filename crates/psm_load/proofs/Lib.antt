@@ -1,7 +1,1 @@
 pub mod DueLines
-pub mod Forms
-pub mod Instructions
-pub mod Operations
-pub mod OtherForms
-pub mod Spelled
-pub mod Words

@@ -1,10 +1,10 @@
 -- Which lines are due in a text: each line says which stand behind it.
 use Rattle.std.specs.Prelude.{ℕ, suc, Bool, true, false, List, [], ◌∷◌, ◌++◌, replicate, nat_eq, Option, Some, None, if◌then◌else◌}
 use Rattle.psm_words.specs.Reading.{◌>>=◌}
-use Rattle.psm_load.specs.Forms.{ItemHead, PlanHead, QueryHead, TableHead, column_at, condition_at, context_at, first_at, handler_at, item_at, key_at, plan_at, query_at, set_at, table_at, unique_at, Delete, DeleteAt, Function, Insert, InsertQuery, Rows, Update, UpdateAt, Value}
-use Rattle.psm_load.specs.InstructionForms.{code_line_at, operation_line_at}
-use Rattle.psm_load.specs.OperationForms.{expression_at}
-use Rattle.psm_load.specs.RoutineForms.{ControlCounts, DataCounts, RoutineHead, cursor_at, parameter_at, routine_at, slot_at}
+use Rattle.psm_load_line.specs.Forms.{ItemHead, PlanHead, QueryHead, TableHead, column_at, condition_at, context_at, first_at, handler_at, item_at, key_at, plan_at, query_at, set_at, table_at, unique_at, Delete, DeleteAt, Function, Insert, InsertQuery, Rows, Update, UpdateAt, Value}
+use Rattle.psm_load_line.specs.InstructionForms.{code_line_at, operation_line_at}
+use Rattle.psm_load_line.specs.OperationForms.{expression_at}
+use Rattle.psm_load_line.specs.RoutineForms.{ControlCounts, DataCounts, RoutineHead, cursor_at, parameter_at, routine_at, slot_at}
 
 pub data Due : Type 0 where
   First Table Column Key Unique Routine Parameter Slot Query Item Cursor Plan Set Condition Context Handler Line Expression Operation : Due

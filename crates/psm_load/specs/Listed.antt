@@ -20,9 +20,9 @@ use Rattle.psm_code.specs.declared.code.RawCode.{RawCode}
 use Rattle.psm_code.specs.declared.code.RawRoutine.{RawRoutine}
 use Rattle.psm_code.specs.PlanRules.{counts_rows}
 use Rattle.psm_words.specs.Words.{FitsType}
-use Rattle.psm_load.specs.Forms.{HandlerHead, QueryHead, ValueWord, Named, NotFound, SqlException, SqlWarning, State}
-use Rattle.psm_load.specs.Heads.{AreColumns, ConditionHead, EachIs, IsCodeLine, IsColumn, IsConditionHead, IsContext, IsCursor, IsHandlerHead, IsIndex, IsOperation, IsParameter, IsQueryHead, IsRoutineHead, IsTableHead, table_head}
-use Rattle.psm_load.specs.RoutineForms.{RoutineHead}
+use Rattle.psm_load_line.specs.Forms.{HandlerHead, QueryHead, ValueWord, Named, NotFound, SqlException, SqlWarning, State}
+use Rattle.psm_load_line.specs.Heads.{AreColumns, ConditionHead, EachIs, IsCodeLine, IsColumn, IsConditionHead, IsContext, IsCursor, IsHandlerHead, IsIndex, IsOperation, IsParameter, IsQueryHead, IsRoutineHead, IsTableHead, table_head}
+use Rattle.psm_load_line.specs.RoutineForms.{RoutineHead}
 
 -- a list of columns, which has one
 abbrev pub AreListed : List ℕ → Type 0

@@ -1,74 +1,33 @@
-//! A line that is written is read again, and a line that is read was written so.
-ghost use Rattle.std.specs.Prelude.{◌≡◌, [], ◌∷◌, ℕ, List, None, Some};
-ghost use Rattle.psm_value.specs.declared.sqltype.SqlType.{SqlType};
-ghost use Rattle.psm_cond.specs.declared.handlers.Context.{Context};
-ghost use Rattle.psm_table.specs.declared.definition.Column.{Column};
-ghost use Rattle.psm_code.specs.declared.code.CodeCursor.{CodeCursor};
-ghost use Rattle.psm_code.specs.declared.code.CodeTable.{CodeTable};
-ghost use Rattle.psm_code.specs.declared.code.Parameter.{Parameter};
+//! Laws of listings that are read.
+ghost use Rattle.std.specs.Prelude.{◌≡◌, ◌⊎◌, [], ◌∷◌, ℕ, List, None, Some, Ok, Err};
 ghost use Rattle.psm_code.specs.declared.code.RawCode.{RawCode};
-ghost use Rattle.psm_code.specs.declared.lines.CodeLine.{CodeLine};
-ghost use Rattle.psm_words.specs.Words.{FitsType};
-ghost use Rattle.psm_object.specs.Handlers.{context_line};
-ghost use Rattle.psm_object.specs.Instructions.{code_line};
-ghost use Rattle.psm_object.specs.Listing.{lines_of};
-ghost use Rattle.psm_object.specs.Queries.{cursor_line};
-ghost use Rattle.psm_object.specs.Routines.{parameter_line, slot_line};
-ghost use Rattle.psm_object.specs.Tables.{column_line, key_line, table_line, unique_line};
-ghost use Rattle.psm_load.specs.Due.{misfit, First};
-ghost use Rattle.psm_load.specs.Forms.{HandlerHead, ItemHead, PlanHead, QueryHead, TableHead, column_at, condition_at, context_at, first_at, handler_at, item_at, key_at, plan_at, query_at, table_at, unique_at};
-ghost use Rattle.psm_load.specs.Heads.{AreColumns, ConditionHead, IsCodeLine, IsColumn, IsConditionHead, IsContext, IsCursor, IsHandlerHead, IsIndex, IsParameter, IsPlanHead, IsQueryHead, IsRoutineHead, IsTableHead, condition_head_line, expression_head_line, first_head_line, handler_head_line, item_head_line, plan_head_line, query_head_line, routine_head_line, table_head, table_head_line};
-ghost use Rattle.psm_load.specs.InstructionForms.{code_line_at};
+ghost use Rattle.psm_code.specs.RoutineRules.{first_fault};
+ghost use Rattle.psm_object.specs.Listing.{lines_of, listing};
+ghost use Rattle.psm_load.specs.Due.{first_misfit, misfit, First};
 ghost use Rattle.psm_load.specs.Listed.{IsListed};
-ghost use Rattle.psm_load.specs.OperationForms.{expression_at};
-ghost use Rattle.psm_load.specs.RoutineForms.{RoutineHead, cursor_at, parameter_at, routine_at, slot_at};
-
-/// The lines `TABLE`, `EXPR`, `PLAN`, `HANDLER` and those of instructions: what is written for a value that such a line can say is read
-/// as that value, and a line that is read is the one that is written for a value that it can say.
-pub fn lines_have_one_spelling()
-    ensures table_heads { (t : CodeTable) → table_line t ≡ table_head_line (table_head t) }
-    ensures table_again { (h : TableHead) → IsTableHead h → table_at (table_head_line h) ≡ Some h }
-    ensures table_takes { (s : List ℕ) (h : TableHead) → table_at s ≡ Some h → (s ≡ table_head_line h) × IsTableHead h }
-    ensures expression_again { (m : ℕ) → IsIndex m → expression_at (expression_head_line m) ≡ Some m }
-    ensures expression_takes { (s : List ℕ) (m : ℕ) → expression_at s ≡ Some m → (s ≡ expression_head_line m) × IsIndex m }
-    ensures plan_again { (p : PlanHead) → IsPlanHead p → plan_at (plan_head_line p) ≡ Some p }
-    ensures plan_takes { (s : List ℕ) (p : PlanHead) → plan_at s ≡ Some p → (s ≡ plan_head_line p) × IsPlanHead p }
-    ensures handler_again { (h : HandlerHead) → IsHandlerHead h → handler_at (handler_head_line h) ≡ Some h }
-    ensures handler_takes { (s : List ℕ) (h : HandlerHead) → handler_at s ≡ Some h → (s ≡ handler_head_line h) × IsHandlerHead h }
-    ensures line_again { (l : CodeLine) → IsCodeLine l → code_line_at (code_line l) ≡ Some l }
-    ensures line_takes { (s : List ℕ) (l : CodeLine) → code_line_at s ≡ Some l → (s ≡ code_line l) × IsCodeLine l }
-{}
-
-/// The same of all other lines.
-pub fn other_lines_have_one_spelling()
-    ensures first_again { (h : ℕ × ℕ) → IsIndex h.0 × IsIndex h.1 → first_at (first_head_line h) ≡ Some h }
-    ensures first_takes { (s : List ℕ) (h : ℕ × ℕ) → first_at s ≡ Some h → (s ≡ first_head_line h) × (IsIndex h.0 × IsIndex h.1) }
-    ensures column_again { (c : Column) → IsColumn c → column_at (column_line c) ≡ Some c }
-    ensures column_takes { (s : List ℕ) (c : Column) → column_at s ≡ Some c → (s ≡ column_line c) × IsColumn c }
-    ensures key_again { (x : ℕ × List ℕ) → AreColumns x → key_at (key_line (x.0 ∷ x.1)) ≡ Some x }
-    ensures key_takes { (s : List ℕ) (x : ℕ × List ℕ) → key_at s ≡ Some x → (s ≡ key_line (x.0 ∷ x.1)) × AreColumns x }
-    ensures unique_again { (x : ℕ × List ℕ) → AreColumns x → unique_at (unique_line (x.0 ∷ x.1)) ≡ Some x }
-    ensures unique_takes { (s : List ℕ) (x : ℕ × List ℕ) → unique_at s ≡ Some x → (s ≡ unique_line (x.0 ∷ x.1)) × AreColumns x }
-    ensures query_again { (h : QueryHead) → IsQueryHead h → query_at (query_head_line h) ≡ Some h }
-    ensures query_takes { (s : List ℕ) (h : QueryHead) → query_at s ≡ Some h → (s ≡ query_head_line h) × IsQueryHead h }
-    ensures item_again { (i : ItemHead) → item_at (item_head_line i) ≡ Some i }
-    ensures item_takes { (s : List ℕ) (i : ItemHead) → item_at s ≡ Some i → s ≡ item_head_line i }
-    ensures condition_again { (h : ConditionHead) → IsConditionHead h → condition_at (condition_head_line h) ≡ Some h }
-    ensures condition_takes { (s : List ℕ) (h : ConditionHead) → condition_at s ≡ Some h → (s ≡ condition_head_line h) × IsConditionHead h }
-    ensures context_again { (c : Context) → IsContext c → context_at (context_line c) ≡ Some c }
-    ensures context_takes { (s : List ℕ) (c : Context) → context_at s ≡ Some c → (s ≡ context_line c) × IsContext c }
-    ensures parameter_again { (p : Parameter) → IsParameter p → parameter_at (parameter_line p) ≡ Some p }
-    ensures parameter_takes { (s : List ℕ) (p : Parameter) → parameter_at s ≡ Some p → (s ≡ parameter_line p) × IsParameter p }
-    ensures slot_again { (k : SqlType) → FitsType k → slot_at (slot_line k) ≡ Some k }
-    ensures slot_takes { (s : List ℕ) (k : SqlType) → slot_at s ≡ Some k → (s ≡ slot_line k) × FitsType k }
-    ensures cursor_again { (c : CodeCursor) → IsCursor c → cursor_at (cursor_line c) ≡ Some c }
-    ensures cursor_takes { (s : List ℕ) (c : CodeCursor) → cursor_at s ≡ Some c → (s ≡ cursor_line c) × IsCursor c }
-    ensures routine_again { (h : RoutineHead) → IsRoutineHead h → routine_at (routine_head_line h) ≡ Some h }
-    ensures routine_takes { (s : List ℕ) (h : RoutineHead) → routine_at s ≡ Some h → (s ≡ routine_head_line h) × IsRoutineHead h }
-{}
+ghost use Rattle.psm_load.specs.Loading.{IsObject, IsObjectFault};
+ghost use Rattle.psm_load.specs.Stated.{Stated, stated};
+ghost use Rattle.psm_load.specs.declared.fault.ObjectFault.{ObjectFault};
 
 /// Each line of the listing of code whose parts lines can say is one of the kind that is due, and none is missing: there is no first
 /// line that doesn't fit.
 pub fn the_lines_of_a_listing_are_due()
     ensures { (code : RawCode) → IsListed code → misfit 1 (First ∷ []) (lines_of code) ≡ None }
+{}
+
+/// What the lines of a text stand for is the code of which it is the listing, where none of them stands for what code can't hold and the
+/// code breaks no rule; and a listing stands for its code. Lines stand for something exactly where each is one of the kind that is due.
+pub fn a_text_stands_for_the_code_that_it_lists()
+    ensures again { (code : RawCode) → IsListed code → stated (listing code) ≡ Ok (record { code = code; odd = None }) }
+    ensures takes { (text : List ℕ) (s : Stated) → stated text ≡ Ok s → s.odd ≡ None → first_fault s.code ≡ None → IsObject text s.code }
+    ensures misfits { (text : List ℕ) (n : ℕ) → stated text ≡ Err n → first_misfit text ≡ Some n }
+    ensures fits { (text : List ℕ) (s : Stated) → stated text ≡ Ok s → first_misfit text ≡ None }
+{}
+
+/// A text is exactly one thing: the listing of one well-formed code, or none by one first line with one fault.
+pub fn texts_are_one_thing()
+    ensures code { (text : List ℕ) (c d : RawCode) → IsObject text c → IsObject text d → c ≡ d }
+    ensures exclusive { (text : List ℕ) (c : RawCode) → IsObject text c → (line : ℕ) (fault : ObjectFault) → IsObjectFault text line fault → ⊥ }
+    ensures fault { (text : List ℕ) (k l : ℕ) (e f : ObjectFault) → IsObjectFault text k e → IsObjectFault text l f → (k, e) ≡ (l, f) }
+    ensures total { (text : List ℕ) → ((c : RawCode) × IsObject text c) ⊎ ((line : ℕ) × (fault : ObjectFault) × IsObjectFault text line fault) }
 {}

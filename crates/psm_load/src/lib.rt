@@ -1,12 +1,10 @@
-//! How a listing is read: each line is one of a kind that is due, and has one reading. Three kinds of lines are read by functions; none
-//! reads a listing yet.
+//! From the text of a listing to well-formed code, or the first line by which it is none.
 #![tactic(auto)]
 
-mod cursor;
-mod heads;
+mod fault;
 mod laws;
 
-pub use heads::{expression_head, first_head, set_head};
+pub use fault::{LoadFault, ObjectFault};
 pub use laws::{
-    lines_have_one_spelling, other_lines_have_one_spelling, the_lines_of_a_listing_are_due,
+    a_text_stands_for_the_code_that_it_lists, texts_are_one_thing, the_lines_of_a_listing_are_due,
 };

@@ -1,7 +1,7 @@
 //! What stands at the front of a line, and what follows it.
 ghost use Rattle.std.specs.Prelude.{◌≡◌, option_map};
 ghost use Rattle.psm_words.specs.Reading.{after as after_word};
-ghost use Rattle.psm_load.specs.Forms as forms;
+ghost use Rattle.psm_load_line.specs.Forms as forms;
 
 use psm_words::number;
 

@@ -23,9 +23,9 @@ use Rattle.psm_words.proofs.StackLaws.{stack_again, stack_takes}
 use Rattle.psm_words.proofs.StateLaws.{state_again, state_takes}
 use Rattle.psm_words.proofs.TypeLaws.{type_again, type_takes}
 use Rattle.psm_object.specs.Words.{flag}
-use Rattle.psm_load.specs.Heads.{IfThere, IsIndex, IsName, or_dash}
-use Rattle.psm_load.specs.Readers.{as_name, as_some, dash_or, flag_at, flag_of, index_at, name_at, Reader}
-use Rattle.psm_load.proofs.Spelled.{is_boundary, Spelled}
+use Rattle.psm_load_line.specs.Heads.{IfThere, IsIndex, IsName, or_dash}
+use Rattle.psm_load_line.specs.Readers.{as_name, as_some, dash_or, flag_at, flag_of, index_at, name_at, Reader}
+use Rattle.psm_load_line.proofs.Spelled.{is_boundary, Spelled}
 
 -- ---- a blank is no part of a word
 

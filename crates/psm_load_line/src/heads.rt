@@ -1,9 +1,9 @@
 //! Lines that count others.
 ghost use Rattle.std.specs.Prelude.{◌≡◌};
-ghost use Rattle.psm_load.specs.Forms as forms;
-ghost use Rattle.psm_load.specs.OperationForms.{expression_at};
+ghost use Rattle.psm_load_line.specs.Forms as forms;
+ghost use Rattle.psm_load_line.specs.OperationForms.{expression_at};
 
-use crate::cursor::{index, keyword};
+use crate::front::{index, keyword};
 
 /// How many lines follow a line `EXPR m`.
 pub fn expression_head(line: &[u8]) -> Option<u32>

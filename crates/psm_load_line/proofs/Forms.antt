@@ -8,13 +8,13 @@ use Rattle.psm_words.specs.Reading.{◌>>=◌, after, state_at}
 use Rattle.psm_words.proofs.Several.{after_takes, bind_some, some_is}
 use Rattle.psm_object.specs.Handlers.{handler_kind_word}
 use Rattle.psm_object.specs.Words.{flag, spaced}
-use Rattle.psm_load.specs.Forms.{HandlerHead, PlanHead, TableHead, ValueWord, as_named, as_state, classes, handler_at, handler_kinds, index, insert_at, plan_at, plans, table_at, value_at, Delete, DeleteAt, Insert, InsertQuery, Named, NotFound, SqlException, SqlWarning, State, Update, UpdateAt}
-use Rattle.psm_load.specs.Heads.{EachIs, IsHandlerHead, IsIndex, IsName, IsPlanHead, IsTableHead, IsValueWord, expression_head_line, handler_head_line, plan_details, plan_head_line, plan_name, table_head_line, value_head}
-use Rattle.psm_load.specs.OperationForms.{expression_at}
-use Rattle.psm_load.specs.Readers.{both, by_word, chosen, flag_at, index_at, last, made, name_at, on, one_of, some, word}
-use Rattle.psm_load.proofs.Operations.{number_rest}
-use Rattle.psm_load.proofs.Spelled.{◌&◌, begin, ends, field, follow_fields, is_boundary, is_solid, made_after, made_again, next_word, pair, same_line, some_words, table_word, Fields, Found, Leads, Rest, Spelled, Written}
-use Rattle.psm_load.proofs.Words.{flag_spelled, index_spelled, name_spelled, state_spelled}
+use Rattle.psm_load_line.specs.Forms.{HandlerHead, PlanHead, TableHead, ValueWord, as_named, as_state, classes, handler_at, handler_kinds, index, insert_at, plan_at, plans, table_at, value_at, Delete, DeleteAt, Insert, InsertQuery, Named, NotFound, SqlException, SqlWarning, State, Update, UpdateAt}
+use Rattle.psm_load_line.specs.Heads.{EachIs, IsHandlerHead, IsIndex, IsName, IsPlanHead, IsTableHead, IsValueWord, expression_head_line, handler_head_line, plan_details, plan_head_line, plan_name, table_head_line, value_head}
+use Rattle.psm_load_line.specs.OperationForms.{expression_at}
+use Rattle.psm_load_line.specs.Readers.{both, by_word, chosen, flag_at, index_at, last, made, name_at, on, one_of, some, word}
+use Rattle.psm_load_line.proofs.Operations.{number_rest}
+use Rattle.psm_load_line.proofs.Spelled.{◌&◌, begin, ends, field, follow_fields, is_boundary, is_solid, made_after, made_again, next_word, pair, same_line, some_words, table_word, Fields, Found, Leads, Rest, Spelled, Written}
+use Rattle.psm_load_line.proofs.Words.{flag_spelled, index_spelled, name_spelled, state_spelled}
 
 -- ---- TABLE and EXPR
 

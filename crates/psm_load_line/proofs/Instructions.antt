@@ -17,13 +17,13 @@ use Rattle.psm_words.proofs.Several.{bind_some, some_is}
 use Rattle.psm_object.specs.Expressions.{operation_details}
 use Rattle.psm_object.specs.Instructions.{code_line, condition_item_word, details, mnemonic, resume_word, statement_item_word}
 use Rattle.psm_object.specs.Words.{further, spaced}
-use Rattle.psm_load.specs.Heads.{IfThere, IsCodeLine, IsIndex, IsInstruction, IsOperation, or_dash}
-use Rattle.psm_load.specs.InstructionForms.{code_line_at, code_line_of, condition_items, control, instructions, numbered, of_operation, operation_line_at, statement_items}
-use Rattle.psm_load.specs.OperationForms.{operations}
-use Rattle.psm_load.specs.Readers.{alone, both, by_word, chosen, dash_or, index_at, last, made, on, one_of, word, LineReader, Reader}
-use Rattle.psm_load.proofs.Operations.{name, number_rest, operation_found, operation_leads, operation_solid}
-use Rattle.psm_load.proofs.Spelled.{◌&◌, alone_after, convert, ends, field, follow, further_append, is_solid, made_after, made_again, next_word, pair, same_line, start, table_word, After, Fields, Found, Leads, Rest, Spelled, Written}
-use Rattle.psm_load.proofs.Words.{dash_spelled, index_dashless, index_spelled, stack_spelled}
+use Rattle.psm_load_line.specs.Heads.{IfThere, IsCodeLine, IsIndex, IsInstruction, IsOperation, or_dash}
+use Rattle.psm_load_line.specs.InstructionForms.{code_line_at, code_line_of, condition_items, control, instructions, numbered, of_operation, operation_line_at, statement_items}
+use Rattle.psm_load_line.specs.OperationForms.{operations}
+use Rattle.psm_load_line.specs.Readers.{alone, both, by_word, chosen, dash_or, index_at, last, made, on, one_of, word, LineReader, Reader}
+use Rattle.psm_load_line.proofs.Operations.{name, number_rest, operation_found, operation_leads, operation_solid}
+use Rattle.psm_load_line.proofs.Spelled.{◌&◌, alone_after, convert, ends, field, follow, further_append, is_solid, made_after, made_again, next_word, pair, same_line, start, table_word, After, Fields, Found, Leads, Rest, Spelled, Written}
+use Rattle.psm_load_line.proofs.Words.{dash_spelled, index_dashless, index_spelled, stack_spelled}
 
 -- ---- what stands after a mnemonic
 

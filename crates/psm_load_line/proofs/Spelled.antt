@@ -9,8 +9,8 @@ use Rattle.psm_num.proofs.Literals.{and_first, and_second}
 use Rattle.psm_words.specs.Reading.{◌>>=◌, after}
 use Rattle.psm_words.proofs.Several.{after_takes, bind_some, some_is}
 use Rattle.psm_object.specs.Words.{further, spaced}
-use Rattle.psm_load.specs.Heads.{EachIs}
-use Rattle.psm_load.specs.Readers.{alone, at_end, bare, before, both, by_word, chosen, last, line, made, many, many_within, on, one_of, paired, some, word, LineReader, Reader}
+use Rattle.psm_load_line.specs.Heads.{EachIs}
+use Rattle.psm_load_line.specs.Readers.{alone, at_end, bare, before, both, by_word, chosen, last, line, made, many, many_within, on, one_of, paired, some, word, LineReader, Reader}
 
 -- ---- where a word ends: at the end of the line, or before a blank
 

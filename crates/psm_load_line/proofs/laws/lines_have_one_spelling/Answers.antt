@@ -1,7 +1,7 @@
 use Rattle.std.proofs.Common.{refl}
-use Rattle.psm_load.proofs.Forms.{expression_written, handler_written, plan_written, table_written}
-use Rattle.psm_load.proofs.Instructions.{code_line_written}
-use Rattle.psm_load.proofs.laws.lines_have_one_spelling.Goals as goal
+use Rattle.psm_load_line.proofs.Forms.{expression_written, handler_written, plan_written, table_written}
+use Rattle.psm_load_line.proofs.Instructions.{code_line_written}
+use Rattle.psm_load_line.proofs.laws.lines_have_one_spelling.Goals as goal
 
 pub returns : goal.returns
 returns c = record {

@@ -11,7 +11,7 @@ use Rattle.psm_table.specs.declared.definition.Column.{Column}
 use Rattle.psm_exprcode.specs.declared.aggregate.SetFunction.{SetFunction}
 use Rattle.psm_exprcode.specs.declared.aggregate.SetFunction.TheVariants as sets
 use Rattle.psm_words.specs.Reading.{◌>>=◌, after, datum_at, state_at, type_at}
-use Rattle.psm_load.specs.Readers.{alone, both, by_word, dash_or, flag_at, index_at, last, line, made, many, name_at, on, one_of, some, word, LineReader, Reader}
+use Rattle.psm_load_line.specs.Readers.{alone, both, by_word, dash_or, flag_at, index_at, last, line, made, many, name_at, on, one_of, some, word, LineReader, Reader}
 
 -- a number after a blank
 abbrev pub index : Reader ℕ

@@ -13,11 +13,11 @@ use Rattle.psm_words.specs.Words.{datum_word, number, stack_word, type_word, Fit
 use Rattle.psm_words.specs.Reading.{datum_at, number_at, type_at}
 use Rattle.psm_object.specs.Expressions.{operation_details, operation_mnemonic, side_word}
 use Rattle.psm_object.specs.Words.{further}
-use Rattle.psm_load.specs.Heads.{IsIndex, IsOperation}
-use Rattle.psm_load.specs.OperationForms.{constant_at, operations, sides, value_letters, with_number}
-use Rattle.psm_load.specs.Readers.{alone, both, chosen, index_at, last, made, one_of, word}
-use Rattle.psm_load.proofs.Spelled.{◌&◌, alone_after, ends, field, is_solid, made_after, made_again, pair, table_word, After, Found, Leads, Rest, Spelled}
-use Rattle.psm_load.proofs.Words.{datum_spelled, index_spelled, number_spelled, type_spelled}
+use Rattle.psm_load_line.specs.Heads.{IsIndex, IsOperation}
+use Rattle.psm_load_line.specs.OperationForms.{constant_at, operations, sides, value_letters, with_number}
+use Rattle.psm_load_line.specs.Readers.{alone, both, chosen, index_at, last, made, one_of, word}
+use Rattle.psm_load_line.proofs.Spelled.{◌&◌, alone_after, ends, field, is_solid, made_after, made_again, pair, table_word, After, Found, Leads, Rest, Spelled}
+use Rattle.psm_load_line.proofs.Words.{datum_spelled, index_spelled, number_spelled, type_spelled}
 
 abbrev pub name : Op → List ℕ
 name = operation_mnemonic

@@ -19,14 +19,14 @@ use Rattle.psm_object.specs.Queries.{cursor_line, direction_word, function_word,
 use Rattle.psm_object.specs.Routines.{mode_word, parameter_line, routine_kind_word, slot_line}
 use Rattle.psm_object.specs.Tables.{column_line, key_line, unique_line}
 use Rattle.psm_object.specs.Words.{flag, further, spaced}
-use Rattle.psm_load.specs.Forms.{ItemHead, QueryHead, block_of, column_at, column_of, condition_at, context_at, context_kinds, context_of, directions, first_at, functions, index, item_at, items, key_at, query_at, set_at, unique_at, Function, Rows, Value}
-use Rattle.psm_load.specs.Heads.{AreColumns, AreControlCounts, AreDataCounts, ConditionHead, EachIs, IfThere, IsColumn, IsConditionHead, IsContext, IsContextKind, IsCursor, IsIndex, IsName, IsParameter, IsQueryHead, IsRoutineHead, condition_head_line, first_head_line, item_details, item_head_line, item_name, or_dash, query_head_line, routine_head_line}
-use Rattle.psm_load.specs.Readers.{alone, both, by_word, chosen, dash_or, flag_at, last, made, many, name_at, on, one_of, some, word}
-use Rattle.psm_load.specs.RoutineForms.{ControlCounts, DataCounts, RoutineHead, control_counts_at, cursor_at, cursor_of, data_counts_at, modes, parameter_at, parameter_of, routine_at, routine_kinds, sensitivities, slot_at, updatabilities}
-use Rattle.psm_load.proofs.Forms.{AreThree, AreTwo, flag_field, index_field, name_field, three_fields, three_words, two_rest, two_words}
-use Rattle.psm_load.proofs.Operations.{number_rest}
-use Rattle.psm_load.proofs.Spelled.{◌&◌, all_words, alone_after, begin, convert, ends, field, first_word, follow_fields, is_solid, made_after, made_again, next_word, pair, same_line, some_words, table_word, After, Fields, Found, Rest, Spelled, Written}
-use Rattle.psm_load.proofs.Words.{dash_spelled, datum_spelled, name_spelled, quoted_dashless, state_spelled, type_dashless, type_spelled}
+use Rattle.psm_load_line.specs.Forms.{ItemHead, QueryHead, block_of, column_at, column_of, condition_at, context_at, context_kinds, context_of, directions, first_at, functions, index, item_at, items, key_at, query_at, set_at, unique_at, Function, Rows, Value}
+use Rattle.psm_load_line.specs.Heads.{AreColumns, AreControlCounts, AreDataCounts, ConditionHead, EachIs, IfThere, IsColumn, IsConditionHead, IsContext, IsContextKind, IsCursor, IsIndex, IsName, IsParameter, IsQueryHead, IsRoutineHead, condition_head_line, first_head_line, item_details, item_head_line, item_name, or_dash, query_head_line, routine_head_line}
+use Rattle.psm_load_line.specs.Readers.{alone, both, by_word, chosen, dash_or, flag_at, last, made, many, name_at, on, one_of, some, word}
+use Rattle.psm_load_line.specs.RoutineForms.{ControlCounts, DataCounts, RoutineHead, control_counts_at, cursor_at, cursor_of, data_counts_at, modes, parameter_at, parameter_of, routine_at, routine_kinds, sensitivities, slot_at, updatabilities}
+use Rattle.psm_load_line.proofs.Forms.{AreThree, AreTwo, flag_field, index_field, name_field, three_fields, three_words, two_rest, two_words}
+use Rattle.psm_load_line.proofs.Operations.{number_rest}
+use Rattle.psm_load_line.proofs.Spelled.{◌&◌, all_words, alone_after, begin, convert, ends, field, first_word, follow_fields, is_solid, made_after, made_again, next_word, pair, same_line, some_words, table_word, After, Fields, Found, Rest, Spelled, Written}
+use Rattle.psm_load_line.proofs.Words.{dash_spelled, datum_spelled, name_spelled, quoted_dashless, state_spelled, type_dashless, type_spelled}
 
 -- ---- fields
 

@@ -7,7 +7,7 @@ use Rattle.psm_exprcode.specs.declared.op.Letter.TheVariants.{N, T}
 use Rattle.psm_exprcode.specs.declared.op.Op.{Op}
 use Rattle.psm_exprcode.specs.declared.op.Op.TheVariants as op
 use Rattle.psm_words.specs.Reading.{datum_at, number_at, type_at}
-use Rattle.psm_load.specs.Readers.{alone, both, index_at, last, line, made, one_of, word, LineReader}
+use Rattle.psm_load_line.specs.Readers.{alone, both, index_at, last, line, made, one_of, word, LineReader}
 
 abbrev pub with_number : (ℕ → Op) → LineReader Op
 with_number make = made make (last (word index_at))

@@ -1,5 +1,5 @@
-use Rattle.psm_load.proofs.OtherForms.{column_written, condition_written, context_written, cursor_written, first_written, item_written, key_written, parameter_written, query_written, routine_written, slot_written, unique_written}
-use Rattle.psm_load.proofs.laws.other_lines_have_one_spelling.Goals as goal
+use Rattle.psm_load_line.proofs.OtherForms.{column_written, condition_written, context_written, cursor_written, first_written, item_written, key_written, parameter_written, query_written, routine_written, slot_written, unique_written}
+use Rattle.psm_load_line.proofs.laws.other_lines_have_one_spelling.Goals as goal
 
 pub returns : goal.returns
 returns c = record {

@@ -10,8 +10,8 @@ use Rattle.psm_code.specs.declared.instruction.Instruction.{Instruction}
 use Rattle.psm_code.specs.declared.instruction.Instruction.TheVariants as instruction
 use Rattle.psm_code.specs.declared.lines.CodeLine.{CodeLine}
 use Rattle.psm_words.specs.Reading.{stack_at}
-use Rattle.psm_load.specs.OperationForms.{operations}
-use Rattle.psm_load.specs.Readers.{alone, both, by_word, dash_or, index_at, last, made, on, one_of, word, LineReader}
+use Rattle.psm_load_line.specs.OperationForms.{operations}
+use Rattle.psm_load_line.specs.Readers.{alone, both, by_word, dash_or, index_at, last, made, on, one_of, word, LineReader}
 
 abbrev pub statement_items : List (List ℕ × StatementItem)
 statement_items =

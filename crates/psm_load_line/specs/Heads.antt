@@ -20,8 +20,8 @@ use Rattle.psm_object.specs.Handlers.{handler_kind_word}
 use Rattle.psm_object.specs.Words.{flag, spaced}
 use Rattle.psm_object.specs.Queries.{direction_word, function_word}
 use Rattle.psm_object.specs.Routines.{routine_kind_word}
-use Rattle.psm_load.specs.Forms.{HandlerHead, ItemHead, PlanHead, QueryHead, TableHead, ValueWord, Delete, DeleteAt, Function, Insert, InsertQuery, Named, NotFound, Rows, SqlException, SqlWarning, State, Update, UpdateAt, Value}
-use Rattle.psm_load.specs.RoutineForms.{ControlCounts, DataCounts, RoutineHead}
+use Rattle.psm_load_line.specs.Forms.{HandlerHead, ItemHead, PlanHead, QueryHead, TableHead, ValueWord, Delete, DeleteAt, Function, Insert, InsertQuery, Named, NotFound, Rows, SqlException, SqlWarning, State, Update, UpdateAt, Value}
+use Rattle.psm_load_line.specs.RoutineForms.{ControlCounts, DataCounts, RoutineHead}
 
 -- ---- what a word can say
 

@@ -6,8 +6,8 @@ use Rattle.psm_code.specs.declared.code.Parameter.{Parameter}
 use Rattle.psm_code.specs.declared.code.ParameterMode.{ParameterMode}
 use Rattle.psm_code.specs.declared.code.ParameterMode.TheVariants.{In, Out, InOut}
 use Rattle.psm_words.specs.Reading.{type_at}
-use Rattle.psm_load.specs.Forms.{index}
-use Rattle.psm_load.specs.Readers.{both, dash_or, last, line, made, name_at, one_of, word, LineReader, Reader}
+use Rattle.psm_load_line.specs.Forms.{index}
+use Rattle.psm_load_line.specs.Readers.{both, dash_or, last, line, made, name_at, one_of, word, LineReader, Reader}
 
 abbrev pub routine_kinds : List (List ℕ × Bool)
 routine_kinds = (codes "P", false) ∷ (codes "F", true) ∷ []
