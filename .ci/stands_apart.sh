@@ -39,7 +39,7 @@ forbid psm_simulation psm_tree psm_scope psm_store psm_io
 forbid psm_termination psm_tree psm_resolved psm_store psm_io
 forbid psm_codegen psm_tree psm_scope psm_store psm_io
 forbid psm_codegen_wellformed psm_tree psm_scope psm_store psm_io
-for crate in psm_verify_line psm_verify psm_object; do forbid $crate psm_tree psm_resolved psm_meaning psm_store psm_io; done
+for crate in psm_verify_line psm_verify psm_object psm_load_line psm_load; do forbid $crate psm_tree psm_resolved psm_meaning psm_store psm_io; done
 forbid psm_words psm_code psm_table psm_tree psm_io
 forbid psm_cursor psm_code psm_tree psm_undostore psm_io
 for crate in psm_unwind psm_machine; do forbid $crate psm_tree psm_resolved psm_meaning psm_undostore psm_io; done

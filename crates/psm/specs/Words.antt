@@ -4,7 +4,7 @@ use Rattle.std.specs.Char.{is_ascii_digit}
 use Rattle.std.specs.Cmp.Lexicographic.{pointwise}
 use Rattle.std.specs.List.{list_all}
 use Rattle.std.specs.Str.Parse.{digits_value}
-use Rattle.psm_commands.specs.Command.{Command, Run, Compile, named}
+use Rattle.psm_commands.specs.Command.{Command, Files, Run, Compile, Exec, named}
 
 -- the turns where the words tell none
 abbrev pub default_turns : ℕ
@@ -26,14 +26,17 @@ is_number word = list_all is_ascii_digit word && (nat_lt 0 (length word) && (nat
 abbrev pub number_of : List ℕ → Option ℕ
 number_of word = if is_number word then Some (digits_value 10 word) else None
 
--- ---- the form `run M S`, with `--turns N` after it or not
+-- ---- the forms `run M S` and `exec O S`, with `--turns N` after them or not
 
-abbrev pub with_turns : List ℕ → List ℕ → Option ℕ → Option Command
-with_turns m s None = None
-with_turns m s (Some n) = Some (Run (named m s n))
+abbrev pub with_turns : (Files → Command) → List ℕ → List ℕ → Option ℕ → Option Command
+with_turns over c s None = None
+with_turns over c s (Some n) = Some (over (named c s n))
 
-abbrev pub run_with : List ℕ → List ℕ → List ℕ → Option ℕ → Option Command
-run_with word m s turns = if is_word word (codes "run") then with_turns m s turns else None
+-- the command that runs a script, where the first word tells one
+abbrev pub script_with : List ℕ → List ℕ → List ℕ → Option ℕ → Option Command
+script_with word c s turns = if is_word word (codes "run") then with_turns Run c s turns
+    else if is_word word (codes "exec") then with_turns Exec c s turns
+    else None
 
 -- the turns that the words after the names tell
 abbrev pub turns_of : List (List ℕ) → Option ℕ
@@ -53,4 +56,4 @@ abbrev pub command_in : List (List ℕ) → Option Command
 command_in [] = None
 command_in (word ∷ []) = None
 command_in (word ∷ m ∷ []) = compile_with word m
-command_in (word ∷ m ∷ s ∷ options) = run_with word m s (turns_of options)
+command_in (word ∷ c ∷ s ∷ options) = script_with word c s (turns_of options)

@@ -1,4 +1,4 @@
-//! `psm`: compiles an SQL server module and runs it over a script.
+//! `psm`: compiles an SQL server module, writes its code as a listing, and runs scripts over either.
 #![tactic(auto)]
 
 mod top;

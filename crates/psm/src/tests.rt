@@ -75,6 +75,22 @@ fn a_module_alone_is_listed(rt: HostRuntime) -> Result<(), Fail> {
 }
 
 #[test]
+fn a_listing_and_a_script_print_their_lines(rt: HostRuntime) -> Result<(), Fail> {
+    let (answer, text) = call(rt.alloc(), "exec M S", THREE_MODES_LISTING, FIVE_SEVEN)?;
+    assert_eq!(rt; answer, Status::Done);
+    assert_eq!(rt; text.as_str(), THREE_LINES);
+    let (answer, text) = call(
+        rt.alloc(),
+        "exec M S --turns 0",
+        "PSM 1 0 1\nROUTINE P 'P' 0 0 0 0 0 0 0 0 2 -\n0 - - JMP 2\n0 - - END\n",
+        "CALL p();",
+    )?;
+    assert_eq!(rt; answer, Status::ObjectRefused);
+    assert_eq!(rt; text.as_str(), "object 3 F2 target outside the routine\n");
+    Ok(())
+}
+
+#[test]
 fn the_words_tell_how_many_turns_there_are(rt: HostRuntime) -> Result<(), Fail> {
     let turning =
         "CREATE MODULE M PROCEDURE p (OUT s INTEGER) BEGIN DECLARE i INTEGER DEFAULT 0; SET s = 0; l: LOOP SET i = i + 1; IF i > 5 THEN LEAVE l; END IF; IF i = 3 THEN ITERATE l; END IF; SET s = s + i; END LOOP l; END; END MODULE";
@@ -105,6 +121,10 @@ fn other_words_show_the_usage(rt: HostRuntime) -> Result<(), Fail> {
         "compile",
         "compile M S T",
         "COMPILE M",
+        "exec",
+        "exec M",
+        "exec M S T",
+        "exec M S --turns 05",
         "--help",
         "--version",
         "run M S --turns",
@@ -121,7 +141,7 @@ fn other_words_show_the_usage(rt: HostRuntime) -> Result<(), Fail> {
         assert_eq!(rt; answer, Status::Usage, "at {given}");
         assert_eq!(rt;
             text.as_str(),
-            "usage: psm run M S [--turns N] | psm compile M\n",
+            "usage: psm run M S [--turns N] | psm compile M | psm exec O S [--turns N]\n",
             "at {given}"
         );
     }

@@ -3,23 +3,24 @@ ghost use Rattle.std.specs.Char.{is_ascii_digit};
 ghost use Rattle.std.specs.List.{list_all};
 ghost use Rattle.std.specs.Prelude.{◌≡◌, None, Some, MatchOption, map, string_bytes};
 ghost use Rattle.psm_commands.specs.Command.{command_of};
-ghost use Rattle.psm.specs.Words.{begins_with_zero, command_in, compile_with, is_number, number_of, run_with, turns_of};
+ghost use Rattle.psm.specs.Words.{begins_with_zero, command_in, compile_with, is_number, number_of, script_with, turns_of};
 
 use psm_commands::{Command, Files};
 
 /// The turns of a session where the words tell none.
 const DEFAULT_TURNS: u64 = 1_000_000;
 
-/// The command that the words after the program's name tell, where they have the form `run M S`, `run M S --turns N` or `compile M`.
+/// The command that the words after the program's name tell, where they have the form `run M S`, `compile M` or `exec O S`; `--turns N`
+/// may stand after the files of `run` and `exec`.
 pub fn command_in(words: &[String]) -> Option<Command<'_>>
     ensures { MatchOption result (command_in (map string_bytes words.now) ≡ None)
         (λ c. command_in (map string_bytes words.now) ≡ Some (command_of c)) }
 {
     match words {
         [word, for_module] => compile_for(word.as_str(), for_module.as_str()),
-        [word, for_module, for_script, options @ ..] => run_for(
+        [word, for_code, for_script, options @ ..] => script_for(
             word.as_str(),
-            for_module.as_str(),
+            for_code.as_str(),
             for_script.as_str(),
             turns_in(options),
         ),
@@ -39,23 +40,28 @@ fn compile_for<'a>(word: &str, for_module: &'a str) -> Option<Command<'a>>
     }
 }
 
-// The command `run`, where the first word is that and there are turns.
-fn run_for<'a>(
+// The command that runs a script, `run` or `exec` by the first word, where there are turns.
+fn script_for<'a>(
     word: &str,
-    for_module: &'a str,
+    for_code: &'a str,
     for_script: &'a str,
     turns: Option<u64>,
 ) -> Option<Command<'a>>
-    ensures { MatchOption result (run_with word.now for_module.now for_script.now turns ≡ None)
-        (λ c. run_with word.now for_module.now for_script.now turns ≡ Some (command_of c)) }
+    ensures { MatchOption result (script_with word.now for_code.now for_script.now turns ≡ None)
+        (λ c. script_with word.now for_code.now for_script.now turns ≡ Some (command_of c)) }
 {
-    match turns {
-        Some(turns) if word == "run" => Some(Command::Run(Files {
-            for_module,
-            for_script,
-            turns,
-        })),
-        _ => None,
+    let turns = turns?;
+    let files = Files {
+        for_code,
+        for_script,
+        turns,
+    };
+    if word == "run" {
+        Some(Command::Run(files))
+    } else if word == "exec" {
+        Some(Command::Exec(files))
+    } else {
+        None
     }
 }
 

@@ -4,83 +4,91 @@ use Rattle.std.specs.Prelude.{◌⊎◌, IfSome}
 use Rattle.psm_io.specs.Count.{Rose}
 use Rattle.psm_code.specs.declared.code.RawCode.{RawCode}
 use Rattle.psm_session.specs.declared.command.ScriptCode.{ScriptCode}
-use Rattle.psm_build.specs.Building.{Builds, BuildsOver}
-use Rattle.psm_build.specs.Program.{IsScriptFault}
+use Rattle.psm_build.specs.Building.{Builds, BuildsScript}
+use Rattle.psm_build.specs.ModuleCode.{IsScriptFaultOver}
+use Rattle.psm_build.specs.Program.{IsModuleFault, StandsFor}
 use Rattle.psm_build.specs.declared.fault.Fault.{Fault}
 use Rattle.psm_build.specs.declared.fault.BuildFault.{BuildFault}
 use Rattle.psm_build.specs.declared.fault.BuildFault.TheVariants as builds
 use Rattle.psm_files.specs.Expected.{Expected}
 use Rattle.psm_files.specs.Fetches.{Fetches, IsRead, IsUnread, NoneFailed, Tells}
-use Rattle.psm_files.specs.Given.{as_fetched}
-use Rattle.psm_commands.specs.Reading.{BuildsCode, BuildsCommands, GivesBytes, GivesModule, GivesScript, refusal_of}
-use Rattle.psm_commands.specs.Sources.{ForModule, ForScript, IsRefused}
+use Rattle.psm_files.specs.Given.{ForFile, Given, as_fetched}
+use Rattle.psm_load.specs.Loading.{IsObject, Loads}
+use Rattle.psm_load.specs.declared.fault.LoadFault.{LoadFault}
+use Rattle.psm_load.specs.declared.fault.LoadFault.TheVariants as loads
+use Rattle.psm_commands.specs.Reading.{Gives, GivesBytes, GivesModule, GivesObject, GivesScript, IsFaultOf, IsFaultOfObject, IsScriptBy, Makes, expected_of, refusal_of, refusal_of_load}
+use Rattle.psm_commands.specs.Sources.{ForScript, IsObjectRefused, IsRefused, with_refusal}
 use Rattle.psm_commands.specs.declared.source.Which.{Which}
 use Rattle.psm_commands.specs.declared.source.Which.TheVariants.{Module, Script}
 use Rattle.psm_commands.specs.declared.source.Refusal.{Refusal}
 use Rattle.psm_commands.specs.declared.source.Refusal.TheVariants as refusal
 use Rattle.psm_commands.proofs.Fetched.{for_file_weaker}
 
--- ---- what the build answers
+-- ---- why nothing is made of bytes
 
-pub module_refused_by : (ms : List ℕ) (fault : BuildFault) → Builds ms (Err fault) → BuildsCode ms (Err (refusal_of Module fault))
+pub module_refused_by : (ms : List ℕ) (fault : BuildFault) → Builds ms (Err fault) → IsFaultOf Module (IsModuleFault ms) (refusal_of Module fault)
 module_refused_by ms (builds.Refused line column fault) h = (refl, h)
 module_refused_by ms builds.Memory h = tt
 
-pub script_refused_by : (ms ss : List ℕ) (code : RawCode) (fault : BuildFault) → BuildsOver ms ss (Err fault) → BuildsCommands ms code ss (Err (refusal_of Script fault))
-script_refused_by ms ss code (builds.Refused line column fault) h = (refl, h)
-script_refused_by ms ss code builds.Memory h = tt
+pub script_refused_by : (code : RawCode) (ss : List ℕ) (fault : BuildFault) → BuildsScript code ss (Err fault) → IsFaultOf Script (IsScriptFaultOver code ss) (refusal_of Script fault)
+script_refused_by code ss (builds.Refused line column fault) h = (refl, h)
+script_refused_by code ss builds.Memory h = tt
 
--- ---- the module
+pub object_refused_by : (os : List ℕ) (fault : LoadFault) → Loads os (Err fault) → IsFaultOfObject os (refusal_of_load fault)
+object_refused_by os (loads.Refused line fault) h = h
+object_refused_by os loads.Memory h = tt
 
-pub module_unread : (fetches : Fetches) (name : List ℕ) (e : Refusal) → GivesBytes fetches name (Err e) → GivesModule fetches name (Err e)
-module_unread fetches name refusal.Unread h = inl (record { fails = h; expected_is = refl })
-module_unread fetches name refusal.TooLong h = inr (inl (record { bytes = h.bytes; gives = h.reported; long = h.long; none_fails = h.none_failed; expected_is = refl }))
-module_unread fetches name (refusal.Refused w line column fault) h = absurd h
-module_unread fetches name refusal.Memory h = tt
+-- ---- what is made of a file
 
-pub module_read : (fetches : Fetches) (name ms : List ℕ) (answer : Result RawCode Refusal) → IsRead fetches name ms → BuildsCode ms answer → GivesModule fetches name answer
-module_read fetches name ms (Ok code) read h = record { ms = ms; read = read; stands = h }
-module_read fetches name ms (Err refusal.Unread) read h = absurd h
-module_read fetches name ms (Err refusal.TooLong) read h = absurd h
-module_read fetches name ms (Err (refusal.Refused w line column fault)) read h = subst (λ (x : Which). GivesModule fetches name (Err (refusal.Refused x line column fault))) (sym h.0)
-    (inr (inr (record {
-      bytes = ms;
-      gives = read.reported;
-      short = read.short;
-      for_bytes = inl (record { line = line; column = column; fault = fault; is_fault = h.1; none_fails = read.none_failed; expected_is = refl });
-    })))
-module_read fetches name ms (Err refusal.Memory) read h = tt
+-- a fetch that gives no bytes
+pub unread : {A : Type 0} (fetches : Fetches) (name : List ℕ) (Is : List ℕ → A → Type 0) (IsDue : List ℕ → Expected → Type 0) (e : Refusal) → GivesBytes fetches name (Err e) → Gives fetches name Is IsDue (Err e)
+unread fetches name Is IsDue refusal.Unread h = inl (record { fails = h; expected_is = refl })
+unread fetches name Is IsDue refusal.TooLong h = inr (inl (record { bytes = h.bytes; gives = h.reported; long = h.long; none_fails = h.none_failed; expected_is = refl }))
+unread fetches name Is IsDue (refusal.Refused w line column fault) h = absurd h
+unread fetches name Is IsDue (refusal.NoObject line fault) h = absurd h
+unread fetches name Is IsDue refusal.Memory h = tt
 
--- ---- the script
+module _ (fetches : Fetches) (name bytes : List ℕ) (read : IsRead fetches name bytes) where
+  in_file : (IsDue : List ℕ → Expected → Type 0) (o : Option Expected) → IfSome o (IsDue bytes) → IfSome o (ForFile (as_fetched fetches) name IsDue)
+  in_file IsDue None h = tt
+  in_file IsDue (Some e) h = inr (inr (record { bytes = bytes; gives = read.reported; short = read.short; for_bytes = h }))
 
-pub script_unread : (fetches : Fetches) (ms : List ℕ) (code : RawCode) (name : List ℕ) (e : Refusal) → GivesBytes fetches name (Err e) → GivesScript fetches ms code name (Err e)
-script_unread fetches ms code name refusal.Unread h = inl (record { fails = h; expected_is = refl })
-script_unread fetches ms code name refusal.TooLong h = inr (inl (record { bytes = h.bytes; gives = h.reported; long = h.long; none_fails = h.none_failed; expected_is = refl }))
-script_unread fetches ms code name (refusal.Refused w line column fault) h = absurd h
-script_unread fetches ms code name refusal.Memory h = tt
+  -- the bytes were read, and for each reason that is expected for which nothing is made of them
+  made : {A : Type 0} (Is : List ℕ → A → Type 0) (IsDue : List ℕ → Expected → Type 0) (IsReason : Refusal → Type 0) → ((e : Refusal) → IsReason e → IfSome (expected_of name e) (IsDue bytes))
+      → (answer : Result A Refusal) → Makes (Is bytes) IsReason answer → Gives fetches name Is IsDue answer
+  made Is IsDue IsReason due (Ok a) h = record { bytes = bytes; read = read; is = h }
+  made Is IsDue IsReason due (Err e) h = in_file IsDue (expected_of name e) (due e h)
 
-pub script_read : (fetches : Fetches) (ms : List ℕ) (code : RawCode) (name ss : List ℕ) (answer : Result ScriptCode Refusal) → IsRead fetches name ss → BuildsCommands ms code ss answer → GivesScript fetches ms code name answer
-script_read fetches ms code name ss (Ok script) read h = record { ss = ss; read = read; runs = h }
-script_read fetches ms code name ss (Err refusal.Unread) read h = absurd h
-script_read fetches ms code name ss (Err refusal.TooLong) read h = absurd h
-script_read fetches ms code name ss (Err (refusal.Refused w line column fault)) read h = subst (λ (x : Which). GivesScript fetches ms code name (Err (refusal.Refused x line column fault))) (sym h.0)
-    (inr (inr (record {
-      bytes = ss;
-      gives = read.reported;
-      short = read.short;
-      for_bytes = inl (record { line = line; column = column; fault = fault; is_fault = h.1; none_fails = read.none_failed; expected_is = refl });
-    })))
-script_read fetches ms code name ss (Err refusal.Memory) read h = tt
+  fault_due : (w : Which) (IsFault : ℕ → ℕ → Fault → Type 0) (e : Refusal) → IsFaultOf w IsFault e → IfSome (expected_of name e) (IsRefused (as_fetched fetches) w IsFault)
+  fault_due w IsFault refusal.Unread h = absurd h
+  fault_due w IsFault refusal.TooLong h = absurd h
+  fault_due w IsFault (refusal.Refused v line column fault) h = subst (λ (x : Which). IsRefused (as_fetched fetches) w IsFault (with_refusal x line column fault)) (sym h.0)
+      (record { line = line; column = column; fault = fault; is_fault = h.1; none_fails = read.none_failed; expected_is = refl })
+  fault_due w IsFault (refusal.NoObject line fault) h = absurd h
+  fault_due w IsFault refusal.Memory h = tt
 
--- ---- a file that gives nothing, whatever is expected of one that does
+  object_fault_due : (e : Refusal) → IsFaultOfObject bytes e → IfSome (expected_of name e) (IsObjectRefused (as_fetched fetches) bytes)
+  object_fault_due refusal.Unread h = absurd h
+  object_fault_due refusal.TooLong h = absurd h
+  object_fault_due (refusal.Refused w line column fault) h = absurd h
+  object_fault_due (refusal.NoObject line fault) h = record { line = line; fault = fault; is_fault = h; none_fails = read.none_failed; expected_is = refl }
+  object_fault_due refusal.Memory h = tt
 
-without : {A B : Type 0} → A ⊎ ⊥ → A ⊎ B
-without (inl a) = inl a
-without (inr h) = absurd h
+  pub module_read : (answer : Result RawCode Refusal) → Makes (StandsFor bytes) (IsFaultOf Module (IsModuleFault bytes)) answer → GivesModule fetches name answer
+  module_read answer h = made StandsFor (λ ms. IsRefused (as_fetched fetches) Module (IsModuleFault ms)) (IsFaultOf Module (IsModuleFault bytes)) (fault_due Module (IsModuleFault bytes)) answer h
 
-pub module_decides : (fetches : Fetches) (name : List ℕ) (For : List ℕ → Expected → Type 0) (o : Option Expected) → IfSome o (ForModule (as_fetched fetches) name (λ ms e. ⊥)) → IfSome o (ForModule (as_fetched fetches) name For)
-module_decides fetches name For None h = tt
-module_decides fetches name For (Some e) h = for_file_weaker (as_fetched fetches) name _ _ (λ bytes x k. without k) e h
+  pub object_read : (answer : Result RawCode Refusal) → Makes (IsObject bytes) (IsFaultOfObject bytes) answer → GivesObject fetches name answer
+  object_read answer h = made IsObject (IsObjectRefused (as_fetched fetches)) (IsFaultOfObject bytes) object_fault_due answer h
+
+  pub script_read : (code : RawCode) (answer : Result ScriptCode Refusal) → Makes (IsScriptBy code bytes) (IsFaultOf Script (IsScriptFaultOver code bytes)) answer → GivesScript fetches code name answer
+  script_read code answer h =
+      made (IsScriptBy code) (λ ss. IsRefused (as_fetched fetches) Script (IsScriptFaultOver code ss)) (IsFaultOf Script (IsScriptFaultOver code bytes)) (fault_due Script (IsScriptFaultOver code bytes)) answer h
+
+-- ---- a file of which nothing is made decides, whatever is expected of one of which something is
+
+pub decides : (given : Given) (name : List ℕ) (IsDue For : List ℕ → Expected → Type 0) (o : Option Expected) → IfSome o (ForFile given name IsDue) → IfSome o (ForFile given name (λ bytes e. IsDue bytes e ⊎ For bytes e))
+decides given name IsDue For None h = tt
+decides given name IsDue For (Some e) h = for_file_weaker given name IsDue (λ bytes e. IsDue bytes e ⊎ For bytes e) (λ bytes x k. inl k) e h
 
 -- ---- two fetches, one after the other
 
@@ -102,26 +110,31 @@ module _ (held held' : List ℕ → Option (List ℕ)) (before mid after : List 
   pub told_from : (name bytes : List ℕ) → Tells (held' name) bytes → Tells (held name) bytes
   told_from name bytes h = subst (λ (o : Option (List ℕ)). Tells o bytes) (same name) h
 
-  refused_from : (ss : List ℕ) (IsFault : ℕ → ℕ → Fault → Type 0) (e : Expected) → IsRefused (as_fetched (between held' mid after)) Script IsFault e → IsRefused (as_fetched (between held before after)) Script IsFault e
-  refused_from ss IsFault e h = record { line = h.line; column = h.column; fault = h.fault; is_fault = h.is_fault; none_fails = both_stay h.none_fails; expected_is = h.expected_is }
+  -- a script that is refused decides, where its fault over the code is one of those that are asked for
+  module _ (IsFault IsFault' : List ℕ → ℕ → ℕ → Fault → Type 0) (faults : (ss : List ℕ) (l c : ℕ) (f : Fault) → IsFault ss l c f → IsFault' ss l c f) where
+    refused_from : (ss : List ℕ) (e : Expected) → IsRefused (as_fetched (between held' mid after)) Script (IsFault ss) e → IsRefused (as_fetched (between held before after)) Script (IsFault' ss) e
+    refused_from ss e h = record {
+      line = h.line;
+      column = h.column;
+      fault = h.fault;
+      is_fault = faults ss h.line h.column h.fault h.is_fault;
+      none_fails = both_stay h.none_fails;
+      expected_is = h.expected_is;
+    }
 
-  -- a script that gives nothing, whatever is expected of one that does
-  pub script_decides : (ms name : List ℕ) (For : List ℕ → Expected → Type 0) (e : Expected) → ForScript (as_fetched (between held' mid after)) ms name (λ ss e. ⊥) e → ForScript (as_fetched (between held before after)) ms name For e
-  script_decides ms name For e (inl h) = inl (record { fails = unread_from name h.fails; expected_is = h.expected_is })
-  script_decides ms name For e (inr (inl h)) = inr (inl (record {
-    bytes = h.bytes;
-    gives = told_from name h.bytes h.gives;
-    long = h.long;
-    none_fails = both_stay h.none_fails;
-    expected_is = h.expected_is;
-  }))
-  script_decides ms name For e (inr (inr h)) = inr (inr (record {
-    bytes = h.bytes;
-    gives = told_from name h.bytes h.gives;
-    short = h.short;
-    for_bytes = by h.for_bytes;
-  }))
-    where
-      by : IsRefused (as_fetched (between held' mid after)) Script (IsScriptFault ms h.bytes) e ⊎ ⊥ → IsRefused (as_fetched (between held before after)) Script (IsScriptFault ms h.bytes) e ⊎ For h.bytes e
-      by (inl k) = inl (refused_from h.bytes (IsScriptFault ms h.bytes) e k)
-      by (inr k) = absurd k
+    pub script_decides : (name : List ℕ) (For : List ℕ → Expected → Type 0) (e : Expected)
+        → ForFile (as_fetched (between held' mid after)) name (λ ss. IsRefused (as_fetched (between held' mid after)) Script (IsFault ss)) e → ForScript (as_fetched (between held before after)) IsFault' name For e
+    script_decides name For e (inl h) = inl (record { fails = unread_from name h.fails; expected_is = h.expected_is })
+    script_decides name For e (inr (inl h)) = inr (inl (record {
+      bytes = h.bytes;
+      gives = told_from name h.bytes h.gives;
+      long = h.long;
+      none_fails = both_stay h.none_fails;
+      expected_is = h.expected_is;
+    }))
+    script_decides name For e (inr (inr h)) = inr (inr (record {
+      bytes = h.bytes;
+      gives = told_from name h.bytes h.gives;
+      short = h.short;
+      for_bytes = inl (refused_from h.bytes e h.for_bytes);
+    }))

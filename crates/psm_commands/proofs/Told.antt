@@ -3,20 +3,29 @@ use Rattle.std.proofs.Common.{◌≡◌, ℕ, ◌<◌, ◌≤◌, List, [], ◌�
 use Rattle.std.specs.Prelude.{◌⊎◌, All, IsSome}
 use Rattle.std.proofs.lemmas.Bool.{cases_lt}
 use Rattle.std.proofs.lemmas.List.Elements.{All-head, All-tail}
+use Rattle.psm_build.specs.ModuleCode.{IsScriptFaultOver}
 use Rattle.psm_build.specs.Once.{HasFault, IsEnd, Total}
-use Rattle.psm_build.specs.Program.{EndsIn, IsModuleFault, IsModuleFile, IsScriptFault, IsScriptFile}
+use Rattle.psm_build.specs.Outcome.{empty_tables}
+use Rattle.psm_build.specs.Program.{EndsIn, IsModuleFault, IsModuleFile, IsScriptFault, IsScriptFile, IsScriptOf}
 use Rattle.psm_build.specs.declared.fault.Fault.{Fault}
+use Rattle.psm_code.specs.declared.code.RawCode.{RawCode}
+use Rattle.psm_code_session.specs.CodeSession.{CodeEndsIn, HasSession}
+use Rattle.psm_load.specs.Loading.{IsObject, IsObjectFault}
+use Rattle.psm_load.specs.declared.fault.ObjectFault.{ObjectFault}
 use Rattle.psm_meaning.specs.Session.{Session}
+use Rattle.psm_session.specs.Ends.{beginning}
+use Rattle.psm_session.specs.declared.command.ScriptCommand.{ScriptCommand}
 use Rattle.psm_files.specs.Expected.{Expected, with_line}
 use Rattle.psm_files.specs.Fetches.{most_bytes}
 use Rattle.psm_files.specs.Given.{ForFile, as_told}
 use Rattle.psm_files.specs.Message.{too_long}
 use Rattle.psm_files.specs.declared.status.Status.TheVariants.{Done, TooLong}
-use Rattle.psm_commands.specs.Command.{Command, Files, Run, Compile, files_of}
+use Rattle.psm_commands.specs.Command.{Command, Files, Run, Compile, Exec, files_of}
 use Rattle.psm_commands.specs.Contract.{StatusFor}
 use Rattle.psm_commands.specs.Run.{ForRun, Plays}
 use Rattle.psm_commands.specs.Compile.{StatusForCompile}
-use Rattle.psm_commands.specs.Sources.{ForScript, IsRefused, with_refusal}
+use Rattle.psm_commands.specs.Exec.{ForExec, IsOver, PlaysOver}
+use Rattle.psm_commands.specs.Sources.{ForScript, IsObjectRefused, IsRefused, with_object_refusal, with_refusal}
 use Rattle.psm_commands.specs.declared.source.Which.{Which}
 use Rattle.psm_commands.specs.declared.source.Which.TheVariants.{Module, Script}
 use Rattle.psm_commands.proofs.Answering.{session_expected}
@@ -45,34 +54,69 @@ module _ (held : List ℕ → Option (List ℕ)) where
   refused : (w : Which) (IsFault : ℕ → ℕ → Fault → Type 0) (For : Expected → Type 0) → HasFault IsFault → Something (λ e. IsRefused (as_told held) w IsFault e ⊎ For e)
   refused w IsFault For h = (with_refusal w h.0 h.1 h.2, inl (record { line = h.0; column = h.1; fault = h.2; is_fault = h.3; none_fails = tt; expected_is = refl }))
 
-  module _ (modules : (ms : List ℕ) → Total (IsModuleFile ms) (IsModuleFault ms)) (scripts : (ms ss : List ℕ) → IsModuleFile ms → Total (IsScriptFile ms ss) (IsScriptFault ms ss))
-      (sessions : (ms ss : List ℕ) (turns : ℕ) → IsScriptFile ms ss → (s : Session) × EndsIn ms ss turns s)
-      (ends : (ms ss : List ℕ) (turns : ℕ) (s : Session) → EndsIn ms ss turns s → IsEnd s.end) where
+  -- what is so of all bytes of files
+  pub record AreSomething : Type 0 where
+    pub modules : (ms : List ℕ) → Total (IsModuleFile ms) (IsModuleFault ms)
+    pub scripts : (ms ss : List ℕ) → IsModuleFile ms → Total (IsScriptFile ms ss) (IsScriptFault ms ss)
+    pub sessions : (ms ss : List ℕ) (turns : ℕ) → IsScriptFile ms ss → (s : Session) × EndsIn ms ss turns s
+    pub ends : (ms ss : List ℕ) (turns : ℕ) (s : Session) → EndsIn ms ss turns s → IsEnd s.end
+    pub objects : (os : List ℕ) → ((c : RawCode) × IsObject os c) ⊎ ((line : ℕ) × (fault : ObjectFault) × IsObjectFault os line fault)
+    pub scripts_over : (os : List ℕ) (code : RawCode) → IsObject os code → (ss : List ℕ) → Total ((commands : List ScriptCommand) × IsScriptOf code ss commands) (IsScriptFaultOver code ss)
+    pub sessions_over : (os : List ℕ) (code : RawCode) → IsObject os code → (ss : List ℕ) (commands : List ScriptCommand) → IsScriptOf code ss commands → (turns : ℕ) → (s : Session) × HasSession code commands (beginning (empty_tables code) turns) s
+    pub ends_over : (code : RawCode) (ss : List ℕ) (turns : ℕ) (s : Session) → CodeEndsIn code ss turns s → IsEnd s.end
+
+  module _ (all : AreSomething) where
     for_script : (f : Files) (ms : List ℕ) → IsModuleFile ms → (ss : List ℕ) → Something (λ e. IsRefused (as_told held) Script (IsScriptFault ms ss) e ⊎ Plays (as_told held) ms ss f.turns e)
-    for_script f ms is ss = by (scripts ms ss is)
+    for_script f ms is ss = by (all.scripts ms ss is)
       where
         by : Total (IsScriptFile ms ss) (IsScriptFault ms ss) → Something (λ e. IsRefused (as_told held) Script (IsScriptFault ms ss) e ⊎ Plays (as_told held) ms ss f.turns e)
         by (inr h) = refused Script (IsScriptFault ms ss) (Plays (as_told held) ms ss f.turns) h
         by (inl script) =
-            let s = sessions ms ss f.turns script in
-            let e = session_expected s.0 (ends ms ss f.turns s.0 s.1) in
+            let s = all.sessions ms ss f.turns script in
+            let e = session_expected s.0 (all.ends ms ss f.turns s.0 s.1) in
             (e.0, inr (record { session = s.0; ends_in = s.1; none_fails = tt; expected_is = e.1 }))
 
-    for_run : (f : Files) → IsSome (held f.for_module) → IsSome (held f.for_script) → Something (ForRun (as_told held) f)
-    for_run f hm hs = for_file f.for_module hm _ (λ ms. by ms (modules ms))
+    for_run : (f : Files) → IsSome (held f.for_code) → IsSome (held f.for_script) → Something (ForRun (as_told held) f)
+    for_run f hm hs = for_file f.for_code hm _ (λ ms. by ms (all.modules ms))
       where
         by : (ms : List ℕ) → Total (IsModuleFile ms) (IsModuleFault ms)
-            → Something (λ e. IsRefused (as_told held) Module (IsModuleFault ms) e ⊎ (IsModuleFile ms × ForScript (as_told held) ms f.for_script (λ ss. Plays (as_told held) ms ss f.turns) e))
+            → Something (λ e. IsRefused (as_told held) Module (IsModuleFault ms) e ⊎ (IsModuleFile ms × ForScript (as_told held) (IsScriptFault ms) f.for_script (λ ss. Plays (as_told held) ms ss f.turns) e))
         by ms (inr h) = refused Module (IsModuleFault ms) _ h
         by ms (inl is) = let s = for_file f.for_script hs _ (for_script f ms is) in (s.0, inr (is, s.1))
 
     for_compile : (name : List ℕ) → IsSome (held name) → Something (StatusForCompile (as_told held) name)
-    for_compile name h = for_file name h _ (λ ms. by ms (modules ms))
+    for_compile name h = for_file name h _ (λ ms. by ms (all.modules ms))
       where
         by : (ms : List ℕ) → Total (IsModuleFile ms) (IsModuleFault ms) → Something (λ e. IsRefused (as_told held) Module (IsModuleFault ms) e ⊎ (IsModuleFile ms × (e.status ≡ Done)))
         by ms (inr h) = refused Module (IsModuleFault ms) _ h
         by ms (inl is) = (record { status = Done; pieces = [] }, inr (is, refl))
 
+    for_script_over : (f : Files) (os : List ℕ) (code : RawCode) → IsObject os code → (ss : List ℕ) → Something (λ e. IsRefused (as_told held) Script (IsScriptFaultOver code ss) e ⊎ PlaysOver (as_told held) code ss f.turns e)
+    for_script_over f os code is ss = by (all.scripts_over os code is ss)
+      where
+        by : Total ((commands : List ScriptCommand) × IsScriptOf code ss commands) (IsScriptFaultOver code ss)
+            → Something (λ e. IsRefused (as_told held) Script (IsScriptFaultOver code ss) e ⊎ PlaysOver (as_told held) code ss f.turns e)
+        by (inr h) = refused Script (IsScriptFaultOver code ss) (PlaysOver (as_told held) code ss f.turns) h
+        by (inl script) =
+            let s = all.sessions_over os code is ss script.0 script.1 f.turns in
+            let in_session : CodeEndsIn code ss f.turns s.0 = record { commands = script.0; script = script.1; session = s.1 } in
+            let e = session_expected s.0 (all.ends_over code ss f.turns s.0 in_session) in
+            (e.0, inr (record { session = s.0; ends_in = in_session; none_fails = tt; expected_is = e.1 }))
+
+    for_exec : (f : Files) → IsSome (held f.for_code) → IsSome (held f.for_script) → Something (ForExec (as_told held) f)
+    for_exec f ho hs = for_file f.for_code ho _ (λ os. by os (all.objects os))
+      where
+        by : (os : List ℕ) → ((c : RawCode) × IsObject os c) ⊎ ((line : ℕ) × (fault : ObjectFault) × IsObjectFault os line fault) → Something (λ e. IsObjectRefused (as_told held) os e ⊎ IsOver (as_told held) f os e)
+        by os (inr h) = (with_object_refusal h.0 h.1, inl (record { line = h.0; fault = h.1; is_fault = h.2; none_fails = tt; expected_is = refl }))
+        by os (inl c) = let s = for_file f.for_script hs _ (for_script_over f os c.0 c.1) in (s.0, inr (record { code = c.0; object = c.1; for_script = s.1 }))
+
+    code_told : (f : Files) → All IsTold (f.for_code ∷ f.for_script ∷ []) → IsTold f.for_code
+    code_told f h = All-head IsTold f.for_code (f.for_script ∷ []) h
+
+    script_told : (f : Files) → All IsTold (f.for_code ∷ f.for_script ∷ []) → IsTold f.for_script
+    script_told f h = All-head IsTold f.for_script [] (All-tail IsTold f.for_code (f.for_script ∷ []) h)
+
     pub for_command : (command : Command) → All (λ name. IsSome (held name)) (files_of command) → Something (StatusFor (as_told held) command)
-    for_command (Run f) h = for_run f (All-head IsTold f.for_module (f.for_script ∷ []) h) (All-head IsTold f.for_script [] (All-tail IsTold f.for_module (f.for_script ∷ []) h))
+    for_command (Run f) h = for_run f (code_told f h) (script_told f h)
     for_command (Compile name) h = for_compile name (All-head IsTold name [] h)
+    for_command (Exec f) h = for_exec f (code_told f h) (script_told f h)

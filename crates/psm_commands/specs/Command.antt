@@ -3,27 +3,31 @@ use Rattle.std.specs.Prelude.{ℕ, List, [], ◌∷◌}
 use Rattle.psm_commands.specs.declared.command.Command.{Command as Spoken}
 use Rattle.psm_commands.specs.declared.command.Command.TheVariants as spoken
 
--- the names of the two files of `run`, and the turns of the session
+-- the names of two files, of which the first gives code (a module file or an object) and the second is a script, and the turns of the session
 pub record Files : Type 0 where
-  pub for_module : List ℕ
+  pub for_code : List ℕ
   pub for_script : List ℕ
   pub turns : ℕ
 
 abbrev pub named : List ℕ → List ℕ → ℕ → Files
-named m s n = record { for_module = m; for_script = s; turns = n }
+named c s n = record { for_code = c; for_script = s; turns = n }
 
 pub data Command : Type 0 where
   -- a script is run over a module file
   Run : Files → Command
   -- the listing of a module file is written
   Compile : List ℕ → Command
+  -- a script is run over an object
+  Exec : Files → Command
 
 -- the command of a call
 abbrev pub command_of : Spoken → Command
-command_of (spoken.Run f) = Run (named f.for_module.now f.for_script.now f.turns)
+command_of (spoken.Run f) = Run (named f.for_code.now f.for_script.now f.turns)
 command_of (spoken.Compile name) = Compile name.now
+command_of (spoken.Exec f) = Exec (named f.for_code.now f.for_script.now f.turns)
 
 -- the names of the files that it reads, in their order
 abbrev pub files_of : Command → List (List ℕ)
-files_of (Run f) = f.for_module ∷ f.for_script ∷ []
+files_of (Run f) = f.for_code ∷ f.for_script ∷ []
 files_of (Compile name) = name ∷ []
+files_of (Exec f) = f.for_code ∷ f.for_script ∷ []

@@ -3,6 +3,7 @@ pub mod Message
 pub mod Sources
 pub mod Run
 pub mod Compile
+pub mod Exec
 pub mod Contract
 pub mod Reading
 pub mod Report

@@ -10,15 +10,16 @@ use Rattle.psm_files.specs.Expected.{with_line}
 use Rattle.psm_files.specs.Message.{cannot_read, too_long}
 use Rattle.psm_files.specs.declared.status.Status.{Status}
 use Rattle.psm_files.specs.declared.status.Status.TheVariants as status
-use Rattle.psm_commands.specs.Sources.{with_refusal}
+use Rattle.psm_commands.specs.Sources.{with_object_refusal, with_refusal}
 use Rattle.psm_commands.specs.declared.source.Refusal.{Refusal}
-use Rattle.psm_commands.specs.declared.source.Refusal.TheVariants.{Unread, TooLong, Refused, Memory}
+use Rattle.psm_commands.specs.declared.source.Refusal.TheVariants.{Unread, TooLong, Refused, NoObject, Memory}
 
 -- the line that says why the file of that name gives no code and no script
 abbrev pub Reports : Refusal → List ℕ → Sunk → Status → Type 0
 Reports Unread name sunk answer = PutsLine (with_line status.ReadFault (cannot_read name)) sunk answer
 Reports TooLong name sunk answer = PutsLine (with_line status.TooLong (too_long name)) sunk answer
 Reports (Refused w line column fault) name sunk answer = PutsLine (with_refusal w line column fault) sunk answer
+Reports (NoObject line fault) name sunk answer = PutsLine (with_object_refusal line fault) sunk answer
 Reports Memory name sunk answer = RunsOut sunk answer
 
 -- the status of a run that ended so

@@ -1,6 +1,6 @@
 -- What is expected of the command that runs a script over a module file.
 use Rattle.std.specs.Prelude.{◌≡◌, ℕ, List, Option, Some, None}
-use Rattle.psm_build.specs.Program.{EndsIn, IsModuleFile}
+use Rattle.psm_build.specs.Program.{EndsIn, IsModuleFile, IsScriptFault}
 use Rattle.psm_files.specs.Expected.{Expected}
 use Rattle.psm_files.specs.Given.{Given}
 use Rattle.psm_files.specs.declared.status.Status.{Status}
@@ -34,4 +34,4 @@ pub record Plays (given : Given) (ms ss : List ℕ) (turns : ℕ) (expected : Ex
 
 -- the first of the two files that isn't accepted decides, else the session that they end in
 abbrev pub ForRun : Given → Files → Expected → Type 0
-ForRun given f = ForModule given f.for_module (λ ms expected. IsModuleFile ms × ForScript given ms f.for_script (λ ss. Plays given ms ss f.turns) expected)
+ForRun given f = ForModule given f.for_code (λ ms expected. IsModuleFile ms × ForScript given (IsScriptFault ms) f.for_script (λ ss. Plays given ms ss f.turns) expected)

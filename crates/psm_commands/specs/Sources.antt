@@ -1,14 +1,18 @@
--- What is expected for a module file, and for a script over one.
+-- What is expected for a file that gives code, and for a script over that.
 use Rattle.std.specs.Prelude.{◌≡◌, ℕ, ◌⊎◌, List}
-use Rattle.psm_build.specs.Program.{IsModuleFault, IsScriptFault}
+use Rattle.psm_build.specs.Program.{IsModuleFault}
 use Rattle.psm_build.specs.declared.fault.Fault.{Fault}
 use Rattle.psm_files.specs.Expected.{Expected, with_line}
 use Rattle.psm_files.specs.Given.{ForFile, Given}
 use Rattle.psm_files.specs.declared.status.Status.{Status}
-use Rattle.psm_files.specs.declared.status.Status.TheVariants.{ModuleRefused, ScriptRefused}
-use Rattle.psm_commands.specs.Message.{refusal_line}
+use Rattle.psm_files.specs.declared.status.Status.TheVariants.{ModuleRefused, ObjectRefused, ScriptRefused}
+use Rattle.psm_load.specs.Loading.{IsObjectFault}
+use Rattle.psm_load.specs.declared.fault.ObjectFault.{ObjectFault}
+use Rattle.psm_commands.specs.Message.{object_refusal_line, refusal_line}
 use Rattle.psm_commands.specs.declared.source.Which.{Which}
 use Rattle.psm_commands.specs.declared.source.Which.TheVariants.{Module, Script}
+
+-- ---- module files and scripts
 
 abbrev pub status_of_refused : Which → Status
 status_of_refused Module = ModuleRefused
@@ -31,6 +35,24 @@ pub record IsRefused (given : Given) (w : Which) (IsFault : ℕ → ℕ → Faul
 abbrev pub ForModule : Given → List ℕ → (List ℕ → Expected → Type 0) → Expected → Type 0
 ForModule given name For = ForFile given name (λ ms expected. IsRefused given Module (IsModuleFault ms) expected ⊎ For ms expected)
 
--- and for a script of that name over the module file ms
-abbrev pub ForScript : Given → List ℕ → List ℕ → (List ℕ → Expected → Type 0) → Expected → Type 0
-ForScript given ms name For = ForFile given name (λ ss expected. IsRefused given Script (IsScriptFault ms ss) expected ⊎ For ss expected)
+-- and for a script of that name, whose faults are these
+abbrev pub ForScript : Given → (List ℕ → ℕ → ℕ → Fault → Type 0) → List ℕ → (List ℕ → Expected → Type 0) → Expected → Type 0
+ForScript given IsFault name For = ForFile given name (λ ss expected. IsRefused given Script (IsFault ss) expected ⊎ For ss expected)
+
+-- ---- objects
+
+-- for an object with a fault, at that line
+abbrev pub with_object_refusal : ℕ → ObjectFault → Expected
+with_object_refusal line fault = with_line ObjectRefused (object_refusal_line line fault)
+
+-- the bytes are no object, for which this is expected
+pub record IsObjectRefused (given : Given) (os : List ℕ) (expected : Expected) : Type 0 where
+  pub line : ℕ
+  pub fault : ObjectFault
+  pub is_fault : IsObjectFault os line fault
+  pub none_fails : given.NoneFails
+  pub expected_is : expected ≡ with_object_refusal line fault
+
+-- what is expected for an object of that name, by what is expected for its bytes where they are one
+abbrev pub ForObject : Given → List ℕ → (List ℕ → Expected → Type 0) → Expected → Type 0
+ForObject given name For = ForFile given name (λ os expected. IsObjectRefused given os expected ⊎ For os expected)

@@ -5,16 +5,22 @@ ghost use Rattle.psm_commands.specs.Command.{command_of};
 ghost use Rattle.psm_commands.specs.Contract.{CommandSays, CommandCompletes};
 
 use crate::compile::compile;
+use crate::exec::exec;
 use crate::run::run;
 use psm_build::files_are_one_thing;
+use psm_code_session::{
+    scripts_over_code_are_one_thing, scripts_over_well_formed_code_have_one_session,
+};
 use psm_files::Status;
 use psm_io::{Shelf, Sink};
+use psm_load::texts_are_one_thing;
 use std::alloc::Global;
 
-/// The names of the two files of `run`, and the turns of the session.
+/// The names of two files, and the turns of the session.
 #[derive(Clone, Copy, Debug)]
 pub struct Files<'a> {
-    pub for_module: &'a str,
+    /// The file that gives code: a module file, or an object.
+    pub for_code: &'a str,
     pub for_script: &'a str,
     pub turns: u64,
 }
@@ -26,16 +32,19 @@ pub enum Command<'a> {
     Run(Files<'a>),
     /// Write the listing of the module file of that name.
     Compile(&'a str),
+    /// Run the script over the object.
+    Exec(Files<'a>),
 }
 
 /// Does what the command says. `run` runs the script over the module file, with that many turns, on empty tables (ISO/IEC
 /// 9075-4:1996, module definitions and the call statement), and puts a piece for each command of the script. `compile` puts one
-/// piece, the listing of code that stands for the module file. The first file that can't be read, is too long or is refused ends
-/// either, and the line that says so is put.
+/// piece, the listing of code that stands for the module file. `exec` runs the script as `run` does, over the code that the object
+/// lists, whoever wrote it. The first file that can't be read, is too long or is refused ends each, and the line that says so is
+/// put.
 ///
 /// # Errors
 /// The status says how the command ended: `Done`, `TurnsUsed` for a session that has used its turns, `ReadFault`, `TooLong`,
-/// `ModuleRefused` and `ScriptRefused` for a file, `WriteFault` where a put failed, `Memory`.
+/// `ModuleRefused`, `ObjectRefused` and `ScriptRefused` for a file, `WriteFault` where a put failed, `Memory`.
 pub fn perform<F: Shelf, K: Sink>(
     alloc: Global,
     command: Command<'_>,
@@ -48,8 +57,12 @@ pub fn perform<F: Shelf, K: Sink>(
     ensures completes { CommandCompletes (fetches_of F.held F.faults shelf.old shelf.new) (command_of command.entry) (sunk_of K.written K.faults out.old out.new) result }
 {
     files_are_one_thing();
+    texts_are_one_thing();
+    scripts_over_code_are_one_thing();
+    scripts_over_well_formed_code_have_one_session();
     match command {
         Command::Run(files) => run(alloc, files, shelf, out),
         Command::Compile(name) => compile(alloc, name, shelf, out),
+        Command::Exec(files) => exec(alloc, files, shelf, out),
     }
 }

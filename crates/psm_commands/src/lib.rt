@@ -1,10 +1,12 @@
-//! The commands of the program. `run` puts the pieces of a script over a module file, and `compile` the listing of a module
-//! file; each puts the line that says why a file is not accepted.
+//! The commands of the program. `run` puts the pieces of a script over a module file, `compile` the listing of a module file, and
+//! `exec` the pieces of a script over an object, which is such a listing; each puts the line that says why a file is not accepted.
 #![tactic(auto)]
 
 mod command;
 mod compile;
+mod exec;
 mod laws;
+mod play;
 mod refusal;
 mod run;
 mod source;

@@ -4,12 +4,13 @@ ghost use Rattle.psm_session.specs.Put.{sunk_of};
 ghost use Rattle.psm_files.specs.Answer.{PutsLine};
 ghost use Rattle.psm_commands.specs.Message.{noun_of};
 ghost use Rattle.psm_commands.specs.Report.{Reports};
-ghost use Rattle.psm_commands.specs.Sources.{status_of_refused, with_refusal};
+ghost use Rattle.psm_commands.specs.Sources.{status_of_refused, with_object_refusal, with_refusal};
 
 use crate::source::{Refusal, Which};
 use psm_build::Fault;
-use psm_files::{Status, fault_line, put_line, too_long_line, unread_line};
+use psm_files::{Status, fault_line, object_fault_line, put_line, too_long_line, unread_line};
 use psm_io::Sink;
+use psm_load::ObjectFault;
 use std::alloc::Global;
 
 /// Puts the line that says why the file of that name gives no code and no script.
@@ -35,6 +36,7 @@ pub(crate) fn report<K: Sink>(alloc: Global, name: &str, refusal: Refusal, out: 
             column,
             fault,
         } => report_fault(alloc, which, line, column, fault, out),
+        Refusal::NoObject { line, fault } => report_object(alloc, line, fault, out),
         Refusal::Memory => Status::Memory,
     }
 }
@@ -52,6 +54,16 @@ fn report_fault<K: Sink>(
 {
     match fault_line(alloc, noun(which), line, column, fault.text()) {
         Ok(line) => put_line(&line, refused_status(which), out),
+        Err(_) => Status::Memory,
+    }
+}
+
+// Puts the line of a file that is no object.
+fn report_object<K: Sink>(alloc: Global, line: u32, fault: ObjectFault, out: &mut K) -> Status
+    ensures { PutsLine (with_object_refusal line fault) (sunk_of K.written K.faults out.old out.new) result }
+{
+    match object_fault_line(alloc, line, fault.text()) {
+        Ok(line) => put_line(&line, Status::ObjectRefused, out),
         Err(_) => Status::Memory,
     }
 }

@@ -8,6 +8,6 @@ mod put;
 mod status;
 
 pub use file::{FetchFault, fetch};
-pub use line::{fault_line, too_long_line, unread_line};
+pub use line::{fault_line, object_fault_line, too_long_line, unread_line};
 pub use put::put_line;
 pub use status::Status;

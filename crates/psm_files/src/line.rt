@@ -1,6 +1,6 @@
 //! The lines that say what is wrong with a file.
 ghost use Rattle.std.specs.Prelude.{◌≡◌, ◌++◌, IfOk};
-ghost use Rattle.psm_files.specs.Message.{cannot_read, fault_line, too_long};
+ghost use Rattle.psm_files.specs.Message.{cannot_read, fault_line, object_fault_line, too_long};
 
 use itoa::Buffer;
 use std::alloc::{AllocError, Global};
@@ -34,6 +34,18 @@ pub fn fault_line(
     bytes.extend_from_slice(Buffer::new().format(line).as_bytes())?;
     bytes.extend_from_slice(b":")?;
     bytes.extend_from_slice(Buffer::new().format(column).as_bytes())?;
+    bytes.extend_from_slice(b" ")?;
+    bytes.extend_from_slice(text.as_bytes())?;
+    bytes.extend_from_slice(b"\n")?;
+    Ok(bytes)
+}
+
+/// The line that says which line of an object has a fault, and what is wrong.
+pub fn object_fault_line(alloc: Global, line: u32, text: &str) -> Result<Vec<u8>, AllocError>
+    ensures { IfOk result (λ it. it.items ≡ object_fault_line line text.now) }
+{
+    let mut bytes = Vec::from_slice(alloc, b"object ")?;
+    bytes.extend_from_slice(Buffer::new().format(line).as_bytes())?;
     bytes.extend_from_slice(b" ")?;
     bytes.extend_from_slice(text.as_bytes())?;
     bytes.extend_from_slice(b"\n")?;

@@ -1,1 +1,2 @@
 pub mod DueLines
+pub mod NumberedHandlers

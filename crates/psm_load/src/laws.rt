@@ -1,5 +1,6 @@
 //! Laws of listings that are read.
-ghost use Rattle.std.specs.Prelude.{◌≡◌, ◌⊎◌, [], ◌∷◌, ℕ, List, None, Some, Ok, Err};
+ghost use Rattle.std.specs.Prelude.{◌≡◌, ◌⊎◌, [], ◌∷◌, ℕ, List, All, IsTrue, None, Some, Ok, Err};
+ghost use Rattle.psm_cond.specs.WellFormed.{is_numbered};
 ghost use Rattle.psm_code.specs.declared.code.RawCode.{RawCode};
 ghost use Rattle.psm_code.specs.RoutineRules.{first_fault};
 ghost use Rattle.psm_object.specs.Listing.{lines_of, listing};
@@ -28,6 +29,11 @@ pub fn a_text_stands_for_the_code_that_it_lists()
 pub fn texts_are_one_thing()
     ensures code { (text : List ℕ) (c d : RawCode) → IsObject text c → IsObject text d → c ≡ d }
     ensures exclusive { (text : List ℕ) (c : RawCode) → IsObject text c → (line : ℕ) (fault : ObjectFault) → IsObjectFault text line fault → ⊥ }
-    ensures fault { (text : List ℕ) (k l : ℕ) (e f : ObjectFault) → IsObjectFault text k e → IsObjectFault text l f → (k, e) ≡ (l, f) }
+    ensures fault { (text : List ℕ) (k l : ℕ) (e f : ObjectFault) → IsObjectFault text k e → IsObjectFault text l f → (k ≡ l) × (e ≡ f) }
     ensures total { (text : List ℕ) → ((c : RawCode) × IsObject text c) ⊎ ((line : ℕ) × (fault : ObjectFault) × IsObjectFault text line fault) }
+{}
+
+/// The numbers of declared conditions, contexts and handlers of each routine of an object have 32 bits.
+pub fn objects_have_numbered_handlers()
+    ensures { (text : List ℕ) (code : RawCode) → IsObject text code → All (λ r. IsTrue (is_numbered r.handlers)) code.routines }
 {}

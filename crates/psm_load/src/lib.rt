@@ -6,5 +6,6 @@ mod laws;
 
 pub use fault::{LoadFault, ObjectFault};
 pub use laws::{
-    a_text_stands_for_the_code_that_it_lists, texts_are_one_thing, the_lines_of_a_listing_are_due,
+    a_text_stands_for_the_code_that_it_lists, objects_have_numbered_handlers, texts_are_one_thing,
+    the_lines_of_a_listing_are_due,
 };

@@ -1,5 +1,19 @@
-use Rattle.psm_commands.proofs.Told.{for_command}
+use Rattle.psm_commands.proofs.Told.{AreSomething, for_command}
 use Rattle.psm_commands.proofs.laws.something_is_expected.Goals as goal
 
 pub returns : goal.returns
-returns c = λ held command told. for_command held c.files_are_something.ensures.modules c.files_are_something.ensures.scripts c.files_are_something.ensures.sessions c.files_are_one_thing.ensures.ends command told
+returns c =
+    let files = c.files_are_something.ensures in
+    let law = c.scripts_over_well_formed_code_have_one_session.ensures in
+    λ held command told.
+    let all : AreSomething held = record {
+      modules = files.modules;
+      scripts = files.scripts;
+      sessions = files.sessions;
+      ends = c.files_are_one_thing.ensures.ends;
+      objects = c.texts_are_one_thing.ensures.total;
+      scripts_over = λ os code is ss. c.scripts_over_code_are_one_thing.ensures.total code is.well_formed ss;
+      sessions_over = λ os code is ss commands script turns. law.exists code is.well_formed (c.objects_have_numbered_handlers.ensures os code is) ss commands script turns;
+      ends_over = law.ends;
+    } in
+    for_command held all command told
