@@ -1,10 +1,9 @@
--- The commands that are made of well-typed and well-formed ones ask of code what it has.
+-- The commands that are made of those of an accepted script ask of code what it has.
 use Rattle.std.proofs.Common.{◌≡◌, ℕ, zero, suc, true, List, [], ◌∷◌, length, map, Some, None, is_some, refl, ap, sym, ◌∙◌, subst, cond}
 use Rattle.std.specs.Prelude.{slice_get, if◌then◌else◌}
 use Rattle.std.specs.List.{All, AllByRecursion}
 use Rattle.std.proofs.lemmas.List.Elements.{All-from_recursion}
 use Rattle.psm_value.specs.declared.datum.Datum.{Datum}
-use Rattle.psm_exprcode.specs.declared.op.Letter.{Letter}
 use Rattle.psm_exprcode.specs.declared.query.Query.{Query}
 use Rattle.psm_exprcode.specs.Kinds.{letter_of}
 use Rattle.psm_table.specs.Definition.{kinds_of}
@@ -27,8 +26,7 @@ use Rattle.psm_codegen.specs.Files.{FileWritten, known_of}
 use Rattle.psm_codegen.specs.Queries.{QueryMade, column_letters, is_query}
 use Rattle.psm_codegen.specs.Written.{letters_at}
 use Rattle.psm_typing.specs.TypingContext.{Each}
-use Rattle.psm_typing.specs.Scripts.{IsCommand, no_routine, outside}
-use Rattle.psm_typing.specs.Queries.{IsQuery}
+use Rattle.psm_typing.specs.Scripts.{no_routine}
 use Rattle.psm_wellformed.specs.Files.{WellFormedFile}
 use Rattle.psm_wellformed.specs.Queries.{WellFormedQuery, are_well_formed, items_of}
 use Rattle.psm_checker_sound.specs.ScriptsStand.{ScriptStands}
@@ -41,9 +39,10 @@ use Rattle.psm_session.specs.declared.command.ScriptCommand.{ScriptCommand}
 use Rattle.psm_session.specs.declared.command.ScriptCommand.TheVariants as made
 use Rattle.psm_session.specs.Ends.{FitsCommand, FitsQuery}
 use Rattle.psm_script_code.specs.Made.{CommandMade, CommandsMade, known_of_tables}
-use Rattle.psm_script_code.specs.WellFormed.{AsksTables, WellFormedCommand}
-use Rattle.psm_script_code.proofs.Heads.{HasHeads, SameTables, written_heads, written_known}
-use Rattle.psm_script_code.proofs.WellTyped.{commands_well_formed, commands_well_typed}
+use Rattle.psm_script_code.specs.WellFormed.{AsksTables}
+use Rattle.psm_script_code.proofs.Heads.{HasHeads, SameTables, same_tables, written_heads}
+use Rattle.psm_script_code.proofs.Selects.{HasSelect, IsSelect, commands_select}
+use Rattle.psm_script_code.proofs.Tables.{WellFormedTables, knows_tables, tables_of_file}
 use Rattle.psm_script_code.proofs.TypeChecks.{query_fits}
 
 -- ---- CALL
@@ -73,14 +72,17 @@ same_letters (t ∷ ts) [] h = absurd h
 same_letters (t ∷ ts) (u ∷ us) h =
     ap (λ (d : TableDef). map letter_of (kinds_of d.columns) ∷ map column_letters ts) (sym h.0) ∙ ap (λ ls. code_of.column_letters u ∷ ls) (same_letters ts us h.1)
 
--- well-formed over the tables of a file is well-formed over those of its code
-pub well_formed_over_tables : (file : ResolvedFile) (code : RawCode) → HasHeads file code → (query : ResolvedQuery) → WellFormedQuery (known_of file no_routine) query → WellFormedQuery (known_of_tables code) query
-well_formed_over_tables file code h query well_formed =
-    let columns = same_letters file.tables code.tables h.tables in
+-- well-formed over the tables of a file is well-formed over the same of code
+well_formed_over : (file : ResolvedFile) (code : RawCode) → SameTables file.tables code.tables → (query : ResolvedQuery) → WellFormedQuery (known_of file no_routine) query → WellFormedQuery (known_of_tables code) query
+well_formed_over file code same query well_formed =
+    let columns = same_letters file.tables code.tables same in
     record {
       is = subst (λ ls. is_query (record (known_of_tables code) { columns = ls }) query ≡ true) columns well_formed.is;
       items = subst (λ ls. are_well_formed (letters_at ls (out-ResolvedQuery query).table) [] (items_of query) ≡ true) columns well_formed.items;
     }
+
+pub well_formed_over_tables : (file : ResolvedFile) (code : RawCode) → HasHeads file code → (query : ResolvedQuery) → WellFormedQuery (known_of file no_routine) query → WellFormedQuery (known_of_tables code) query
+well_formed_over_tables file code h = well_formed_over file code h.tables
 
 table_there : (ts : List ResolvedTable) (us : List CodeTable) → SameTables ts us → (n : ℕ) (t : ResolvedTable) → slice_get ts n ≡ Some t → (u : CodeTable) × (slice_get us n ≡ Some u)
 table_there [] [] h n t is = absurd cc
@@ -97,70 +99,73 @@ letters_there (x ∷ us) zero u is = ap (λ (y : CodeTable). letters_of y.defini
     some_inside = cc
 letters_there (x ∷ us) (suc n) u is = letters_there us n u is
 
-pub select_fits : (file : ResolvedFile) (code : RawCode) → HasHeads file code → (query : ResolvedQuery) (ks : List Letter) → IsQuery (outside file) query ks → WellFormedQuery (known_of file no_routine) query
-    → (lines : Query) → QueryMade (known_of_tables code) query lines → FitsQuery code lines
-select_fits file code h query ks well_typed well_formed lines q =
+select_fits : (file : ResolvedFile) (code : RawCode) → SameTables file.tables code.tables → (query : ResolvedQuery) → IsSelect file query → (lines : Query) → QueryMade (known_of_tables code) query lines → FitsQuery code lines
+select_fits file code same query select lines q =
     let n = (out-ResolvedQuery query).table in
-    let t = table_there file.tables code.tables h.tables n well_typed.table well_typed.there in
+    let t = table_there file.tables code.tables same n select.well_typed.table select.well_typed.there in
     record {
       table = t.0;
       there = ap (slice_get code.tables) q.table ∙ t.1;
       type_checks = record {
         variables = [];
         kinds = refl;
-        fits = subst (λ ls. fits_query ls [] lines ≡ true) (letters_there code.tables n t.0 t.1) (query_fits (known_of_tables code) query lines (well_formed_over_tables file code h query well_formed) q);
+        fits = subst (λ ls. fits_query ls [] lines ≡ true) (letters_there code.tables n t.0 t.1) (query_fits (known_of_tables code) query lines (well_formed_over file code same query select.well_formed) q);
       };
     }
 
 -- ---- commands
 
-pub command_fits : (file : ResolvedFile) (code : RawCode) → HasHeads file code → (c : Command) → IsCommand file c → WellFormedCommand file c → checked.IsThere code c → (m : ScriptCommand) → CommandMade code c m → FitsCommand code m
-command_fits file code h (Call procedure values) well_typed well_formed there (made.Call routine args) is = call_fits code procedure routine values args there is
-command_fits file code h (Insert table columns rows) well_typed well_formed there (made.Insert at places values) is = ap (λ n. is_some (slice_get code.tables n)) is.0 ∙ there
-command_fits file code h (Select query) well_typed well_formed there (made.Select lines) is = select_fits file code h query well_typed.0 well_typed.1 well_formed lines is
-command_fits file code h Commit well_typed well_formed there made.Commit is = tt
-command_fits file code h Rollback well_typed well_formed there made.Rollback is = tt
-command_fits file code h command well_typed well_formed there other is = absurd is
+module _ (file : ResolvedFile) (code : RawCode) (same : SameTables file.tables code.tables) where
+  command_fits : (c : Command) → HasSelect file c → checked.IsThere code c → (m : ScriptCommand) → CommandMade code c m → FitsCommand code m
+  command_fits (Call procedure values) select there (made.Call routine args) is = call_fits code procedure routine values args there is
+  command_fits (Insert table columns rows) select there (made.Insert at places values) is = ap (λ n. is_some (slice_get code.tables n)) is.0 ∙ there
+  command_fits (Select query) select there (made.Select lines) is = select_fits file code same query select lines is
+  command_fits Commit select there made.Commit is = tt
+  command_fits Rollback select there made.Rollback is = tt
+  command_fits command select there other is = absurd is
 
-all_fit : (file : ResolvedFile) (code : RawCode) → HasHeads file code → (cs : List Command) → Each (IsCommand file) cs → Each (WellFormedCommand file) cs → AllByRecursion (checked.IsThere code) cs
-    → (ms : List ScriptCommand) → CommandsMade code cs ms → AllByRecursion (FitsCommand code) ms
-all_fit file code h [] well_typed well_formed there [] made = tt
-all_fit file code h [] well_typed well_formed there (m ∷ ms) made = absurd made
-all_fit file code h (c ∷ cs) well_typed well_formed there [] made = absurd made
-all_fit file code h (c ∷ cs) well_typed well_formed there (m ∷ ms) made =
-    (command_fits file code h c well_typed.0 well_formed.0 there.0 m made.0, all_fit file code h cs well_typed.1 well_formed.1 there.1 ms made.1)
+  all_fit : (cs : List Command) → Each (HasSelect file) cs → AllByRecursion (checked.IsThere code) cs → (ms : List ScriptCommand) → CommandsMade code cs ms → AllByRecursion (FitsCommand code) ms
+  all_fit [] select there [] made = tt
+  all_fit [] select there (m ∷ ms) made = absurd made
+  all_fit (c ∷ cs) select there [] made = absurd made
+  all_fit (c ∷ cs) select there (m ∷ ms) made = (command_fits c select.0 there.0 m made.0, all_fit cs select.1 there.1 ms made.1)
 
--- ---- scripts
+  command_asks : (c : Command) → HasSelect file c → AsksTables code c
+  command_asks (Call procedure values) select = tt
+  command_asks (Insert table columns rows) select = tt
+  command_asks (Select query) select = (well_formed_over file code same query select.well_formed).is
+  command_asks Commit select = tt
+  command_asks Rollback select = tt
 
--- an accepted script over the code of a well-formed file
+  all_ask : (cs : List Command) → Each (HasSelect file) cs → Each (AsksTables code) cs
+  all_ask [] select = tt
+  all_ask (c ∷ cs) select = (command_asks c select.0, all_ask cs select.1)
+
+-- ---- an accepted script over code that has the well-formed tables of a file
+
+module _ (file : ResolvedFile) (code : RawCode) (same : SameTables file.tables code.tables) (tables : WellFormedTables file) (s : ScriptTree) (well : ScriptStands s)
+    (none : script_fault (checked_known.known_of code) s ≡ None) where
+  abbrev commands : List Command
+  commands = script_of (checked_known.known_of code) s
+
+  selects : Each (HasSelect file) commands
+  selects = commands_select file (checked_known.known_of code) (knows_tables file (checked_known.known_of code) (same_tables [] file.tables code.tables same) tables) s well none
+
+  pub accepted_fit : (ms : List ScriptCommand) → CommandsMade code commands ms → All (FitsCommand code) ms
+  accepted_fit ms made = All-from_recursion (FitsCommand code) ms (all_fit file code same commands selects (commands_there code s.commands none) ms made)
+
+  accepted_ask : Each (AsksTables code) commands
+  accepted_ask = all_ask file code same commands selects
+
+-- ---- one over the code of a well-formed file
+
 pub commands_fit : (file : ResolvedFile) (code : RawCode) → WellFormedFile file → FileWritten file code → (s : ScriptTree) → ScriptStands s → script_fault (checked_known.known_of code) s ≡ None
     → (ms : List ScriptCommand) → CommandsMade code (script_of (checked_known.known_of code) s) ms → All (FitsCommand code) ms
-commands_fit file code h written s well none ms made =
-    let known = written_known file code written in
-    let fault = subst (λ k. script_fault k s ≡ None) known none in
-    All-from_recursion (FitsCommand code) ms (all_fit file code (written_heads file code written) (script_of (checked_known.known_of code) s)
-    (subst (λ k. Each (IsCommand file) (script_of k s)) (sym known) (commands_well_typed file h s well fault))
-    (subst (λ k. Each (WellFormedCommand file) (script_of k s)) (sym known) (commands_well_formed file h s well fault))
-    (commands_there code s.commands none) ms made)
-
-command_asks : (file : ResolvedFile) (code : RawCode) → HasHeads file code → (c : Command) → WellFormedCommand file c → AsksTables code c
-command_asks file code h (Call procedure values) well_formed = tt
-command_asks file code h (Insert table columns rows) well_formed = tt
-command_asks file code h (Select query) well_formed = (well_formed_over_tables file code h query well_formed).is
-command_asks file code h Commit well_formed = tt
-command_asks file code h Rollback well_formed = tt
-
-all_ask : (file : ResolvedFile) (code : RawCode) → HasHeads file code → (cs : List Command) → Each (WellFormedCommand file) cs → Each (AsksTables code) cs
-all_ask file code h [] well_formed = tt
-all_ask file code h (c ∷ cs) well_formed = (command_asks file code h c well_formed.0, all_ask file code h cs well_formed.1)
+commands_fit file code h written = accepted_fit file code (written_heads file code written).tables (tables_of_file file h)
 
 pub commands_ask : (file : ResolvedFile) (code : RawCode) → WellFormedFile file → FileWritten file code → (s : ScriptTree) → ScriptStands s → script_fault (checked_known.known_of code) s ≡ None
     → Each (AsksTables code) (script_of (checked_known.known_of code) s)
-commands_ask file code h written s well none =
-    let known = written_known file code written in
-    let fault = subst (λ k. script_fault k s ≡ None) known none in
-    all_ask file code (written_heads file code written) (script_of (checked_known.known_of code) s)
-    (subst (λ k. Each (WellFormedCommand file) (script_of k s)) (sym known) (commands_well_formed file h s well fault))
+commands_ask file code h written = accepted_ask file code (written_heads file code written).tables (tables_of_file file h)
 
 -- ---- as the checker answers
 

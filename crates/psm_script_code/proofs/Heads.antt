@@ -95,7 +95,7 @@ own_heads file = record { tables = tables_alone file.tables; routines = routines
 
 -- ---- what a script may name
 
-same_tables : (known : Tables) (ts : List ResolvedTable) (us : List CodeTable) → SameTables ts us → checked.with_tables known us ≡ with_tables known ts
+pub same_tables : (known : Tables) (ts : List ResolvedTable) (us : List CodeTable) → SameTables ts us → checked.with_tables known us ≡ with_tables known ts
 same_tables known [] [] h = refl
 same_tables known [] (u ∷ us) h = absurd h
 same_tables known (t ∷ ts) [] h = absurd h

@@ -5,4 +5,5 @@ pub mod Selects
 pub mod WellTyped
 pub mod TypeChecks
 pub mod Fits
+pub mod CodeTables
 pub mod Making

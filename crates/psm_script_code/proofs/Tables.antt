@@ -1,4 +1,5 @@
--- A script that may name the tables of a well-formed file knows each of them, with the types of its columns; and each has a column.
+-- What a query asks of the tables that a script may name: where they are those of a file, and well-formed, each is known with the types of
+-- its columns, and has a column.
 use Rattle.std.proofs.Common.{◌≡◌, ℕ, Bool, true, false, ◌&&◌, ◌||◌, not, List, [], ◌∷◌, ◌++◌, map, Option, Some, None, is_some, refl, ap, sym, ◌∙◌, subst}
 use Rattle.std.specs.Prelude.{if◌then◌else◌}
 use Rattle.std.specs.List.{list_all}
@@ -19,11 +20,14 @@ use Rattle.psm_code.specs.Rules as rules
 use Rattle.psm_code.specs.Rules.{each_after, is_same}
 use Rattle.psm_code.specs.TableRules.{are_there, column_fault, is_as_stored, is_column_list, refuses_null}
 use Rattle.psm_code.specs.declared.rule.CodeRule.TheVariants.{Range, Definition}
+use Rattle.psm_resolved.specs.declared.file.ResolvedFile.{ResolvedFile}
 use Rattle.psm_resolved.specs.declared.file.ResolvedTable.{ResolvedTable}
+use Rattle.psm_typing.specs.Scripts.{outside}
 use Rattle.psm_typing.specs.TypingContext.{Each}
-use Rattle.psm_wellformed.specs.Files.{NoFault, WellFormedTable, are_new_names, is_name_among}
+use Rattle.psm_wellformed.specs.Files.{NoFault, WellFormedFile, WellFormedTable, are_new_names, is_name_among}
 use Rattle.psm_checker_sound.specs.Agreement.{AreTables, HaveTypes}
-use Rattle.psm_check_script.specs.Known.{Tables, with_columns}
+use Rattle.psm_checker_sound.proofs.WellFormedParts.{HaveColumns}
+use Rattle.psm_check_script.specs.Known.{Known, Tables, with_columns}
 use Rattle.psm_check_script.proofs.NamesBefore.{sees_more}
 use Rattle.psm_script_code.specs.FileKnown.{with_tables}
 
@@ -111,7 +115,7 @@ tables_known names known before (t ∷ ts) k h new well_formed =
     (λ m. knows_more (λ n. is_name_among n names) known n columns k is_new m ∙ ap (λ b. b || is_name_among m names) (spelled_back m n))
     (table_last known before n columns t h (columns_typed [] [] [] t.definition.columns (λ m. refl) tt well_formed.0.columns)) two.1 well_formed.1))
 
-pub known_tables : (ts : List ResolvedTable) → are_new_names [] (map (λ t. t.definition.name) ts) ≡ true → Each WellFormedTable ts → AreTables (with_tables [] ts) ts
+known_tables : (ts : List ResolvedTable) → are_new_names [] (map (λ t. t.definition.name) ts) ≡ true → Each WellFormedTable ts → AreTables (with_tables [] ts) ts
 known_tables ts new well_formed = tables_known [] [] [] ts (λ n. refl) tt new well_formed
 
 -- ---- each has a column, since its key has one
@@ -128,6 +132,27 @@ table_column t h =
     let two = two_hold (are_there def.columns def.key) (is_column_list def.key && refuses) Range Definition h.key in
     some_column def.columns def.key two.0 (both_true (is_column_list def.key) refuses two.1).0
 
-pub have_columns : (ts : List ResolvedTable) → Each WellFormedTable ts → Each (λ t. rules.is_some t.definition.columns ≡ true) ts
+have_columns : (ts : List ResolvedTable) → Each WellFormedTable ts → Each (λ t. rules.is_some t.definition.columns ≡ true) ts
 have_columns [] h = tt
 have_columns (t ∷ ts) h = (table_column t h.0, have_columns ts h.1)
+
+-- ---- files
+
+-- well-formed tables, of which no two are of one name
+pub record WellFormedTables (file : ResolvedFile) : Type 0 where
+  pub names : are_new_names [] (map (λ t. t.definition.name) file.tables) ≡ true
+  pub tables : Each WellFormedTable file.tables
+
+pub tables_of_file : (file : ResolvedFile) → WellFormedFile file → WellFormedTables file
+tables_of_file file h = record { names = h.names; tables = h.tables }
+
+-- the tables that are known are those of the file
+pub record KnowsTables (file : ResolvedFile) (known : Known) : Type 0 where
+  pub tables : AreTables known.tables file.tables
+  pub columns : HaveColumns (outside file)
+
+pub knows_tables : (file : ResolvedFile) (known : Known) → known.tables ≡ with_tables [] file.tables → WellFormedTables file → KnowsTables file known
+knows_tables file known same h = record {
+  tables = subst (λ ts. AreTables ts file.tables) (sym same) (known_tables file.tables h.names h.tables);
+  columns = have_columns file.tables h.tables;
+}

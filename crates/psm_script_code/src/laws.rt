@@ -1,6 +1,8 @@
-//! The laws of accepted scripts over a module file and its code.
-ghost use Rattle.std.specs.Prelude.{◌≡◌, All, List, None};
+//! The laws of accepted scripts over a module file and its code, and over well-formed code.
+ghost use Rattle.std.specs.Prelude.{◌≡◌, All, List, None, map};
+ghost use Rattle.psm_table.specs.Definition.{IsDefinition};
 ghost use Rattle.psm_code.specs.declared.code.RawCode.{RawCode};
+ghost use Rattle.psm_code.specs.RoutineRules.{first_fault};
 ghost use Rattle.psm_resolved.specs.declared.file.ResolvedFile.{ResolvedFile};
 ghost use Rattle.psm_tree.specs.declared.script.ScriptTree.{ScriptTree};
 ghost use Rattle.psm_codegen.specs.Files.{FileWritten};
@@ -36,4 +38,16 @@ pub fn accepted_scripts_are_well_typed()
 pub fn commands_of_accepted_scripts_fit_their_code()
     ensures fit { (file : ResolvedFile) (code : RawCode) → WellFormedFile file → FileWritten file code → (s : ScriptTree) → ScriptStands s → script_fault (known_of code) s ≡ None → (commands : List ScriptCommand) → CommandsMade code (script_of (known_of code) s) commands → All (FitsCommand code) commands }
     ensures letters { (file : ResolvedFile) (code : RawCode) → WellFormedFile file → FileWritten file code → (s : ScriptTree) → ScriptStands s → script_fault (known_of code) s ≡ None → Each (AsksTables code) (script_of (known_of code) s) }
+{}
+
+/// What is made of the commands of a script that has no fault over well-formed code may be run over it, whoever wrote the code: each
+/// routine is there and takes as many values, each table is there, and the code of each query fits its table.
+pub fn commands_of_accepted_scripts_fit_well_formed_code()
+    ensures { (code : RawCode) → first_fault code ≡ None → (s : ScriptTree) → ScriptStands s → script_fault (known_of code) s ≡ None → (commands : List ScriptCommand) → CommandsMade code (script_of (known_of code) s) commands → All (FitsCommand code) commands }
+{}
+
+/// Well-formed code has definitions of tables alone, whoever wrote it: the types of their columns are within bounds, and each key is a
+/// list of some columns that exist, of which none stands twice (ISO/IEC 9075:1992, 11.3 and 11.7).
+pub fn the_tables_of_well_formed_code_are_definitions()
+    ensures { (code : RawCode) → first_fault code ≡ None → All IsDefinition (map (λ t. t.definition) code.tables) }
 {}
