@@ -1,1 +1,3 @@
 pub mod DueLines
+pub mod Following
+pub mod Misfits
