@@ -1,3 +1,6 @@
+pub mod Conditions
 pub mod DueLines
 pub mod Following
 pub mod Misfits
+pub mod Spelling
+pub mod WrittenParts
