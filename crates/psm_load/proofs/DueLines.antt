@@ -184,7 +184,7 @@ result_is : (o : Option SqlType) → result_word o ≡ or_dash type_word o
 result_is None = refl
 result_is (Some k) = refl
 
-head_is : (r : RawRoutine) → routine_line r ≡ routine_head_line (routine_head r)
+pub head_is : (r : RawRoutine) → routine_line r ≡ routine_head_line (routine_head r)
 head_is r = ap (λ w. spaced (codes "ROUTINE" ∷ routine_kind_word r.is_function ∷ quoted r.name ∷ data_counts r ++ control_counts r ++ w ∷ [])) (result_is r.returns)
 
 reads_data : (r : RawRoutine) → IsListedRoutine r → Reads (data_due (routine_head r).1.1.0) (variable_lines r ++ access_lines r)

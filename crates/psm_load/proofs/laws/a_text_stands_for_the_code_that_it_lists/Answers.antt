@@ -1,6 +1,6 @@
 use Rattle.std.proofs.Common.{ap, ◌∙◌}
 use Rattle.psm_load.proofs.Misfits.{first_misfit_is, misfit_of}
-use Rattle.psm_load.proofs.WrittenParts.{spells_table}
+use Rattle.psm_load.proofs.WrittenCode.{spells_code}
 use Rattle.psm_load.proofs.laws.a_text_stands_for_the_code_that_it_lists.Goals as goal
 
 pub returns : goal.returns
