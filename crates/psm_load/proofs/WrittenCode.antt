@@ -1,5 +1,5 @@
 -- Routines and code are read as they are written, where the conditions that they name break no rule.
-use Rattle.std.proofs.Common.{◌≡◌, ℕ, suc, List, [], ◌∷◌, ◌++◌, length, map, refl, sym, ap, ap₂, subst, ◌∙◌, append_assoc}
+use Rattle.std.proofs.Common.{◌≡◌, ℕ, suc, List, [], ◌∷◌, ◌++◌, length, map, None, refl, sym, ap, ap₂, subst, ◌∙◌, append_assoc}
 use Rattle.std.specs.List.{flat_map}
 use Rattle.psm_value.specs.declared.sqltype.SqlType.{SqlType}
 use Rattle.psm_cond.specs.Tables.{HandlerTable}
