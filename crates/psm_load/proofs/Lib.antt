@@ -2,7 +2,11 @@ pub mod Conditions
 pub mod DueLines
 pub mod Following
 pub mod Misfits
+pub mod Objects
 pub mod Sound
 pub mod Spelling
+pub mod Texts
+pub mod UnbrokenLines
+pub mod UnbrokenWords
 pub mod WrittenCode
 pub mod WrittenParts

@@ -278,7 +278,7 @@ query_with table downward found test = record { table = table; downward = downwa
 abbrev query_head_with : ℕ → Bool → ℕ → Bool → QueryHead
 query_head_with table downward count has_test = (table, (downward, (count, has_test)))
 
-count_is : (i : Items) → items_count i ≡ number (item_count i)
+pub count_is : (i : Items) → items_count i ≡ number (item_count i)
 count_is (items.Rows exprs) = refl
 count_is (items.Sets aggregates) = refl
 
