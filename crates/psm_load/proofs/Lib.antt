@@ -3,6 +3,7 @@ pub mod DueLines
 pub mod Following
 pub mod Misfits
 pub mod Objects
+pub mod OneThing
 pub mod Sound
 pub mod Spelling
 pub mod Texts

@@ -31,10 +31,10 @@ record Whole (r : Answer RawCode) (s : Stated) : Type 0 where
   read : r ≡ Ok (s.code, (at, []))
   odd : at.odd ≡ s.odd
 
-abbrev answered : Stated → Result Stated ℕ
+abbrev pub answered : Stated → Result Stated ℕ
 answered s = Ok s
 
-same_stated : (s t : Stated) → answered s ≡ answered t → s ≡ t
+pub same_stated : (s t : Stated) → answered s ≡ answered t → s ≡ t
 same_stated s t e = cc
 
 whole_ok : (r : Answer RawCode) (s : Stated) → whole r ≡ Ok s → Whole r s
