@@ -1,18 +1,16 @@
 -- Each part of code ends at the first line that isn't the one that is due, or goes on behind its own. So lines stand for code exactly where
 -- each is one of the kind that is due.
-use Rattle.std.proofs.Common.{◌≡◌, ℕ, zero, suc, Bool, List, [], ◌∷◌, ◌++◌, Option, Some, None, Result, Ok, Err, refl, sym, ap, ◌∙◌, append_assoc}
-use Rattle.std.proofs.lemmas.List.{append-nil}
+use Rattle.std.proofs.Common.{◌≡◌, ℕ, zero, suc, List, [], ◌∷◌, ◌++◌, Option, Some, None, Result, Ok, Err, refl, sym, ◌∙◌, append_assoc}
 use Rattle.std.specs.Prelude.{replicate}
 use Rattle.psm_exprcode.specs.declared.items.Items.TheVariants as items
 use Rattle.psm_code.specs.declared.code.RawCode.{RawCode}
-use Rattle.psm_load_line.specs.Forms.{ItemHead, PlanHead, QueryHead, TableHead, column_at, condition_at, context_at, first_at, handler_at, item_at, key_at, plan_at, query_at, set_at, table_at, unique_at, Delete, DeleteAt, Function, Insert, InsertQuery, Rows, Update, UpdateAt, Value}
+use Rattle.psm_load_line.specs.Forms.{ItemHead, PlanHead, TableHead, column_at, condition_at, context_at, first_at, handler_at, item_at, key_at, plan_at, query_at, set_at, table_at, unique_at, Delete, DeleteAt, Function, Insert, InsertQuery, Rows, Update, UpdateAt, Value}
 use Rattle.psm_load_line.specs.InstructionForms.{code_line_at, operation_line_at}
 use Rattle.psm_load_line.specs.OperationForms.{expression_at}
 use Rattle.psm_load_line.specs.RoutineForms.{ControlCounts, DataCounts, RoutineHead, cursor_at, parameter_at, routine_at, slot_at}
 use Rattle.psm_load.specs.Due.{Due, behind, behind_first, behind_item, behind_plan, behind_query, behind_routine, behind_table, control_due, data_due, first_misfit, lines_in, misfit, misfit_in, Column, Condition, Context, Cursor, Expression, First, Item, Key, Operation, Parameter, Routine, Set, Slot, Table, Unique}
 use Rattle.psm_load.specs.Due as due
-use Rattle.psm_load.specs.Parts.{At, Part}
-use Rattle.psm_load.specs.Stated.{Stated, access_by, all_lines, at_start, breaks_place, breaks_rows, breaks_sets, code, code_by, condition, expression, handler, handling_by, items_by, items_of, lines_by, more_rows, more_sets, operation, plan, plan_by, query, query_by, routine, routine_by, set_item, set_of_item, stated, table, table_by, value_of_item, variables_by, whole}
+use Rattle.psm_load.specs.Stated.{Stated, access_by, all_lines, at_start, breaks_place, breaks_rows, breaks_sets, code, condition, expression, handler, handling_by, items_by, items_of, more_rows, more_sets, operation, plan, plan_by, query, routine, routine_by, set_item, set_of_item, stated, table, table_by, value_of_item, variables_by, whole}
 use Rattle.psm_load.proofs.Following.{Answer, Follows, Lines, after_part, follows_due, follows_given, follows_line, follows_line_and, follows_made, follows_one, follows_test, follows_then, follows_times}
 
 -- ---- expressions and tables

@@ -1,5 +1,5 @@
 -- A text stands for the code of which it is the listing.
-use Rattle.std.proofs.Common.{◌≡◌, ℕ, List, [], ◌∷◌, ◌++◌, length, Option, Some, None, Result, Ok, Err, refl, sym, ap, subst, ◌∙◌}
+use Rattle.std.proofs.Common.{◌≡◌, ℕ, List, [], ◌∷◌, ◌++◌, length, None, Result, Ok, Err, refl, sym, ap, subst, ◌∙◌}
 use Rattle.std.proofs.lemmas.List.{append-nil}
 use Rattle.psm_code.specs.declared.code.RawCode.{RawCode}
 use Rattle.psm_code.specs.RoutineRules.{first_fault}
@@ -16,7 +16,7 @@ use Rattle.psm_load.proofs.Spelling.{moved}
 use Rattle.psm_load.proofs.Texts.{lines_of_text, none_empty, text_of_lines}
 use Rattle.psm_load.proofs.UnbrokenLines.{code_are_lines}
 use Rattle.psm_load.proofs.UnbrokenWords.{IsLine}
-use Rattle.psm_load.proofs.WrittenCode.{Codes, code_again, code_of, code_said, code_says, spells_code}
+use Rattle.psm_load.proofs.WrittenCode.{code_again, code_of, code_said, code_says, spells_code}
 
 pub stated_again : (c : RawCode) → IsListed c → stated (listing c) ≡ Ok (record { code = c; odd = None })
 stated_again c v =

@@ -1,12 +1,12 @@
 -- A text is the listing of one well-formed code, or has one first line with one fault.
-use Rattle.std.proofs.Common.{◌≡◌, ◌⊎◌, inl, inr, ℕ, List, Option, Some, None, Result, Ok, Err, refl, sym, ap, subst, ◌∙◌}
+use Rattle.std.proofs.Common.{◌≡◌, ◌⊎◌, inl, inr, ℕ, List, Option, Some, None, Result, Ok, Err, refl, sym, ap, ◌∙◌}
 use Rattle.psm_code.specs.declared.code.RawCode.{RawCode}
 use Rattle.psm_code.specs.declared.rule.CodeRule.{CodeRule}
 use Rattle.psm_code.specs.RoutineRules.{first_fault}
 use Rattle.psm_load.specs.declared.fault.ObjectFault.{ObjectFault}
 use Rattle.psm_load.specs.declared.fault.ObjectFault.TheVariants.{NotObject, IllFormed}
 use Rattle.psm_load.specs.Due.{first_misfit}
-use Rattle.psm_load.specs.Loading.{BreaksRule, IsObject, IsObjectFault, fault_of, fault_with}
+use Rattle.psm_load.specs.Loading.{IsObject, IsObjectFault, fault_of, fault_with}
 use Rattle.psm_load.specs.Stated.{Stated, stated}
 use Rattle.psm_load.proofs.Misfits.{first_misfit_is, misfit_of}
 use Rattle.psm_load.proofs.Objects.{answered, same_stated, stated_again, stated_takes}

@@ -1,5 +1,5 @@
 -- Declared conditions and handlers of code that breaks no rule.
-use Rattle.std.proofs.Common.{◌≡◌, ℕ, true, ◌&&◌, List, [], ◌∷◌, ◌++◌, length, map, Option, None}
+use Rattle.std.proofs.Common.{◌≡◌, true, ◌&&◌, List, [], ◌∷◌, ◌++◌, length, map, None}
 use Rattle.std.specs.List.{flat_map, list_all}
 use Rattle.psm_num.proofs.Literals.{and_first, and_second}
 use Rattle.psm_cond.specs.declared.handlers.Declared.{Declared}

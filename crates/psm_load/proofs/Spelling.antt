@@ -1,13 +1,12 @@
 -- What a part reads, as the values that its lines say one after another: lines that are read were written for such values, and those that are
 -- written for them are read again.
-use Rattle.std.proofs.Common.{◌≡◌, ℕ, zero, suc, ◌+◌, Bool, true, false, List, [], ◌∷◌, ◌++◌, length, map, Option, Some, None, Result, Ok, Err, refl, sym, ap, subst, ◌∙◌, append_assoc, length-append, map-id, arith}
-use Rattle.std.specs.Prelude.{is_some}
+use Rattle.std.proofs.Common.{◌≡◌, ℕ, zero, suc, ◌+◌, List, [], ◌∷◌, ◌++◌, length, map, Option, Some, None, Ok, Err, refl, sym, ap, subst, ◌∙◌, append_assoc, length-append, arith}
 use Rattle.std.specs.List.{flat_map}
 use Rattle.psm_code.specs.declared.rule.CodeRule.{CodeRule}
 use Rattle.psm_load_line.specs.Heads.{EachIs}
 use Rattle.psm_load_line.specs.Readers.{LineReader}
 use Rattle.psm_load_line.proofs.Spelled.{Written}
-use Rattle.psm_load.specs.Parts.{At, Part, after_line, and_then, first_odd, given, if_there, noting, one, taken, times, ◌>>◌}
+use Rattle.psm_load.specs.Parts.{At, Part, after_line, and_then, first_odd, given, noting, one, taken, times, ◌>>◌}
 use Rattle.psm_load.proofs.Following.{Answer, Lines}
 
 abbrev pub moved : At → ℕ → At
@@ -50,14 +49,20 @@ pub spells_then : {A B : Type 0} {T : Type 0} {value : T → A} {lines : T → L
     → Spells T value lines p → ((a : A) → Spells (U a) (worth a) (others a) (next a))
     → Spells ((t : T) × U (value t)) (λ t. worth (value t.0) t.1) (λ t. lines t.0 ++ others (value t.0) t.1) (p >> next)
 spells_then {A} {B} {T} {value} {lines} {p} {U} {worth} {others} {next} s n = record { takes = takes; again = again } where
+  join : (ls : Lines) (b : B) (rest : Lines) (a : A) (behind : Lines) (t : T) → a ≡ value t → ls ≡ lines t ++ behind → (u : U a) → b ≡ worth a u → behind ≡ others a u ++ rest
+      → (x : (t : T) × U (value t)) × (b ≡ worth (value x.0) x.1) × (ls ≡ (lines x.0 ++ others (value x.0) x.1) ++ rest)
+  join ls b rest a behind t e f u g h = by (subst (λ (a : A). (u : U a) × (b ≡ worth a u) × (behind ≡ others a u ++ rest)) e (u, g, h)) where
+    by : ((u : U (value t)) × (b ≡ worth (value t) u) × (behind ≡ others (value t) u ++ rest)) → (x : (t : T) × U (value t)) × (b ≡ worth (value x.0) x.1) × (ls ≡ (lines x.0 ++ others (value x.0) x.1) ++ rest)
+    by v = ((t, v.0), v.1, f ∙ ap (λ r. lines t ++ r) v.2 ∙ sym (append_assoc (lines t) (others (value t) v.0) rest))
+
   takes : (at : At) (ls : Lines) (b : B) (to : At) (rest : Lines) → (p >> next) at ls ≡ Ok (b, (to, rest)) → to.odd ≡ None
       → Said ((t : T) × U (value t)) (λ t. worth (value t.0) t.1) (λ t. lines t.0 ++ others (value t.0) t.1) at ls b rest
   takes at ls b to rest e odd =
       let f = and_then_ok (p at ls) next (b, (to, rest)) e in
       let later = (n f.0.0).takes f.0.1.0 f.0.1.1 b to rest f.2 odd in
       let first = s.takes at ls f.0.0 f.0.1.0 f.0.1.1 f.1 later.0 in
-      let u : (u : U (value first.1)) × (b ≡ worth (value first.1) u) × (f.0.1.1 ≡ others (value first.1) u ++ rest) = subst (λ (a : A). (u : U a) × (b ≡ worth a u) × (f.0.1.1 ≡ others a u ++ rest)) first.2 (later.1, later.2, later.3) in
-      (first.0, (first.1, u.0), u.1, first.3 ∙ ap (λ r. lines first.1 ++ r) u.2 ∙ sym (append_assoc (lines first.1) (others (value first.1) u.0) rest))
+      let both = join ls b rest f.0.0 f.0.1.1 first.1 first.2 first.3 later.1 later.2 later.3 in
+      (first.0, both.0, both.1, both.2)
 
   further : (at : At) (a b : Lines) → moved (moved at (length a)) (length b) ≡ moved at (length (a ++ b))
   further at a b =

@@ -1,9 +1,9 @@
 -- The lines of a text, and the text of lines.
-use Rattle.std.proofs.Common.{◌≡◌, ℕ, Bool, true, false, ◌&&◌, not, List, [], ◌∷◌, ◌++◌, refl, sym, ap, ◌∙◌, append_assoc, eqb-true}
+use Rattle.std.proofs.Common.{◌≡◌, ℕ, Bool, true, false, not, List, [], ◌∷◌, ◌++◌, refl, ap, ◌∙◌, append_assoc, eqb-true}
 use Rattle.std.specs.Prelude.{nat_eq, if◌then◌else◌}
 use Rattle.std.specs.List.{list_all}
 use Rattle.psm_num.proofs.Literals.{and_first, and_second}
-use Rattle.psm_object.specs.Words.{ended, text}
+use Rattle.psm_object.specs.Words.{text}
 use Rattle.psm_load_line.specs.Heads.{EachIs}
 use Rattle.psm_load.specs.Due.{lines_in, new_line, on_line}
 use Rattle.psm_load.proofs.Following.{Lines}

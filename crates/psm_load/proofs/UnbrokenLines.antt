@@ -1,5 +1,5 @@
 -- The lines of a listing have no line feed, and none is empty.
-use Rattle.std.proofs.Common.{◌≡◌, ℕ, Bool, true, false, List, [], ◌∷◌, ◌++◌, length, map, Option, Some, None, refl, subst, sym, arith}
+use Rattle.std.proofs.Common.{ℕ, Bool, true, false, List, [], ◌∷◌, ◌++◌, length, map, Option, Some, None, refl, subst, sym, arith}
 use Rattle.std.specs.Prelude.{codes, is_some}
 use Rattle.std.specs.List.{flat_map}
 use Rattle.psm_value.specs.declared.sqltype.SqlType.{SqlType}
@@ -46,7 +46,7 @@ use Rattle.psm_words.specs.Words.{datum_word, number, quoted, stack_word, type_w
 use Rattle.psm_object.specs.Expressions.{expression_lines, operation_details, operation_line, operation_mnemonic, side_word, test_lines}
 use Rattle.psm_object.specs.Handlers.{condition_line, context_line, handler_kind_word, handler_line, kind_words, value_word}
 use Rattle.psm_object.specs.Instructions.{code_line, condition_item_word, details, mnemonic, resume_word, statement_item_word}
-use Rattle.psm_object.specs.Listing.{first_line, lines_of}
+use Rattle.psm_object.specs.Listing.{lines_of}
 use Rattle.psm_object.specs.Plans.{plan_lines, set_lines}
 use Rattle.psm_object.specs.Queries.{aggregate_lines, cursor_line, direction_word, function_lines, function_word, item_lines, items_count, items_lines, query_line, query_lines, sensitivity_word, updatability_word}
 use Rattle.psm_object.specs.Routines.{access_lines, control_counts, data_counts, handling_lines, mode_word, parameter_line, result_word, routine_kind_word, routine_line, routine_lines, slot_line, variable_lines}

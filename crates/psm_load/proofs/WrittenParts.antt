@@ -22,7 +22,7 @@ use Rattle.psm_object.specs.Expressions.{expression_lines, operation_line, test_
 use Rattle.psm_object.specs.Instructions.{details, mnemonic}
 use Rattle.psm_object.specs.Plans.{plan_lines, set_lines}
 use Rattle.psm_object.specs.Queries.{aggregate_lines, direction_word, item_lines, items_count, items_lines, query_line, query_lines}
-use Rattle.psm_object.specs.Tables.{column_line, key_line, table_line, table_lines, unique_line}
+use Rattle.psm_object.specs.Tables.{column_line, key_line, table_lines, unique_line}
 use Rattle.psm_object.specs.Words.{flag, spaced}
 use Rattle.psm_load_line.specs.Forms.{ItemHead, PlanHead, QueryHead, TableHead, Delete, DeleteAt, Function, Insert, InsertQuery, Rows, Update, UpdateAt, Value}
 use Rattle.psm_load_line.specs.Heads.{AreColumns, EachIs, IsColumn, IsIndex, IsInstruction, IsOperation, IsPlanHead, IsQueryHead, IsTableHead, expression_head_line, item_head_line, plan_head_line, query_head_line, table_head, table_head_line}
