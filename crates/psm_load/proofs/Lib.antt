@@ -1,2 +1,14 @@
+pub mod Conditions
 pub mod DueLines
+pub mod Following
+pub mod Misfits
 pub mod NumberedHandlers
+pub mod Objects
+pub mod OneThing
+pub mod Sound
+pub mod Spelling
+pub mod Texts
+pub mod UnbrokenLines
+pub mod UnbrokenWords
+pub mod WrittenCode
+pub mod WrittenParts
