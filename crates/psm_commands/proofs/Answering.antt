@@ -5,15 +5,13 @@ use Rattle.psm_code.specs.declared.code.RawCode.{RawCode}
 use Rattle.psm_meaning.specs.Acts.{NoTurns, OutOfFuel, Stuck}
 use Rattle.psm_meaning.specs.Session.{Session, End, Cut, Done}
 use Rattle.psm_object.specs.Listing.{listing}
-use Rattle.psm_session.specs.Ends.{beginning}
 use Rattle.psm_session.specs.Put.{Sunk, PutFirst, PutSome}
 use Rattle.psm_session.specs.declared.command.ScriptCode.{ScriptCode}
 use Rattle.psm_build.specs.ModuleCode.{IsScriptFaultOver, MeansModule}
 use Rattle.psm_build.specs.Once.{IsEnd}
-use Rattle.psm_build.specs.Outcome.{empty_tables}
 use Rattle.psm_build.specs.Program.{EndsIn, IsModuleFault, IsScriptFault, StandsFor, session_of}
 use Rattle.psm_build.specs.declared.fault.Fault.{Fault}
-use Rattle.psm_code_session.specs.CodeSession.{CodeEndsIn, HasSession}
+use Rattle.psm_code_session.specs.CodeSession.{CodeEndsIn, EndIn}
 use Rattle.psm_files.specs.Answer.{IsPut, IsPutInPart, IsCut, RunsOut, PutsLine, Says}
 use Rattle.psm_files.specs.Expected.{Expected, with_line}
 use Rattle.psm_files.specs.Fetches.{Fetches, IsRead, NoneFailed}
@@ -173,7 +171,7 @@ module _ (held held' : List ℕ → Option (List ℕ)) (before mid after : List 
     exec_refuses r h puts = refusal_over first.read.none_failed (IsScriptFaultOver code) (λ ss l c g k. k) (λ ss. PlaysOver (as_fetched (between held before after)) code ss f.turns)
         (ForExec (as_fetched (between held before after)) f) over_object r h puts
 
-    pub exec_runs : (script : ScriptCode) (second : IsMade (between held' mid after) f.for_script (IsScriptBy code) script) (s : Session) → HasSession code script.commands (beginning (empty_tables code) f.turns) s → IsEnd s.end
+    pub exec_runs : (script : ScriptCode) (second : IsMade (between held' mid after) f.for_script (IsScriptBy code) script) (s : Session) → EndIn code script.commands f.turns s → IsEnd s.end
         → Runs s sunk answer → Says (ForExec (as_fetched (between held before after)) f) sunk answer
     exec_runs script second s has ends runs =
         let in_session : CodeEndsIn code second.bytes f.turns s = record { commands = script.commands; script = second.is; session = has } in

@@ -5,16 +5,15 @@ use Rattle.std.proofs.lemmas.List.Elements.{All-head, All-tail}
 use Rattle.std.proofs.lemmas.Option.{same_Some}
 use Rattle.psm_build.specs.ModuleCode.{IsScriptFaultOver}
 use Rattle.psm_build.specs.Once.{Exclusive}
-use Rattle.psm_build.specs.Program.{EndsIn, IsModuleFault, IsModuleFile, IsScriptFault, IsScriptFile, IsScriptOf}
+use Rattle.psm_build.specs.Program.{EndsIn, IsModuleFault, IsModuleFile, IsScriptFault, IsScriptFile}
 use Rattle.psm_build.specs.declared.fault.Fault.{Fault}
 use Rattle.psm_code.specs.declared.code.RawCode.{RawCode}
 use Rattle.psm_code.specs.RoutineRules.{first_fault}
-use Rattle.psm_code_session.specs.CodeSession.{CodeEndsIn}
+use Rattle.psm_code_session.specs.CodeSession.{CodeEndsIn, IsScriptOver}
 use Rattle.psm_load.specs.Loading.{IsObject, IsObjectFault}
 use Rattle.psm_load.specs.declared.fault.ObjectFault.{ObjectFault}
 use Rattle.psm_meaning.specs.Session.{Session}
 use Rattle.psm_session.specs.Put.{Sunk}
-use Rattle.psm_session.specs.declared.command.ScriptCommand.{ScriptCommand}
 use Rattle.psm_files.specs.Answer.{Answers, Completes, IsCut, IsPut, IsPutInPart, Says, Stayed}
 use Rattle.psm_files.specs.Expected.{Expected}
 use Rattle.psm_files.specs.Fetches.{Fetches}
@@ -57,10 +56,6 @@ script_same IsFile IsFault one For For' file file' same e d (inl h) (inr k) = ab
 script_same IsFile IsFault one For For' file file' same e d (inr h) (inl k) = absurd (one.file_or_fault k.line k.column k.fault (file e h) k.is_fault)
 script_same IsFile IsFault one For For' file file' same e d (inr h) (inr k) = same e d h k
 
--- the bytes are a script over the code
-abbrev IsScript : RawCode → List ℕ → Type 0
-IsScript code ss = (commands : List ScriptCommand) × IsScriptOf code ss commands
-
 -- what is so of the bytes of files, whoever reads them
 pub record AreOneThing : Type 0 where
   pub modules : (ms : List ℕ) → Exclusive (IsModuleFile ms) (IsModuleFault ms)
@@ -68,7 +63,7 @@ pub record AreOneThing : Type 0 where
   pub sessions : (ms ss : List ℕ) (turns : ℕ) (a b : Session) → EndsIn ms ss turns a → EndsIn ms ss turns b → a ≡ b
   pub codes : (os : List ℕ) (c d : RawCode) → IsObject os c → IsObject os d → c ≡ d
   pub objects : (os : List ℕ) (c : RawCode) → IsObject os c → (line : ℕ) (fault : ObjectFault) → IsObjectFault os line fault → ⊥
-  pub scripts_over : (code : RawCode) (ss : List ℕ) → Exclusive ((commands : List ScriptCommand) × IsScriptOf code ss commands) (IsScriptFaultOver code ss)
+  pub scripts_over : (code : RawCode) (ss : List ℕ) → Exclusive (IsScriptOver code ss) (IsScriptFaultOver code ss)
   pub sessions_over : (code : RawCode) → first_fault code ≡ None → (ss : List ℕ) (turns : ℕ) (a b : Session) → CodeEndsIn code ss turns a → CodeEndsIn code ss turns b → a ≡ b
 
 module _ (one : AreOneThing) (fetches : Fetches) where
@@ -108,8 +103,8 @@ module _ (one : AreOneThing) (fetches : Fetches) where
 
   in_script_over : (code : RawCode) → first_fault code ≡ None → (turns : ℕ) (ss : List ℕ) (e d : Expected) → IsRefused (as_fetched fetches) Script (IsScriptFaultOver code ss) e ⊎ PlaysOver (as_fetched fetches) code ss turns e
       → IsRefused (as_told fetches.held) Script (IsScriptFaultOver code ss) d ⊎ PlaysOver (as_told fetches.held) code ss turns d → e.status ≡ d.status
-  in_script_over code well_formed turns ss e d h k = script_same (IsScript code ss) (IsScriptFaultOver code ss) (one.scripts_over code ss) (PlaysOver (as_fetched fetches) code ss turns) (PlaysOver (as_told fetches.held) code ss turns)
-      (λ e p. (p.ends_in.commands, p.ends_in.script)) (λ d p. (p.ends_in.commands, p.ends_in.script))
+  in_script_over code well_formed turns ss e d h k = script_same (IsScriptOver code ss) (IsScriptFaultOver code ss) (one.scripts_over code ss) (PlaysOver (as_fetched fetches) code ss turns) (PlaysOver (as_told fetches.held) code ss turns)
+      (λ e p. record { commands = p.ends_in.commands; script = p.ends_in.script }) (λ d p. record { commands = p.ends_in.commands; script = p.ends_in.script })
       (λ e d p q. session_same p.session q.session e d (one.sessions_over code well_formed ss turns p.session q.session p.ends_in q.ends_in) p.expected_is q.expected_is) e d h k
 
   in_object : (f : Files) → Stayed (fetches.before f.for_script) (fetches.after f.for_script) → (os : List ℕ) (e d : Expected)

@@ -5,15 +5,14 @@ use Rattle.std.proofs.lemmas.Bool.{cases_lt}
 use Rattle.std.proofs.lemmas.List.Elements.{All-head, All-tail}
 use Rattle.psm_build.specs.ModuleCode.{IsScriptFaultOver}
 use Rattle.psm_build.specs.Once.{HasFault, IsEnd, Total}
-use Rattle.psm_build.specs.Outcome.{empty_tables}
 use Rattle.psm_build.specs.Program.{EndsIn, IsModuleFault, IsModuleFile, IsScriptFault, IsScriptFile, IsScriptOf}
 use Rattle.psm_build.specs.declared.fault.Fault.{Fault}
 use Rattle.psm_code.specs.declared.code.RawCode.{RawCode}
-use Rattle.psm_code_session.specs.CodeSession.{CodeEndsIn, HasSession}
+use Rattle.psm_code.specs.RoutineRules.{first_fault}
+use Rattle.psm_code_session.specs.CodeSession.{CodeEndsIn, EndIn, IsScriptOver}
 use Rattle.psm_load.specs.Loading.{IsObject, IsObjectFault}
 use Rattle.psm_load.specs.declared.fault.ObjectFault.{ObjectFault}
 use Rattle.psm_meaning.specs.Session.{Session}
-use Rattle.psm_session.specs.Ends.{beginning}
 use Rattle.psm_session.specs.declared.command.ScriptCommand.{ScriptCommand}
 use Rattle.psm_files.specs.Expected.{Expected, with_line}
 use Rattle.psm_files.specs.Fetches.{most_bytes}
@@ -61,8 +60,8 @@ module _ (held : List ℕ → Option (List ℕ)) where
     pub sessions : (ms ss : List ℕ) (turns : ℕ) → IsScriptFile ms ss → (s : Session) × EndsIn ms ss turns s
     pub ends : (ms ss : List ℕ) (turns : ℕ) (s : Session) → EndsIn ms ss turns s → IsEnd s.end
     pub objects : (os : List ℕ) → ((c : RawCode) × IsObject os c) ⊎ ((line : ℕ) × (fault : ObjectFault) × IsObjectFault os line fault)
-    pub scripts_over : (os : List ℕ) (code : RawCode) → IsObject os code → (ss : List ℕ) → Total ((commands : List ScriptCommand) × IsScriptOf code ss commands) (IsScriptFaultOver code ss)
-    pub sessions_over : (os : List ℕ) (code : RawCode) → IsObject os code → (ss : List ℕ) (commands : List ScriptCommand) → IsScriptOf code ss commands → (turns : ℕ) → (s : Session) × HasSession code commands (beginning (empty_tables code) turns) s
+    pub scripts_over : (code : RawCode) (ss : List ℕ) → Total (IsScriptOver code ss) (IsScriptFaultOver code ss)
+    pub sessions_over : (code : RawCode) → first_fault code ≡ None → (ss : List ℕ) (commands : List ScriptCommand) → IsScriptOf code ss commands → (turns : ℕ) → (s : Session) × EndIn code commands turns s
     pub ends_over : (code : RawCode) (ss : List ℕ) (turns : ℕ) (s : Session) → CodeEndsIn code ss turns s → IsEnd s.end
 
   module _ (all : AreSomething) where
@@ -92,14 +91,14 @@ module _ (held : List ℕ → Option (List ℕ)) where
         by ms (inl is) = (record { status = Done; pieces = [] }, inr (is, refl))
 
     for_script_over : (f : Files) (os : List ℕ) (code : RawCode) → IsObject os code → (ss : List ℕ) → Something (λ e. IsRefused (as_told held) Script (IsScriptFaultOver code ss) e ⊎ PlaysOver (as_told held) code ss f.turns e)
-    for_script_over f os code is ss = by (all.scripts_over os code is ss)
+    for_script_over f os code is ss = by (all.scripts_over code ss)
       where
-        by : Total ((commands : List ScriptCommand) × IsScriptOf code ss commands) (IsScriptFaultOver code ss)
+        by : Total (IsScriptOver code ss) (IsScriptFaultOver code ss)
             → Something (λ e. IsRefused (as_told held) Script (IsScriptFaultOver code ss) e ⊎ PlaysOver (as_told held) code ss f.turns e)
         by (inr h) = refused Script (IsScriptFaultOver code ss) (PlaysOver (as_told held) code ss f.turns) h
         by (inl script) =
-            let s = all.sessions_over os code is ss script.0 script.1 f.turns in
-            let in_session : CodeEndsIn code ss f.turns s.0 = record { commands = script.0; script = script.1; session = s.1 } in
+            let s = all.sessions_over code is.well_formed ss script.commands script.script f.turns in
+            let in_session : CodeEndsIn code ss f.turns s.0 = record { commands = script.commands; script = script.script; session = s.1 } in
             let e = session_expected s.0 (all.ends_over code ss f.turns s.0 in_session) in
             (e.0, inr (record { session = s.0; ends_in = in_session; none_fails = tt; expected_is = e.1 }))
 

@@ -9,7 +9,7 @@ use psm_build::{files_are_one_thing, files_are_something};
 use psm_code_session::{
     scripts_over_code_are_one_thing, scripts_over_well_formed_code_have_one_session,
 };
-use psm_load::{objects_have_numbered_handlers, texts_are_one_thing};
+use psm_load::texts_are_one_thing;
 
 /// Where a shelf tells the files that a command reads, a status is expected of it.
 pub fn something_is_expected()
@@ -17,7 +17,6 @@ pub fn something_is_expected()
 {
     files_are_one_thing();
     files_are_something();
-    objects_have_numbered_handlers();
     texts_are_one_thing();
     scripts_over_code_are_one_thing();
     scripts_over_well_formed_code_have_one_session();

@@ -8,20 +8,20 @@ pub play-requires : goal.play-requires
 play-requires g c =
     let first = c.in-Ok.ensures.gives in
     let second = c.in-Ok-script_over.ensures in
-    (c.runs_over_well_formed_code_show_their_session.ensures c.in-Ok.code first.is.well_formed (c.objects_have_numbered_handlers.ensures first.bytes c.in-Ok.code first.is) second.bytes c.in-Ok-script_over.script.commands second.is).0
+    let numbered = c.objects_have_numbered_handlers.ensures first.bytes c.in-Ok.code first.is in
+    c.runs_over_well_formed_code_show_their_session.ensures.can c.in-Ok.code first.is.well_formed numbered second.bytes c.in-Ok-script_over.script.commands second.is
 
 pub returns-in-Ok-script_over : goal.returns-in-Ok-script_over
 returns-in-Ok-script_over g c =
     let first = c.in-Ok.ensures.gives in
     let second = c.in-Ok-script_over.ensures in
-    let numbered = c.objects_have_numbered_handlers.ensures first.bytes c.in-Ok.code first.is in
     let law = c.scripts_over_well_formed_code_have_one_session.ensures in
-    let has = law.exists c.in-Ok.code first.is.well_formed numbered second.bytes c.in-Ok-script_over.script.commands second.is c.args.files.turns in
-    let shown = (c.runs_over_well_formed_code_show_their_session.ensures c.in-Ok.code first.is.well_formed numbered second.bytes c.in-Ok-script_over.script.commands second.is).1 c.args.files.turns has.0 has.1 in
+    let has = law.exists c.in-Ok.code first.is.well_formed second.bytes c.in-Ok-script_over.script.commands second.is c.args.files.turns in
+    let shown = c.runs_over_well_formed_code_show_their_session.ensures.shown c.in-Ok.code first.is.well_formed second.bytes c.in-Ok-script_over.script.commands second.is c.args.files.turns has.0 has.1 in
     exec_runs (g.F.Shelf.held c.args.shelf.now) (g.F.Shelf.held c.object_code.new.shelf) (g.F.Shelf.faults c.args.shelf.now) (g.F.Shelf.faults c.object_code.new.shelf) (g.F.Shelf.faults c.script_over.new.shelf) _
     c.in-Ok.code _ _ c.in-Ok.ensures.held first c.in-Ok-script_over.script second has.0 has.1
     (law.ends c.in-Ok.code second.bytes c.args.files.turns has.0 (record { commands = c.in-Ok-script_over.script.commands; script = second.is; session = has.1 }))
-    (c.play.ensures has.0 shown.0 shown.1)
+    (c.play.ensures has.0 shown.following shown.runs_as)
 
 pub returns : goal.returns
 returns g c =

@@ -12,8 +12,8 @@ returns c =
       sessions = files.sessions;
       ends = c.files_are_one_thing.ensures.ends;
       objects = c.texts_are_one_thing.ensures.total;
-      scripts_over = λ os code is ss. c.scripts_over_code_are_one_thing.ensures.total code is.well_formed ss;
-      sessions_over = λ os code is ss commands script turns. law.exists code is.well_formed (c.objects_have_numbered_handlers.ensures os code is) ss commands script turns;
+      scripts_over = c.scripts_over_code_are_one_thing.ensures.total;
+      sessions_over = law.exists;
       ends_over = law.ends;
     } in
     for_command held all command told
