@@ -18,7 +18,7 @@ use Rattle.psm_code.specs.declared.code.RawCode.{RawCode}
 use Rattle.psm_code.specs.declared.code.RawRoutine.{RawRoutine}
 use Rattle.psm_code.specs.declared.rule.CodeRule.TheVariants.{Range, Definition}
 use Rattle.psm_code.specs.Instructions.{columns_at, letters_of_query, variables_of}
-use Rattle.psm_code.specs.PlanRules.{are_items, columns_there, cursor_table, fits_columns, is_column_letter, is_positioned, or_none, plan_faults, set_faults, sets_in, table_of_query, test_in}
+use Rattle.psm_code.specs.PlanRules.{are_items, columns_there, cursor_table, expr_in, fits_columns, is_column_letter, is_positioned, or_none, plan_faults, set_faults, sets_in, table_of_query, test_in}
 use Rattle.psm_code.specs.Rules.{are_distinct, each_after, is_among, is_some, is_there, there, where_there}
 use Rattle.psm_code.specs.TableRules.{are_there, is_column_list}
 use Rattle.psm_codegen.specs.declared.known.Known.{Known}
@@ -85,7 +85,7 @@ module _ {e : TypingContext} {known : Known} {code : RawCode} {r : RawRoutine} (
       let source = fit-faultless columns (variables_of r) (is_column_letter (slice_get columns c.column)) c.source (letter_at columns s.column) h.1
       (ap (λ o. is_column_letter o (letter_at columns s.column)) letter ∙ is_letter-self (letter_at columns s.column)) in
       let next = sets-from (before ++ c ∷ []) ss cs h.2 (and_second (is_there t.definition.columns s.column) (are_there t.definition.columns others) a) (ap are_distinct (move-one (λ b. b.column) before c others) ∙ distinct) in
-      (line, faultless-append _ (each_after (set_faults code r table) (before ++ c ∷ []) cs) source next)
+      (line, faultless-append (expr_in code r table (is_column_letter (slice_get columns c.column)) c.source) (each_after (set_faults code r table) (before ++ c ∷ []) cs) source next)
 
   pub sets-faultless : (sets : List ResolvedSet) (coded : List SetItem) → SetsMade known table sets coded → AreSets e known table sets → Faultless (sets_in code r table coded)
   sets-faultless sets coded m p =

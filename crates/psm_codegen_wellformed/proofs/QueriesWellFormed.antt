@@ -25,7 +25,7 @@ use Rattle.psm_code.specs.declared.code.RawCode.{RawCode}
 use Rattle.psm_code.specs.declared.code.RawRoutine.{RawRoutine}
 use Rattle.psm_code.specs.declared.rule.CodeRule.TheVariants.{Range, Definition}
 use Rattle.psm_code.specs.Instructions.{columns_at, variables_of}
-use Rattle.psm_code.specs.PlanRules.{cursor_fault, has_items, has_operand, has_rows, is_due, item_in, items_in, operand_in, query_faults, set_in, test_in}
+use Rattle.psm_code.specs.PlanRules.{cursor_fault, expr_in, has_items, has_operand, has_rows, is_due, item_in, items_in, operand_in, query_faults, set_in, test_in}
 use Rattle.psm_code.specs.Rules.{is_some, is_there, there, where_there}
 use Rattle.psm_codegen.specs.declared.known.Known.{Known}
 use Rattle.psm_codegen.specs.Queries.{AggregatesFit, ExprsFit, ItemsFit, Layer, OperandFits, QueryMade, RowTestFits, are_items, is_test_perhaps, is_value_of, letter_of_row_type}
@@ -62,7 +62,7 @@ module _ (code : RawCode) (r : RawRoutine) (table : ℕ) where
       let s : RowType = row_type_of Columns Variables e in
       let rest = list_all (is_value_of Columns Variables) es in
       let one = fit-faultless Columns Variables is_value c (letter_of_row_type s) h.0 (value-of-row_type s (and_first (is_value_of Columns Variables e) rest v)) in
-      (refl, faultless-append _ (flat_map (item_in code r table) cs) one (rows-faultless es cs h.1 (and_second (is_value_of Columns Variables e) rest v)))
+      (refl, faultless-append (expr_in code r table is_value c) (flat_map (item_in code r table) cs) one (rows-faultless es cs h.1 (and_second (is_value_of Columns Variables e) rest v)))
 
   operand-faultless : (f : SetFunction) (e : Option ResolvedExpr) (c : Option (List Line)) → OperandFits Columns Variables e c → is_operand Columns Variables f e ≡ true → Faultless (operand_in code r table f c)
   operand-faultless f None None h d = tt
