@@ -1,5 +1,5 @@
 -- The routines of code whose parts lines can say have declared conditions, contexts and handlers whose numbers have 32 bits.
-use Rattle.std.proofs.Common.{◌≡◌, ℕ, ◌<◌, ◌^◌, Bool, true, ◌&&◌, List, [], ◌∷◌, length, refl, sym, ap, subst, ◌∙◌, arith}
+use Rattle.std.proofs.Common.{◌≡◌, ℕ, ◌<◌, ◌^◌, Bool, true, ◌&&◌, List, [], ◌∷◌, length, ap, ◌∙◌, arith}
 use Rattle.std.proofs.lemmas.Bool.{lt-ltb}
 use Rattle.std.proofs.lemmas.List.Elements.{All-nil, All-cons}
 use Rattle.std.specs.Prelude.{nat_lt, All, IsTrue}
@@ -23,4 +23,4 @@ numbered r h =
 
 pub numbered_handlers : (rs : List RawRoutine) → EachIs IsListedRoutine rs → All (λ r. IsTrue (is_numbered r.handlers)) rs
 numbered_handlers [] h = All-nil (λ (r : RawRoutine). IsTrue (is_numbered r.handlers))
-numbered_handlers (r ∷ rs) h = All-cons (λ (r : RawRoutine). IsTrue (is_numbered r.handlers)) r rs (subst IsTrue (sym (numbered r h.0)) tt) (numbered_handlers rs h.1)
+numbered_handlers (r ∷ rs) h = All-cons (λ (r : RawRoutine). IsTrue (is_numbered r.handlers)) r rs (numbered r h.0) (numbered_handlers rs h.1)
