@@ -1,8 +1,8 @@
 """Runs folders with a module, a script and what is expected of them: python3 folders.py [--update] FOLDER..
 
 A folder holds module.sql, script.sql, expected.txt and maybe expected.status (0 where there is none) and turns. Where it holds
-listing.txt, module.sql is compiled too. Of another folder all such folders below it are run. PSM_PROGRAM names the program;
-without it all are run by one `rt try`.
+listing.txt, module.sql is compiled too, and the script is run over what was compiled. Of another folder all such folders below it
+are run. PSM_PROGRAM names the program; without it all are run by one `rt try`, and those over what was compiled by another.
 """
 import concurrent.futures
 import difflib
@@ -10,6 +10,7 @@ import os
 import signal
 import subprocess
 import sys
+import tempfile
 
 import unproved
 
@@ -50,14 +51,23 @@ def is_listed(folder):
     return os.path.isfile(f"{folder}/{LISTING}")
 
 
+def bound(turns):
+    return ["--turns", turns] if turns else []
+
+
 def to_run(module_file, script, turns):
     """Returns the arguments that run a script over a module file."""
-    return ["run", module_file, script, *(["--turns", turns] if turns else [])]
+    return ["run", module_file, script, *bound(turns)]
 
 
 def to_compile(module_file):
     """Returns the arguments that write the listing of a module file."""
     return ["compile", module_file]
+
+
+def to_exec(object_file, script, turns):
+    """Returns the arguments that run a script over an object."""
+    return ["exec", object_file, script, *bound(turns)]
 
 
 def run_one(program, words):
@@ -75,18 +85,39 @@ def run_all(calls):
         return list(pool.map(lambda it: run_one(program, it), calls))
 
 
+def run_over(objects):
+    """Returns the status and the output of each (listing, script, turns), where the script is run over the listing."""
+    if not objects:
+        return []
+    with tempfile.TemporaryDirectory(prefix="psm-objects-") as folder:
+        calls = []
+        for number, (listing, script, turns) in enumerate(objects):
+            path = f"{folder}/{number}.object"
+            write_text(path, listing)
+            calls.append(to_exec(path, script, turns))
+        return run_all(calls)
+
+
 def results_of(folders):
-    """Returns of each folder what its script gives, and of those with a listing what their modules give, both by the folder."""
+    """Returns what is printed, by the folder: by each script; where there is a listing, by the module; and by the script over that."""
     listed = [it for it in folders if is_listed(it)]
     runs = [to_run(f"{it}/module.sql", f"{it}/script.sql", turns_of(it)) for it in folders]
     results = run_all([*runs, *(to_compile(f"{it}/module.sql") for it in listed)])
-    return dict(zip(folders, results)), dict(zip(listed, results[len(folders) :]))
+    listings = dict(zip(listed, results[len(folders) :]))
+    written = [it for it in listed if listings[it][0] == 0]
+    over = run_over([(listings[it][1], f"{it}/script.sql", turns_of(it)) for it in written])
+    return dict(zip(folders, results)), listings, dict(zip(written, over))
+
+
+def diff(wanted, printed, *names):
+    """Returns the lines of a diff of two texts."""
+    lines = (it.splitlines(keepends=True) for it in (wanted, printed))
+    return [it.rstrip("\n") for it in difflib.unified_diff(*lines, *names)]
 
 
 def differences_in(path, output):
     """Returns the lines of a diff of the file and the output."""
-    wanted, printed = (it.splitlines(keepends=True) for it in (read(path), output))
-    return [it.rstrip("\n") for it in difflib.unified_diff(wanted, printed, path, "printed")]
+    return diff(read(path), output, path, "printed")
 
 
 def status_due(folder):
@@ -106,6 +137,14 @@ def listing_differences(folder, status, output):
     """Returns the same of its listing. A module file that is refused has the line that says so in place of one."""
     due = REFUSED if status_due(folder) == REFUSED else 0
     return differences_in(f"{folder}/{LISTING}", output) + wrong_status(folder, "compile: ", status, due)
+
+
+def exec_differences(name, of_run, of_exec):
+    """Returns the lines that tell where `exec` of what was compiled differs from `run`: both are a status and an output."""
+    told = diff(of_run[1], of_exec[1], f"{name}: run", f"{name}: exec")
+    if of_exec[0] != of_run[0]:
+        told.append(f"{name}: exec: exit status {of_exec[0]}, where run has {of_run[0]}")
+    return told
 
 
 def write_text(path, text):
@@ -132,28 +171,37 @@ def write_listing(folder, status, output):
     return is_new
 
 
-def compare(results, listings):
+def show(lines):
+    for line in lines:
+        print(line.encode("utf-8", errors="replace").decode())
+
+
+def compare(results, listings, over):
     """Prints what differs, and a count, and returns the status."""
     failed = 0
     for folder, result in results.items():
         told = differences(folder, *result)
         if folder in listings:
             told += listing_differences(folder, *listings[folder])
+        if folder in over:
+            told += exec_differences(folder, result, over[folder])
         failed += bool(told)
-        for line in told:
-            print(line.encode("utf-8", errors="replace").decode())
+        show(told)
     print(f"{len(results) - failed} passed, {failed} differ")
     return 1 if failed else 0
 
 
-def update(results, listings):
+def update(results, listings, over):
+    """Writes what is expected, and returns 1 where a script gives something else over a listing, which no file can expect."""
     changed = {folder for folder, result in results.items() if write(folder, *result)}
     changed |= {folder for folder, result in listings.items() if write_listing(folder, *result)}
     for folder in results:
         if folder in changed:
             print(f"{folder}: written")
     print(f"{len(changed)} written, {len(results) - len(changed)} as before")
-    return 0
+    told = [it for folder, result in over.items() for it in exec_differences(folder, results[folder], result)]
+    show(told)
+    return 1 if told else 0
 
 
 def main(words):

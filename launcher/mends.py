@@ -58,6 +58,19 @@ TOKENS = {
     "syntax fault": "no file goes on so here",
 }
 
+# What a line of an object is refused for: no line of the form that is due, or a rule of code that it breaks.
+OBJECTS = {
+    "not an object text": "write the line that the counts above call for: one blank between words, no leading zeros, a line feed at the end",
+    "F1": "name a part that is there: each kind is counted from 0, contexts from 1, and a parent is smaller than its context",
+    "F2": "name a line of this routine, which are counted from 0; the last one doesn't go on, as END",
+    "F3": "state the operands that the instruction takes, the top last, and at the lines where it goes on those that it leaves",
+    "F4": "enter a block before its lines and leave it after them; an action ends with ENDACT in its own context",
+    "F5": "a line that may raise a condition has a resume: a later line of its context without operands",
+    "F6": "a jump back leads to a line with TURN",
+    "F7": "END, DATA, CALL are for procedures, RETV, NORET for functions; COL stands under EXPR alone, as nothing but operations does",
+    "F8": "look for a repeated name or column, a key column that may be NULL, an SQLSTATE of class 00, UNDO without ATOMIC",
+}
+
 # Characters that other languages have.
 CHARACTERS = {
     "!": "write <> for `!=`, and NOT for `!`",

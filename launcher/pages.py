@@ -1,4 +1,4 @@
-"""Prints what the documents say of a fault: python3 pages.py CODE.., as K26, 22003, syntax or status 6."""
+"""Prints what the documents say of a fault: python3 pages.py CODE.., as K26, F2, 22003, syntax or status 6."""
 import os
 import re
 import signal
@@ -30,9 +30,9 @@ def headings(lines):
 
 
 def codes_of(heading):
-    """Returns the codes that a heading is the entry of: `K26`, `K26 no function`, `22003`, `status 6`, `K10, K11`."""
+    """Returns the codes that a heading is the entry of: `K26`, `K26 no function`, `F2`, `22003`, `status 6`, `K10, K11`."""
     whole = [heading, *heading.split(", ")]
-    first = re.match(r"(k\d\d|[0-9a-z]\d[0-9a-z]{3}|status \d|[a-z][a-z0-9 -]*)\b", heading)
+    first = re.match(r"(k\d\d|f\d|[0-9a-z]\d[0-9a-z]{3}|status \d|[a-z][a-z0-9 -]*)\b", heading)
     return {*whole, *([first[1]] if first else [])}
 
 
@@ -60,16 +60,16 @@ def row(code):
 
 def main(words):
     if not words:
-        print("psm: usage: psm explain CODE, where CODE is as K26, 22003, syntax or status 6", file=sys.stderr)
+        print("psm: usage: psm explain CODE, where CODE is as K26, F2, 22003, syntax or status 6", file=sys.stderr)
         return 1
-    code = re.sub(r"^(module|script) \d+:\d+ ", "", bare(" ".join(words)))
-    code = re.sub(r"^(k\d\d) .*", r"\1", SAME.get(code, code))
+    code = re.sub(r"^((module|script) \d+:\d+|object \d+) ", "", bare(" ".join(words)))
+    code = re.sub(r"^(k\d\d|f\d) .*", r"\1", SAME.get(code, code))
     number = code[7:] if code.startswith("status ") else code
     lines = entry(PAGES[0], code) or entry(PAGES[1], code)
-    mend = None if lines else mends.RULES.get(code.upper()) or mends.TOKENS.get(code)
+    mend = None if lines else mends.RULES.get(code.upper()) or mends.OBJECTS.get(code.upper()) or mends.TOKENS.get(code)
     lines = lines or row(number)
     if not lines:
-        print(f"psm: no entry for '{' '.join(words)}'; a code is as K26, 22003, syntax or status 6", file=sys.stderr)
+        print(f"psm: no entry for '{' '.join(words)}'; a code is as K26, F2, 22003, syntax or status 6", file=sys.stderr)
         return 1
     print("\n".join(lines).rstrip())
     if mend:

@@ -1,6 +1,6 @@
 """Explains a refusal: reads what the program printed, and tells the line with the place and how to mend it.
 
-python3 refusals.py MODULE_FILE [SCRIPT] <OUTPUT; all that is told goes to standard error.
+python3 refusals.py MODULE_FILE_OR_OBJECT [SCRIPT] <OUTPUT; all that is told goes to standard error.
 """
 import re
 import sys
@@ -9,6 +9,7 @@ import causes
 import mends
 
 REFUSED = re.compile(r"^(module|script) ([0-9]+):([0-9]+) (.+)$", re.M)
+NO_OBJECT = re.compile(r"^object ([0-9]+) (.+)$", re.M)
 # So many characters of a long line are shown around the place.
 WIDTH = 100
 
@@ -36,20 +37,39 @@ def help_for(fault, text, line, column):
     return fault, mends.TOKENS.get(fault, "")
 
 
-def explain(output, module_file, script=None):
-    refused = REFUSED.search(output)
-    if not refused:
-        return
+def read(file):
+    with open(file, "rb") as it:
+        return it.read().decode("utf-8", errors="replace")
+
+
+def rows_of_refused(refused, module_file, script):
+    """Returns what is told of a module file or a script."""
     which, line, column, fault = refused[1], int(refused[2]), int(refused[3]), refused[4]
     file = module_file if which == "module" else script
-    with open(file, "rb") as it:
-        text = it.read().decode("utf-8", errors="replace")
+    text = read(file)
     lines = text.split("\n")
     shown, under = marked(lines[line - 1].rstrip("\r") if line <= len(lines) else "", column)
     code, mend = help_for(fault, text, line, column)
     number = str(line)
-    rows = [f"{file}:{line}:{column}", f"{number} | {shown}", f"{' ' * len(number)} | {under}", f"{mend} (psm explain {code})"]
-    print("\n".join(rows), file=sys.stderr)
+    return [f"{file}:{line}:{column}", f"{number} | {shown}", f"{' ' * len(number)} | {under}", f"{mend} (psm explain {code})"]
+
+
+def rows_of_object(refused, file):
+    """Returns what is told of an object. A line that is missing has the number after the last one."""
+    line, fault = int(refused[1]), refused[2]
+    lines = read(file).split("\n")
+    is_end = lines[line - 1 :] in ([], [""])
+    shown = "(the end of the file)" if is_end else lines[line - 1][:WIDTH]
+    code = fault.split()[0] if fault.split()[0] in mends.OBJECTS else fault
+    return [f"{file}:{line}", f"{line} | {shown}", f"{mends.OBJECTS[code]} (psm explain {code})"]
+
+
+def explain(output, first_file, script=None):
+    refused, no_object = REFUSED.search(output), NO_OBJECT.search(output)
+    if refused:
+        print("\n".join(rows_of_refused(refused, first_file, script)), file=sys.stderr)
+    elif no_object:
+        print("\n".join(rows_of_object(no_object, first_file)), file=sys.stderr)
 
 
 if __name__ == "__main__":

@@ -1,6 +1,6 @@
 """Runs the program without a proof, by `rt try`: python3 unproved.py yes|no ARGUMENTS, where yes explains a refusal.
 
-The arguments are those of the program: run M S [--turns N] or compile M.
+The arguments are those of the program: run M S [--turns N], compile M or exec O S [--turns N].
 """
 import os
 import re
@@ -26,10 +26,15 @@ def say_how_long(what):
     say(f"{what} without a proof: rt try compiles the program each time, in two to five minutes, longer on a busy machine")
 
 
+def files_of(words):
+    """Returns the files of a call, by the letters that stand for them in the usage line."""
+    return dict(zip("OS" if words[0] == "exec" else "MS", words[1:3]))
+
+
 def run(is_explained, words):
     """Runs the program once, prints what it prints, and returns its status."""
     say_how_long("running")
-    files = dict(zip("MS", words[1:3]))
+    files = files_of(words)
     given = [it for name, file in files.items() for it in ("--data", f"{name}={os.path.abspath(file)}")]
     command = ["rt", "try", *given, "--", words[0], *files, *words[3:]]
     how = {"stdin": subprocess.DEVNULL, "stdout": subprocess.PIPE, "stderr": subprocess.PIPE}
@@ -46,7 +51,7 @@ def run(is_explained, words):
         say("rt try gave no answer")
         return FAILED
     status = int(ended[1])
-    if is_explained and status in (4, 5):
+    if is_explained and status in (4, 5, 8):
         refusals.explain(text.decode(errors="replace"), *files.values())
     return status
 
@@ -56,7 +61,7 @@ def run_many(calls):
     with tempfile.TemporaryDirectory(prefix="psm-cases-") as folder:
         data = []
         for number, words in enumerate(calls):
-            files = {f"{letter}{number}": file for letter, file in zip("MS", words[1:3])}
+            files = {f"{letter}{number}": file for letter, file in files_of(words).items()}
             name = f"case{number:05}"
             with open(f"{folder}/{name}", "w", encoding="utf-8"):
                 pass
