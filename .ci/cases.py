@@ -3,8 +3,11 @@
 
 In a document an example is a block `sql module`, maybe a block `sql script`, and a block `text output`. A line `--   ^` marks
 the place of the fault in the line above it. `sql script turns N` gives the turns. A module stands until the next one, and so does a script
-over it. A block `text listing` is what the module compiles to. In the tutorial each block is of these, or `sh` or `yaml`.
-PSM_PROGRAM names the program; else one `rt try` runs all.
+over it. A block `text listing` is what the module compiles to. A block `text object` stands in place of a module, and scripts are run
+over it by `exec`. In the tutorial each block is of these, or `sh` or `yaml`.
+
+Each example with a module and a script is run twice: by `run`, and by `exec` over what `compile` prints, which has to give the same
+bytes and the same status. PSM_PROGRAM names the program; else one `rt try` runs all, and another what `compile` printed.
 """
 import collections
 import os
@@ -28,14 +31,16 @@ PAGES = (
     "README.md",
 )
 TUTORIAL = PAGES[0]
-# Where it stands, the two texts (no script where the module is compiled), the turns, and what is told of this status and output,
-# if anything.
-Case = collections.namedtuple("Case", "name module script turns judge")
+# By the second word of a block with code, what runs a script over it.
+COMMANDS = {"module": "run", "object": "exec"}
+# Where it stands, the command, its two texts (a module file or an object, and a script), the turns, and what is told of this status
+# and output, if anything.
+Case = collections.namedtuple("Case", "name command code script turns judge")
 
 
 def status_due(output):
     """Returns the status of a run that prints this."""
-    for start, status in (("module ", 4), ("script ", 5)):
+    for start, status in (("module ", 4), ("script ", 5), ("object ", 8)):
         if output.startswith(start):
             return status
     return 6 if output.endswith("TURNS USED\n") else 0
@@ -67,26 +72,26 @@ def judge_output(wanted, marked):
 def cases_of(page):
     """Returns the cases of a document, and what is wrong with its blocks."""
     found, wrong = [], []
-    module, script, turns, used = None, "", None, True
+    command, code, script, turns, used = "run", None, "", None, True
     for block in blocks(read(page)):
         words = block.info.split()
         name = f"{page}:{block.line}"
-        if words[:2] == ["sql", "module"]:
-            module, script, turns, used = block.text, "", None, False
+        if words[:2] in (["sql", "module"], ["text", "object"]):
+            command, code, script, turns, used = COMMANDS[words[1]], block.text, "", None, False
         elif words[:2] == ["sql", "script"]:
             script, used = block.text, False
             turns = words[3] if words[2:3] == ["turns"] else None
-        elif words[:2] == ["text", "output"] and module is not None:
-            marked = place_marked(module) or place_marked(script)
-            found.append(Case(name, module, script, turns, judge_output(block.text, marked)))
+        elif words[:2] == ["text", "output"] and code is not None:
+            marked = place_marked(code) or place_marked(script)
+            found.append(Case(name, command, code, script, turns, judge_output(block.text, marked)))
             used = True
-        elif words[:2] == ["text", "listing"] and module is not None:
-            found.append(Case(name, module, None, None, judge_output(block.text, place_marked(module))))
+        elif words[:2] == ["text", "listing"] and code is not None and command == "run":
+            found.append(Case(name, "compile", code, "", None, judge_output(block.text, place_marked(code))))
             used = True
         elif words[:2] in (["text", "output"], ["text", "listing"]) or (page == TUTORIAL and words[:1] not in (["sh"], ["yaml"])):
             wrong.append(f"{name}: a block `{block.info}` is no part of an example")
     if not used:
-        wrong.append(f"{page}: the last module or script has no output")
+        wrong.append(f"{page}: the last module, object or script has no output")
     return found, wrong
 
 
@@ -103,7 +108,7 @@ def cause(number, line):
         _, mend = refusals.help_for(found[4], text, 1, column)
         return None if told in mend else f"the help is: {mend}"
 
-    return Case(f".ci/causes.txt:{number}", text, "", None, judge)
+    return Case(f".ci/causes.txt:{number}", "run", text, "", None, judge)
 
 
 def judge_folder(differences, folder):
@@ -115,10 +120,10 @@ def examples():
     for folder in folders.cases_below(f"{ROOT}/examples"):
         name = os.path.relpath(folder, ROOT)
         module, script = (folders.read(f"{folder}/{part}") for part in folders.PARTS)
-        found.append(Case(name, module, script, folders.turns_of(folder), judge_folder(folders.differences, folder)))
+        found.append(Case(name, "run", module, script, folders.turns_of(folder), judge_folder(folders.differences, folder)))
         if folders.is_listed(folder):
             judge = judge_folder(folders.listing_differences, folder)
-            found.append(Case(f"{name}/{folders.LISTING}", module, None, None, judge))
+            found.append(Case(f"{name}/{folders.LISTING}", "compile", module, "", None, judge))
     return found
 
 
@@ -136,28 +141,45 @@ def all_cases():
     return found, wrong
 
 
+def call(case, code, script):
+    """Returns the arguments of a case with these files."""
+    if case.command == "compile":
+        return folders.to_compile(code)
+    return (folders.to_exec if case.command == "exec" else folders.to_run)(code, script, case.turns)
+
+
+def judge_compiled(run, compiled, over):
+    """Returns what is told of a script whose module is compiled, by the results of `run`, of `compile`, and of `exec` if it was compiled."""
+    if over is None:
+        return [] if run == compiled and run[0] == folders.REFUSED else [f"compile gives, with status {compiled[0]}:\n{compiled[1]}"]
+    return folders.exec_differences("compiled", run, over)
+
+
 def run(cases):
-    """Returns what is told of each case that is wrong."""
+    """Returns what is told of each case that is wrong, and how many are run over what is compiled too."""
+    twice = [number for number, case in enumerate(cases) if case.command == "run" and case.script]
     with tempfile.TemporaryDirectory() as folder:
-        calls = []
-        for number, case in enumerate(cases):
-            module_file, script = (f"{folder}/{number}.{part}" for part in folders.PARTS)
-            for path, text in ((module_file, case.module), (script, case.script)):
-                with open(path, "w", encoding="utf-8", newline="") as it:
-                    it.write(text or "")
-            is_run = case.script is not None
-            calls.append(folders.to_run(module_file, script, case.turns) if is_run else folders.to_compile(module_file))
-        results = folders.run_all(calls)
-    judged = [(case.name, case.judge(*result)) for case, result in zip(cases, results)]
-    return [f"{name}: {told}" for name, told in judged if told]
+        files = [[f"{folder}/{number}.{part}" for part in folders.PARTS] for number in range(len(cases))]
+        for case, paths in zip(cases, files):
+            for path, text in zip(paths, (case.code, case.script)):
+                folders.write_text(path, text)
+        calls = [call(case, *paths) for case, paths in zip(cases, files)]
+        results = folders.run_all([*calls, *(folders.to_compile(files[it][0]) for it in twice)])
+        compiled = dict(zip(twice, results[len(cases) :]))
+        written = [it for it in twice if compiled[it][0] == 0]
+        over = dict(zip(written, folders.run_over([(compiled[it][1], files[it][1], cases[it].turns) for it in written])))
+    told = [f"{case.name}: {it}" for case, result in zip(cases, results) for it in [case.judge(*result)] if it]
+    told += [f"{cases[it].name}: {line}" for it in twice for line in judge_compiled(results[it], compiled[it], over.get(it))]
+    return told, len(written)
 
 
 def main():
     cases, wrong = all_cases()
-    wrong += run(cases)
+    told, twice = run(cases)
+    wrong += told
     for it in wrong:
         print(f"repository: {it}", file=sys.stderr)
-    print(f"{len(cases)} examples are run, and {len(wrong)} are wrong")
+    print(f"{len(cases)} examples are run, {twice} of them over what is compiled too, and {len(wrong)} are wrong")
     return 1 if wrong else 0
 
 

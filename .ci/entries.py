@@ -1,5 +1,5 @@
 #!/usr/bin/env python3
-"""Tells each fault, SQLSTATE, statement and status of the program that has no entry in docs/faults.md or docs/language.md."""
+"""Tells each fault, rule of code, SQLSTATE, statement and status of the program that has no entry in docs/faults.md or docs/language.md."""
 import re
 import sys
 
@@ -20,6 +20,11 @@ def faults_of_files():
     """Returns the texts of the faults of tokens and of the grammar."""
     found = re.findall(r'Fault::\w+(?:\([^)]*\))? => "([^"]+)"', read("crates/psm_build/src/fault.rt"))
     return [it for it in found if not re.match(r"K\d\d", it)]
+
+
+def faults_of_objects():
+    """Returns what a line of an object is refused for: the rules of code by their codes, and the other text as it is."""
+    return re.findall(r'=> "(F\d(?= )|not an object text)', read("crates/psm_load/src/fault.rt"))
 
 
 def states():
@@ -68,15 +73,15 @@ def lacking():
     names, text = [], read(LANGUAGE)
     for page in (FAULTS, LANGUAGE):
         names += headings(read(page)) if exists(page) else []
-    due = [(code, code) for code, _ in rules()] + [(it, it) for it in states()]
+    due = [(it, it) for it in [*(code for code, _ in rules()), *states(), *faults_of_objects()]]
     # (with the page of faults came the entries of statuses and statements)
     due += [(f"status {it}", it) for it in statuses()] if is_due(FAULTS) else []
     due += [(it, it) for it in statements()] if is_due(FAULTS) else []
     for entry, in_row in due:
         if not is_entry(names, entry) and not is_row(text, in_row):
             yield f"{entry} has no entry in {FAULTS} or {LANGUAGE}"
-    known = [*mends.RULES, *mends.TOKENS]
-    for fault in [code for code, _ in rules()] + faults_of_files():
+    known = [*mends.RULES, *mends.TOKENS, *mends.OBJECTS]
+    for fault in [*(code for code, _ in rules()), *faults_of_files(), *faults_of_objects()]:
         if fault not in known:
             yield f"launcher/mends.py says nothing of {fault}"
     if is_due(FAULTS) and not exists(FAULTS):
