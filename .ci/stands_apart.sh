@@ -49,7 +49,7 @@ forbid psm_session psm_tree psm_simulation psm_codegen psm_undostore
 forbid psm_wellformed psm_tree psm_scope psm_store psm_io
 forbid psm_script_code psm_check_stmt psm_io psm_undostore
 forbid psm_session_simulation psm_tree psm_scope psm_machine psm_io
-forbid psm_code_session psm_tree psm_scope psm_resolved psm_typing psm_simulation psm_codegen psm_undostore psm_io
+forbid psm_code_session psm_store psm_undostore psm_io
 forbid psm_build psm_undostore psm_verify_line psm_verify
 # shellcheck disable=SC2086
 {
