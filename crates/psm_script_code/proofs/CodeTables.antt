@@ -30,7 +30,8 @@ use Rattle.psm_check_script.specs.ScriptFaults.{script_fault}
 use Rattle.psm_session.specs.declared.command.ScriptCommand.{ScriptCommand}
 use Rattle.psm_session.specs.Ends.{FitsCommand}
 use Rattle.psm_script_code.specs.Made.{CommandsMade}
-use Rattle.psm_script_code.proofs.Fits.{accepted_fit}
+use Rattle.psm_script_code.specs.WellFormed.{AsksTables}
+use Rattle.psm_script_code.proofs.Fits.{accepted_ask, accepted_fit}
 use Rattle.psm_script_code.proofs.Heads.{SameTables}
 use Rattle.psm_script_code.proofs.Tables.{WellFormedTables}
 
@@ -124,6 +125,10 @@ well_formed_tables code none = record { names = new_names [] [] code.tables (λ 
 pub commands_fit_code : (code : RawCode) → first_fault code ≡ None → (s : ScriptTree) → ScriptStands s → script_fault (known_of code) s ≡ None
     → (commands : List ScriptCommand) → CommandsMade code (script_of (known_of code) s) commands → All (FitsCommand code) commands
 commands_fit_code code well_formed = accepted_fit (definitions_alone code) code (same_definitions code.tables) (well_formed_tables code well_formed)
+
+-- and the query of each SELECT is of letters
+pub commands_ask_code : (code : RawCode) → first_fault code ≡ None → (s : ScriptTree) → ScriptStands s → script_fault (known_of code) s ≡ None → Each (AsksTables code) (script_of (known_of code) s)
+commands_ask_code code well_formed = accepted_ask (definitions_alone code) code (same_definitions code.tables) (well_formed_tables code well_formed)
 
 all_definitions : (us : List CodeTable) → Each WellFormedTable (map definition_alone us) → All IsDefinition (map (λ u. u.definition) us)
 all_definitions [] h = All-nil IsDefinition

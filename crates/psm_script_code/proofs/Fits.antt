@@ -154,7 +154,7 @@ module _ (file : ResolvedFile) (code : RawCode) (same : SameTables file.tables c
   pub accepted_fit : (ms : List ScriptCommand) → CommandsMade code commands ms → All (FitsCommand code) ms
   accepted_fit ms made = All-from_recursion (FitsCommand code) ms (all_fit file code same commands selects (commands_there code s.commands none) ms made)
 
-  accepted_ask : Each (AsksTables code) commands
+  pub accepted_ask : Each (AsksTables code) commands
   accepted_ask = all_ask file code same commands selects
 
 -- ---- one over the code of a well-formed file
