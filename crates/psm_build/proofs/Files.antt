@@ -88,13 +88,13 @@ script_rule_once known bytes a b h k =
 abbrev pub IsFaultOver : Known → List ℕ → ℕ → ℕ → Fault → Type 0
 IsFaultOver known bytes l c f = IsFaultAt scripts bytes l c f ⊎ IsScriptRuleFault known bytes (Refused l c f)
 
-script_fault_once : (known : Known) (bytes : List ℕ) (l c l' c' : ℕ) (f f' : Fault) → IsFaultOver known bytes l c f → IsFaultOver known bytes l' c' f' → Refused l c f ≡ Refused l' c' f'
+pub script_fault_once : (known : Known) (bytes : List ℕ) (l c l' c' : ℕ) (f f' : Fault) → IsFaultOver known bytes l c f → IsFaultOver known bytes l' c' f' → Refused l c f ≡ Refused l' c' f'
 script_fault_once known bytes l c l' c' f f' (inl h) (inl k) = fault_once script_fit bytes l c l' c' f f' h k
 script_fault_once known bytes l c l' c' f f' (inl h) (inr k) = absurd (tree_excludes script_fit bytes l c f k.tree k.tree_is h)
 script_fault_once known bytes l c l' c' f f' (inr h) (inl k) = absurd (tree_excludes script_fit bytes l' c' f' h.tree h.tree_is k)
 script_fault_once known bytes l c l' c' f f' (inr h) (inr k) = script_rule_once known bytes (Refused l c f) (Refused l' c' f') h k
 
-script_excludes : (known : Known) (bytes : List ℕ) (tree : ScriptTree) (l c : ℕ) (f : Fault) → IsTreeOf scripts bytes tree → IsAcceptedScript known tree → IsFaultOver known bytes l c f → ⊥
+pub script_excludes : (known : Known) (bytes : List ℕ) (tree : ScriptTree) (l c : ℕ) (f : Fault) → IsTreeOf scripts bytes tree → IsAcceptedScript known tree → IsFaultOver known bytes l c f → ⊥
 script_excludes known bytes tree l c f is accepted (inl h) = tree_excludes script_fit bytes l c f tree is h
 script_excludes known bytes tree l c f is accepted (inr h) = script_rule_excludes known bytes tree (Refused l c f) is accepted h
 

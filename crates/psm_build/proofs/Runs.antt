@@ -23,7 +23,7 @@ first_stand file code [] (d ∷ first) later q = absurd q
 first_stand file code (c ∷ cs) (d ∷ first) later q = (q.0, first_stand file code cs first later q.1)
 
 -- each command that was run has its piece
-as_many : (code : RawCode) (k : ℕ) (s t : Standing) (ds : List ScriptCommand) (pieces : List (List ℕ)) → Runs code k s ds pieces t → length pieces ≡ length ds
+pub as_many : (code : RawCode) (k : ℕ) (s t : Standing) (ds : List ScriptCommand) (pieces : List (List ℕ)) → Runs code k s ds pieces t → length pieces ≡ length ds
 as_many code k s t [] [] none = refl
 as_many code k s t (d ∷ ds) (piece ∷ pieces) (next goes more) = ap suc (as_many code (suc k) _ t ds pieces more)
 as_many code k s t [] (piece ∷ pieces) runs_as = elim runs_as [ ]

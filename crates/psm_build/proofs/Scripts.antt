@@ -47,7 +47,7 @@ module _ (ms ss : List ℕ) (code : RawCode) (commands : List ScriptCommand) (st
       (subst (λ (k : Known). CommandsMade code (script_of k is.tree) commands) (known_over_code ms code stands) is.made)
       all_well_typed (commands_well_formed (file_of stands.file) stands.well_formed is.tree (read_script_stands ss is.tree is.tree_is) script.accepted) all_fit
 
-  ends_in : (turns : ℕ) → EndsInRuns code commands (beginning (empty_tables code) turns) (session_of script turns) (tables_after script turns)
+  pub ends_in : (turns : ℕ) → EndsInRuns code commands (beginning (empty_tables code) turns) (session_of script turns) (tables_after script turns)
   ends_in turns = subst (λ (cs : List Contents). EndsInRuns code commands (beginning cs turns) (session_of script turns) (tables_after script turns))
       (sym (same_empty_tables (file_of stands.file) code stands.written))
       (ends_in_runs (file_of stands.file) code stands.stands (well_typed-file (file_of stands.file) stands.well_formed) (commands_of script) commands all_stand turns)

@@ -51,10 +51,10 @@ module _ {Y : Type 0} {g : Gram Y} {follow : List ℕ} (fit : Fit after follow g
   tree_fault tokens parse.Memory s n h = absurd (n refl)
 
   -- a tree of the bytes, or their fault before one is looked at
-  abbrev TreeOrFaultAt : Type 0
+  abbrev pub TreeOrFaultAt : Type 0
   TreeOrFaultAt = ((y : Y) × IsTreeOf (Derives productions 0 g) bytes y) ⊎ HasFault (IsFaultAt (Derives productions 0 g) bytes)
 
-  tree_total : TreeOrFaultAt
+  pub tree_total : TreeOrFaultAt
   tree_total = by (bytes_read bytes)
     where
       with_tokens : (tokens : Tokens) → Spells bytes tokens → TreeOrFault (Derives productions 0 g) tokens → TreeOrFaultAt
@@ -89,7 +89,7 @@ module_total ms = by (tree_total file_fit ms)
 -- ---- scripts over a module file
 
 -- over what a script may name, its tree is accepted, or its first fault is reported
-script_checked : (known : Known) (ss : List ℕ) (tree : ScriptTree) → IsTreeOf scripts ss tree → IsAcceptedScript known tree ⊎ HasFault (λ l c x. IsScriptRuleFault known ss (Refused l c x))
+pub script_checked : (known : Known) (ss : List ℕ) (tree : ScriptTree) → IsTreeOf scripts ss tree → IsAcceptedScript known tree ⊎ HasFault (λ l c x. IsScriptRuleFault known ss (Refused l c x))
 script_checked known ss tree is = by (script_fault known tree) refl
   where
     by : (o : Option RuleFault) → script_fault known tree ≡ o → IsAcceptedScript known tree ⊎ HasFault (λ l c x. IsScriptRuleFault known ss (Refused l c x))
