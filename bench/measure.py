@@ -76,3 +76,14 @@ def listed(program, module, runs=1):
         words = [program, "compile", str(Path(folder) / "module.sql")]
         done = min((measured(folder, words) for _ in range(runs)), key=lambda each: each.elapsed)
         return done, (Path(folder) / "output.txt").stat().st_size
+
+
+def loaded(program, module):
+    """The run of `exec` with an empty script on the listing of the module, and the bytes of that."""
+    with tempfile.TemporaryDirectory(prefix="psm-bench-") as folder:
+        write(folder, module, "")
+        measured(folder, [program, "compile", str(Path(folder) / "module.sql")])
+        listing = Path(folder) / "listing.txt"
+        (Path(folder) / "output.txt").rename(listing)
+        size = listing.stat().st_size
+        return measured(folder, [program, "exec", str(listing), str(Path(folder) / "script.sql")]), size
