@@ -1,1 +1,9 @@
 pub mod DueLines
+pub mod Lines
+pub mod Repeated
+pub mod Said
+pub mod Same
+pub mod Noted
+pub mod Within
+pub mod Counted
+pub mod Loaded

@@ -28,6 +28,6 @@ pub fn a_text_stands_for_the_code_that_it_lists()
 pub fn texts_are_one_thing()
     ensures code { (text : List ℕ) (c d : RawCode) → IsObject text c → IsObject text d → c ≡ d }
     ensures exclusive { (text : List ℕ) (c : RawCode) → IsObject text c → (line : ℕ) (fault : ObjectFault) → IsObjectFault text line fault → ⊥ }
-    ensures fault { (text : List ℕ) (k l : ℕ) (e f : ObjectFault) → IsObjectFault text k e → IsObjectFault text l f → (k, e) ≡ (l, f) }
+    ensures fault { (text : List ℕ) (k l : ℕ) (e f : ObjectFault) → IsObjectFault text k e → IsObjectFault text l f → (k ≡ l) × (e ≡ f) }
     ensures total { (text : List ℕ) → ((c : RawCode) × IsObject text c) ⊎ ((line : ℕ) × (fault : ObjectFault) × IsObjectFault text line fault) }
 {}
