@@ -3,10 +3,7 @@ use Rattle.std.proofs.Common.{◌≡◌, ℕ, suc, ◌+◌, List, [], ◌∷◌,
 use Rattle.std.proofs.lemmas.List.{append-nil}
 use Rattle.std.specs.Prelude.{codes, is_some, replicate}
 use Rattle.std.specs.List.{flat_map}
-use Rattle.psm_cond.specs.declared.handlers.ConditionValue.{ConditionValue}
-use Rattle.psm_cond.specs.declared.handlers.ConditionValue.TheVariants as values
 use Rattle.psm_cond.specs.declared.handlers.Declared.{Declared}
-use Rattle.psm_cond.specs.declared.handlers.Declared.TheVariants as declares
 use Rattle.psm_cond.specs.declared.handlers.Handler.{Handler}
 use Rattle.psm_value.specs.declared.sqltype.SqlType.{SqlType}
 use Rattle.psm_exprcode.specs.declared.aggregate.Aggregate.{Aggregate}
@@ -26,7 +23,7 @@ use Rattle.psm_code.specs.declared.instruction.Instruction.TheVariants as instru
 use Rattle.psm_words.specs.Words.{number, quoted, type_word, FitsType}
 use Rattle.psm_words.specs.Reading.{◌>>=◌}
 use Rattle.psm_object.specs.Expressions.{expression_lines, operation_line, test_lines}
-use Rattle.psm_object.specs.Handlers.{condition_line, context_line, handler_kind_word, handler_line, value_word}
+use Rattle.psm_object.specs.Handlers.{condition_line, context_line, handler_line}
 use Rattle.psm_object.specs.Instructions.{code_line}
 use Rattle.psm_object.specs.Listing.{first_line, lines_of}
 use Rattle.psm_object.specs.Plans.{plan_lines, set_lines}
@@ -37,9 +34,10 @@ use Rattle.psm_object.specs.Words.{count, flag, spaced}
 use Rattle.psm_load.specs.Due.{Due, behind, behind_first, behind_item, behind_plan, behind_query, behind_routine, behind_table, control_due, data_due, fits, going_on, misfit, test_due, Column, Condition, Context, Cursor, Expression, First, Item, Key, Operation, Parameter, Routine, Set, Slot, Table, Unique}
 use Rattle.psm_load.specs.Due as due
 use Rattle.psm_load_line.specs.Forms.{ItemHead, PlanHead, QueryHead, TableHead, Delete, DeleteAt, Function, Insert, InsertQuery, Rows, Update, UpdateAt, Value}
-use Rattle.psm_load_line.specs.Heads.{EachIs, IsColumn, IsCodeLine, IsConditionHead, IsContext, IsCursor, IsHandlerHead, IsIndex, IsOperation, IsParameter, IsPlanHead, handler_head_line, item_head_line, or_dash, plan_head_line, query_head_line, routine_head_line, table_head, value_head}
+use Rattle.psm_load_line.specs.Heads.{EachIs, IsColumn, IsCodeLine, IsContext, IsCursor, IsIndex, IsOperation, IsParameter, IsPlanHead, item_head_line, or_dash, plan_head_line, query_head_line, routine_head_line, table_head}
 use Rattle.psm_load_line.specs.RoutineForms.{RoutineHead}
-use Rattle.psm_load.specs.Listed.{AreListed, AreListedItems, AreListedSets, IsListed, IsListedExpr, IsListedPlan, IsListedQuery, IsListedRoutine, IsListedSet, IsListedTable, IsListedTest, condition_head, handler_head, item_count, query_head, routine_head, value_of}
+use Rattle.psm_load.specs.Listed.{AreListed, AreListedItems, AreListedSets, IsListed, IsListedCondition, IsListedExpr, IsListedHandler, IsListedPlan, IsListedQuery, IsListedRoutine, IsListedSet, IsListedTable, IsListedTest, item_count, query_head, routine_head}
+use Rattle.psm_load.proofs.Conditions.{condition_fits, condition_head, condition_line_is, handler_fits, handler_head, handler_line_is}
 use Rattle.psm_load_line.proofs.Forms.{expression_written, handler_written, plan_written, table_written}
 use Rattle.psm_load_line.proofs.Instructions.{code_line_written, operation_line_written}
 use Rattle.psm_load_line.proofs.OtherForms.{column_written, condition_written, context_written, cursor_written, first_written, item_written, key_written, parameter_written, query_written, routine_written, set_written, slot_written, unique_written}
@@ -130,7 +128,8 @@ reads_set sets.Avg None v = absurd (cc)
 
 reads_items : (i : Items) → AreListedItems i → Reads (replicate (item_count i) Item) (items_lines i)
 reads_items (items.Rows exprs) v = reads_flat Item item_lines IsListedExpr reads_item exprs v
-reads_items (items.Sets aggregates) v = reads_flat Item aggregate_lines (λ (a : Aggregate). IsListedSet a.function a.operand) (λ a w. reads_set a.function a.operand w) aggregates v
+reads_items (items.Sets []) v = absurd v
+reads_items (items.Sets (a ∷ others)) v = reads_flat Item aggregate_lines (λ (a : Aggregate). IsListedSet a.function a.operand) (λ a w. reads_set a.function a.operand w) (a ∷ others) v
 
 count_is : (i : Items) → items_count i ≡ number (item_count i)
 count_is (items.Rows exprs) = refl
@@ -173,25 +172,11 @@ reads_plan (plans.DeleteAt cursor) v = reads_one due.Plan (plan_head_line (Delet
 
 -- ---- conditions and handlers
 
-condition_due : (d : Declared) → IsConditionHead (condition_head d) → behind Condition (condition_line d) ≡ Some []
-condition_due (declares.OfState s) v = fits_of _ (s, None) (condition_written.again (s, None) v)
-condition_due (declares.Named name) v = fits_of _ (codes "45000", Some name) (condition_written.again (codes "45000", Some name) v)
+condition_due : (d : Declared) → IsListedCondition d → behind Condition (condition_line d) ≡ Some []
+condition_due d v = ap (behind Condition) (condition_line_is d) ∙ fits_of _ (condition_head d) (condition_written.again (condition_head d) (condition_fits d v))
 
-value_is : (v : ConditionValue) → value_word v ≡ value_head (value_of v)
-value_is (values.Named n) = refl
-value_is (values.State s) = refl
-value_is values.SqlException = refl
-value_is values.SqlWarning = refl
-value_is values.NotFound = refl
-
-values_are : (vs : List ConditionValue) → map value_word vs ≡ map value_head (map value_of vs)
-values_are [] = refl
-values_are (v ∷ vs) = ap (λ w. w ∷ map value_word vs) (value_is v) ∙ ap (λ ws. value_head (value_of v) ∷ ws) (values_are vs)
-
-handler_due : (h : Handler) → IsHandlerHead (handler_head h) → behind due.Handler (handler_line h) ≡ Some []
-handler_due h v =
-    let same : handler_line h ≡ handler_head_line (handler_head h) = ap (λ ws. spaced (codes "HANDLER" ∷ number h.context ∷ handler_kind_word h.kind ∷ number h.pc ∷ ws)) (values_are (h.values.first ∷ h.values.rest)) in
-    ap (behind due.Handler) same ∙ fits_of _ (handler_head h) (handler_written.again (handler_head h) v)
+handler_due : (h : Handler) → IsListedHandler h → behind due.Handler (handler_line h) ≡ Some []
+handler_due h v = ap (behind due.Handler) (handler_line_is h) ∙ fits_of _ (handler_head h) (handler_written.again (handler_head h) (handler_fits h v))
 
 -- ---- routines and code
 
@@ -199,7 +184,7 @@ result_is : (o : Option SqlType) → result_word o ≡ or_dash type_word o
 result_is None = refl
 result_is (Some k) = refl
 
-head_is : (r : RawRoutine) → routine_line r ≡ routine_head_line (routine_head r)
+pub head_is : (r : RawRoutine) → routine_line r ≡ routine_head_line (routine_head r)
 head_is r = ap (λ w. spaced (codes "ROUTINE" ∷ routine_kind_word r.is_function ∷ quoted r.name ∷ data_counts r ++ control_counts r ++ w ∷ [])) (result_is r.returns)
 
 reads_data : (r : RawRoutine) → IsListedRoutine r → Reads (data_due (routine_head r).1.1.0) (variable_lines r ++ access_lines r)
@@ -216,9 +201,9 @@ reads_data r v =
 
 reads_control : (r : RawRoutine) → IsListedRoutine r → Reads (control_due (routine_head r).1.1.1.0) (handling_lines r ++ map code_line r.lines)
 reads_control r v =
-    let conditions = reads_map Condition condition_line (λ d. IsConditionHead (condition_head d)) condition_due r.handlers.declared v.conditions in
+    let conditions = reads_map Condition condition_line IsListedCondition condition_due r.handlers.declared v.conditions in
     let contexts = reads_map Context context_line IsContext (λ c w. fits_of _ c (context_written.again c w)) r.handlers.contexts v.contexts in
-    let handlers = reads_map due.Handler handler_line (λ h. IsHandlerHead (handler_head h)) handler_due r.handlers.handlers v.handlers in
+    let handlers = reads_map due.Handler handler_line IsListedHandler handler_due r.handlers.handlers v.handlers in
     let lines = reads_map due.Line code_line IsCodeLine (λ l w. fits_of _ l (code_line_written.again l w)) r.lines v.lines in
     reads_both ((replicate (length r.handlers.declared) Condition ++ replicate (length r.handlers.contexts) Context) ++ replicate (length r.handlers.handlers) due.Handler) (replicate (length r.lines) due.Line) (handling_lines r) (map code_line r.lines)
     (reads_both (replicate (length r.handlers.declared) Condition ++ replicate (length r.handlers.contexts) Context) (replicate (length r.handlers.handlers) due.Handler) (map condition_line r.handlers.declared ++ map context_line r.handlers.contexts) (map handler_line r.handlers.handlers)

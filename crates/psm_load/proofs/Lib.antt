@@ -1,3 +1,4 @@
+pub mod Conditions
 pub mod DueLines
 pub mod Lines
 pub mod Repeated
@@ -7,3 +8,14 @@ pub mod Noted
 pub mod Within
 pub mod Counted
 pub mod Loaded
+pub mod Following
+pub mod Misfits
+pub mod Objects
+pub mod OneThing
+pub mod Sound
+pub mod Spelling
+pub mod Texts
+pub mod UnbrokenLines
+pub mod UnbrokenWords
+pub mod WrittenCode
+pub mod WrittenParts

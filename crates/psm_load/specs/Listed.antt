@@ -1,6 +1,8 @@
--- Code whose parts the lines of a listing can say: numbers have 32 bits, names, data and types are within bounds, lists of columns have
--- one, and COUNT alone has no operand. A value of Rust's types is such code where it breaks no rule and no list has 2^32 items.
-use Rattle.std.specs.Prelude.{◌≡◌, ℕ, true, List, [], ◌∷◌, length, map, codes, is_some, Option, Some, None}
+-- Code whose parts the lines of a listing can say: numbers have 32 bits, names, data, types and SQLSTATEs are within bounds, lists of
+-- columns have one, items without any are no set functions, and COUNT alone has no operand. A value of Rust's types is such code where it
+-- breaks no rule and no list has 2^32 items.
+use Rattle.std.specs.Prelude.{◌≡◌, ℕ, true, List, [], ◌∷◌, length, is_some, Option, Some, None}
+use Rattle.psm_sqlstate.specs.State.{IsState}
 use Rattle.psm_cond.specs.declared.handlers.ConditionValue.{ConditionValue}
 use Rattle.psm_cond.specs.declared.handlers.ConditionValue.TheVariants as values
 use Rattle.psm_cond.specs.declared.handlers.Declared.{Declared}
@@ -20,8 +22,8 @@ use Rattle.psm_code.specs.declared.code.RawCode.{RawCode}
 use Rattle.psm_code.specs.declared.code.RawRoutine.{RawRoutine}
 use Rattle.psm_code.specs.PlanRules.{counts_rows}
 use Rattle.psm_words.specs.Words.{FitsType}
-use Rattle.psm_load_line.specs.Forms.{HandlerHead, QueryHead, ValueWord, Named, NotFound, SqlException, SqlWarning, State}
-use Rattle.psm_load_line.specs.Heads.{AreColumns, ConditionHead, EachIs, IsCodeLine, IsColumn, IsConditionHead, IsContext, IsCursor, IsHandlerHead, IsIndex, IsOperation, IsParameter, IsQueryHead, IsRoutineHead, IsTableHead, table_head}
+use Rattle.psm_load_line.specs.Forms.{QueryHead}
+use Rattle.psm_load_line.specs.Heads.{AreColumns, EachIs, IsCodeLine, IsColumn, IsContext, IsCursor, IsIndex, IsName, IsOperation, IsParameter, IsQueryHead, IsRoutineHead, IsTableHead, table_head}
 use Rattle.psm_load_line.specs.RoutineForms.{RoutineHead}
 
 -- a list of columns, which has one
@@ -45,9 +47,14 @@ abbrev pub IsListedSet : SetFunction → Option (List Line) → Type 0
 IsListedSet f None = counts_rows f ≡ true
 IsListedSet f (Some operand) = IsListedExpr operand
 
+-- set functions, of which there is one
+abbrev pub AreListedAggregates : List Aggregate → Type 0
+AreListedAggregates [] = ⊥
+AreListedAggregates (a ∷ others) = IsListedSet a.function a.operand × EachIs (λ (b : Aggregate). IsListedSet b.function b.operand) others
+
 abbrev pub AreListedItems : Items → Type 0
 AreListedItems (items.Rows exprs) = EachIs IsListedExpr exprs
-AreListedItems (items.Sets aggregates) = EachIs (λ (a : Aggregate). IsListedSet a.function a.operand) aggregates
+AreListedItems (items.Sets aggregates) = AreListedAggregates aggregates
 
 abbrev pub item_count : Items → ℕ
 item_count (items.Rows exprs) = length exprs
@@ -74,19 +81,19 @@ IsListedPlan (plans.DeleteAt cursor) = IsIndex cursor
 
 -- ---- conditions and handlers
 
-abbrev pub condition_head : Declared → ConditionHead
-condition_head (declares.OfState s) = (s, None)
-condition_head (declares.Named name) = (codes "45000", Some name)
+abbrev pub IsListedCondition : Declared → Type 0
+IsListedCondition (declares.OfState s) = IsState s
+IsListedCondition (declares.Named name) = IsName name
 
-abbrev pub value_of : ConditionValue → ValueWord
-value_of (values.Named n) = Named n
-value_of (values.State s) = State s
-value_of values.SqlException = SqlException
-value_of values.SqlWarning = SqlWarning
-value_of values.NotFound = NotFound
+abbrev pub IsListedValue : ConditionValue → Type 0
+IsListedValue (values.Named n) = IsIndex n
+IsListedValue (values.State s) = IsState s
+IsListedValue values.SqlException = Unit {0}
+IsListedValue values.SqlWarning = Unit {0}
+IsListedValue values.NotFound = Unit {0}
 
-abbrev pub handler_head : Handler → HandlerHead
-handler_head h = ((h.context, (h.kind, h.pc)), (value_of h.values.first, map value_of h.values.rest))
+abbrev pub IsListedHandler : Handler → Type 0
+IsListedHandler h = IsIndex h.context × IsIndex h.pc × IsListedValue h.values.first × EachIs IsListedValue h.values.rest
 
 -- ---- routines and code
 
@@ -109,9 +116,9 @@ pub record IsListedRoutine (r : RawRoutine) : Type 0 where
   pub queries : EachIs IsListedQuery r.queries
   pub cursors : EachIs IsCursor r.cursors
   pub plans : EachIs IsListedPlan r.plans
-  pub conditions : EachIs (λ d. IsConditionHead (condition_head d)) r.handlers.declared
+  pub conditions : EachIs IsListedCondition r.handlers.declared
   pub contexts : EachIs IsContext r.handlers.contexts
-  pub handlers : EachIs (λ h. IsHandlerHead (handler_head h)) r.handlers.handlers
+  pub handlers : EachIs IsListedHandler r.handlers.handlers
   pub lines : EachIs IsCodeLine r.lines
 
 pub record IsListed (code : RawCode) : Type 0 where
