@@ -1,5 +1,13 @@
 pub mod Conditions
 pub mod DueLines
+pub mod Lines
+pub mod Repeated
+pub mod Said
+pub mod Same
+pub mod Noted
+pub mod Within
+pub mod Counted
+pub mod Loaded
 pub mod Following
 pub mod Misfits
 pub mod NumberedHandlers

@@ -1,6 +1,9 @@
 pub mod Due
 pub mod FaultTexts
+pub mod Judged
+pub mod Left
 pub mod Listed
 pub mod Loading
 pub mod Parts
+pub mod Read
 pub mod Stated
