@@ -1,6 +1,6 @@
 -- A command that fits well-formed code ends: it goes on, or the turns run out in it. It ends in one way.
 use Rattle.std.proofs.Common.{◌≡◌, ℕ, true, List, [], ◌∷◌, ◌++◌, map, slice_get, Option, Some, None, Result, Ok, Err, refl, ap, sym, subst, ◌∙◌}
-use Rattle.std.specs.Prelude.{IsSome, IsTrue, slice_set}
+use Rattle.std.specs.Prelude.{IsSome, slice_set}
 use Rattle.std.proofs.lemmas.Option.{same_Some}
 use Rattle.psm_value.specs.declared.datum.Datum.{Datum}
 use Rattle.psm_sqlstate.specs.declared.state.SqlState.{SqlState}
@@ -12,7 +12,6 @@ use Rattle.psm_tablecode.specs.Codes.{over, query_of}
 use Rattle.psm_tablecode.specs.NewRows.{new_row}
 use Rattle.psm_code.specs.declared.code.CodeTable.{CodeTable}
 use Rattle.psm_code.specs.declared.code.RawCode.{RawCode}
-use Rattle.psm_code.specs.declared.code.RawRoutine.{RawRoutine}
 use Rattle.psm_code.specs.MachineInvariant.{AreKept, is_due}
 use Rattle.psm_code.specs.Plans.{plain, schema_of}
 use Rattle.psm_code.specs.RoutineRules.{first_fault}
@@ -25,10 +24,10 @@ use Rattle.psm_code.proofs.Queried.{kept_at}
 use Rattle.psm_termination.proofs.Rows.{run_ends}
 use Rattle.psm_machine.specs.Running.{Takes}
 use Rattle.psm_machine.proofs.CodeGuarantees.{put_kept}
-use Rattle.psm_meaning.specs.Acts.{NoTurns, of_state}
-use Rattle.psm_meaning.specs.Lines.{condition_lines, first_line, ok_line, turns_used_line}
+use Rattle.psm_meaning.specs.Acts.{NoTurns}
+use Rattle.psm_meaning.specs.Lines.{condition_lines, first_line, ok_line}
 use Rattle.psm_meaning.specs.Session.{CommandResult, Standing, Stopped, Went}
-use Rattle.psm_session.specs.CommandSteps.{CommandExecutes, Executes, call, insert, select, commit, rollback, after_run, called, command_name, condition_of, given_lines, put_in, rows_shown, selected, with_tables}
+use Rattle.psm_session.specs.CommandSteps.{CommandExecutes, Executes, call, insert, select, commit, rollback, after_run, called, command_name, condition_of, put_in, selected, with_tables}
 use Rattle.psm_session.specs.Ends.{FitsCommand, FitsQuery}
 use Rattle.psm_session.specs.declared.command.ScriptCommand.{ScriptCommand}
 use Rattle.psm_session.specs.declared.command.ScriptCommand.TheVariants as commands

@@ -1,5 +1,5 @@
 -- The session of commands over code, command by command: there is one, and one at most.
-use Rattle.std.proofs.Common.{arith, ◌≡◌, ℕ, suc, ◌+◌, List, [], ◌∷◌, ◌++◌, length, take, None, refl, ap, sym, subst, ◌∙◌, append_assoc}
+use Rattle.std.proofs.Common.{arith, ◌≡◌, ℕ, suc, ◌+◌, List, [], ◌∷◌, ◌++◌, length, None, refl, ap, sym, subst, ◌∙◌}
 use Rattle.std.specs.Prelude.{All}
 use Rattle.std.proofs.lemmas.List.Elements.{All-head, All-tail}
 use Rattle.psm_code.specs.declared.code.RawCode.{RawCode}
@@ -7,7 +7,7 @@ use Rattle.psm_code.specs.RoutineRules.{first_fault}
 use Rattle.psm_meaning.specs.Acts.{NoTurns}
 use Rattle.psm_meaning.specs.Session.{CommandResult, Session, Standing, Cut, Done, Stopped, Went, finished}
 use Rattle.psm_session.specs.CommandSteps.{CommandExecutes, Runs, none, next, command_name}
-use Rattle.psm_session.specs.Ends.{FitsCommand, HasRun, RunsOut}
+use Rattle.psm_session.specs.Ends.{FitsCommand, HasRun}
 use Rattle.psm_session.specs.declared.command.ScriptCommand.{ScriptCommand}
 use Rattle.psm_meaning.specs.Lines.{first_line}
 use Rattle.psm_code_session.specs.CodeSession.{HasSession, done, cut}

@@ -4,4 +4,8 @@
 
 mod laws;
 
-pub use laws::commands_that_fit_have_one_session;
+pub use laws::{
+    code_has_the_sessions_of_its_module, commands_that_fit_have_one_session,
+    runs_over_well_formed_code_show_their_session, scripts_over_code_are_one_thing,
+    scripts_over_well_formed_code_have_one_session,
+};
