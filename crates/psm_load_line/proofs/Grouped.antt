@@ -1,7 +1,6 @@
 -- The instructions by what follows their mnemonics are those of the format.
-use Rattle.std.proofs.Common.{◌≡◌, ℕ, Bool, true, false, List, [], ◌∷◌, ◌++◌, length, map, Option, Some, None, refl, sym, ap, subst, ◌∙◌}
+use Rattle.std.proofs.Common.{◌≡◌, ℕ, Bool, true, false, List, [], ◌∷◌, ◌++◌, length, map, Option, Some, None, refl, sym, ap, subst, ◌∙◌, arith}
 use Rattle.std.specs.Prelude.{codes, if◌then◌else◌, is_some, nat_eq, option_map}
-use Rattle.std.specs.Str.{IsUtf8}
 use Rattle.std.specs.Cmp.Lexicographic.{pointwise, same_text}
 use Rattle.psm_exprcode.specs.declared.op.Op.{Op}
 use Rattle.psm_exprcode.specs.declared.op.Op.TheVariants as op
@@ -11,9 +10,11 @@ use Rattle.psm_words.specs.Reading.{◌>>=◌, after}
 use Rattle.psm_words.proofs.Several.{some_is}
 use Rattle.psm_load_line.specs.Groups.{alone_control, alone_instructions, alone_operations, as_instruction, detailed_instructions, followed_instructions, grouped_instructions, instruction_at, numbered_instructions, said, textless_instructions, when_alone, when_numbered}
 use Rattle.psm_load_line.specs.Heads.{EachIs}
-use Rattle.psm_load_line.specs.InstructionForms.{instructions, numbered}
-use Rattle.psm_load_line.specs.Readers.{alone, bare, by_word, chosen, index_at, last, made, one_of, word, LineReader}
-use Rattle.psm_load_line.proofs.Entries.{no_text, none_chosen}
+use Rattle.psm_load_line.specs.InstructionForms.{instructions, numbered, of_operation}
+use Rattle.psm_load_line.specs.OperationForms.{constant_at}
+use Rattle.psm_load_line.specs.Readers.{alone, bare, chosen, index_at, last, made, word, LineReader}
+use Rattle.psm_load_line.specs.Taken.{NoText}
+use Rattle.psm_load_line.proofs.Entries.{no_word, none_chosen, word_said}
 use Rattle.psm_load_line.proofs.Spelled.{◌&◌}
 
 -- what holds of each entry of a table holds of the one that is chosen
@@ -168,13 +169,28 @@ pub control_alone : (w : List ℕ) (r : Option Instruction) → None ≡ chosen 
 unfolding alone_instructions
 control_alone w r e f = f ∙ sym (chosen_later (map as_instruction alone_operations) alone_control w (as_instructions alone_operations w ∙ ap (option_map instruction.Operation) (sym e)))
 
-ends_here : (i : Instruction) (s : List ℕ) → alone i s ≡ (if nat_eq (length s) 0 then Some i else None)
-ends_here i [] = refl
-ends_here i (c ∷ s) = refl
+ends_here : (i : Instruction) (s : List ℕ) → nat_eq (length s) 0 ≡ true → alone i s ≡ Some i
+ends_here i [] e = refl
+ends_here i (c ∷ s) e = absurd (grind (arith, e))
 
-pub textless_alone : (w s : List ℕ) (i : Instruction) → Some i ≡ chosen alone_instructions w → said textless_instructions w s ≡ (if nat_eq (length s) 0 then Some i else None)
+goes_further : (i : Instruction) (s : List ℕ) → nat_eq (length s) 0 ≡ false → alone i s ≡ None
+goes_further i [] e = absurd cc
+goes_further i (c ∷ s) e = refl
+
+pub textless_alone : (w s : List ℕ) (i : Instruction) → Some i ≡ chosen alone_instructions w → nat_eq (length s) 0 ≡ true → Some i ≡ said textless_instructions w s
 unfolding textless_instructions
-textless_alone w s i e = alone_said alone_instructions followed_instructions w s i (sym e) ∙ ends_here i s
+textless_alone w s i e t = sym (alone_said alone_instructions followed_instructions w s i (sym e) ∙ ends_here i s t)
+
+pub textless_longer : (w s : List ℕ) (i : Instruction) → Some i ≡ chosen alone_instructions w → nat_eq (length s) 0 ≡ false → None ≡ said textless_instructions w s
+unfolding textless_instructions
+textless_longer w s i e t = sym (alone_said alone_instructions followed_instructions w s i (sym e) ∙ goes_further i s t)
+
+-- CONST is the one mnemonic before a text
+pub grouped_textless : (w s : List ℕ) → (w ≡ codes "CONST" → ⊥) → said grouped_instructions w s ≡ said textless_instructions w s
+unfolding grouped_instructions
+grouped_textless w s h =
+    let constant : List (List ℕ × LineReader Instruction) = of_operation (codes "CONST", constant_at) ∷ [] in
+    ap (λ (o : Option (LineReader Instruction)). o >>= λ p. p s) (chosen_later constant textless_instructions w (none_chosen constant w (h, tt)))
 
 pub textless_followed : (w s : List ℕ) → None ≡ chosen alone_instructions w → said textless_instructions w s ≡ said followed_instructions w s
 unfolding textless_instructions
@@ -187,42 +203,12 @@ followed_numbered w s h =
     ap (λ (o : Option (LineReader Instruction)). o >>= λ p. p s) (chosen_later detailed_instructions (map when_numbered numbered_instructions) w (none_chosen detailed_instructions w h))
     ∙ numbered_said numbered_instructions w s
 
--- ---- a word after a blank
-
-abbrev before_rest : {A : Type 0} → List ℕ → LineReader A → Option (LineReader A × List ℕ)
-before_rest t p = Some (p, t)
-
-abbrev read_on : {A : Type 0} → LineReader A × List ℕ → Option A
-read_on p = p.0 p.1
-
-word_said : {A : Type 0} (entries : List (List ℕ × LineReader A)) (s w rest : List ℕ) → Some (w, rest) ≡ option_map bare (after (codes " ") s) → by_word entries s ≡ said entries w rest
-word_said {A} entries s w rest e = by (after (codes " ") s) e where
-  read : (o : Option (LineReader A)) (t : List ℕ) → ((o >>= before_rest t) >>= read_on) ≡ (o >>= λ p. p t)
-  read None t = refl
-  read (Some p) t = refl
-
-  by : (o : Option (List ℕ)) → Some (w, rest) ≡ option_map bare o → (o >>= one_of entries >>= read_on) ≡ said entries w rest
-  by None e = absurd cc
-  by (Some t) e =
-      let same : (w, rest) ≡ bare t = some_is (w, rest) (bare t) e in
-      read (chosen entries (bare t).0) (bare t).1 ∙ ap (λ (x : List ℕ × List ℕ). said entries x.0 x.1) (sym same)
-
-no_word : {A : Type 0} (entries : List (List ℕ × LineReader A)) (s : List ℕ) → None ≡ option_map bare (after (codes " ") s) → by_word entries s ≡ None
-no_word {A} entries s e = by (after (codes " ") s) e where
-  by : (o : Option (List ℕ)) → None ≡ option_map bare o → (o >>= one_of entries >>= read_on) ≡ None
-  by None e = refl
-  by (Some t) e = absurd cc
-
 -- ---- an instruction after a blank
 
-pub instruction_said : (s w rest : List ℕ) → Some (w, rest) ≡ option_map bare (after (codes " ") s) → instruction_at s ≡ said grouped_instructions w rest
+pub instruction_said : (s w rest : List ℕ) → option_map bare (after (codes " ") s) ≡ Some (w, rest) → instruction_at s ≡ said grouped_instructions w rest
 unfolding instruction_at
 instruction_said s w rest e = word_said instructions s w rest e ∙ grouped w rest
 
-pub no_instruction : (s : List ℕ) → None ≡ option_map bare (after (codes " ") s) → instruction_at s ≡ None
+pub no_instruction : (s : List ℕ) → NoText (option_map bare (after (codes " ") s)) → instruction_at s ≡ None
 unfolding instruction_at
-no_instruction s e = no_word instructions s e
-
--- all mnemonics are text
-pub no_mnemonic : (w rest : List ℕ) → (IsUtf8 w → ⊥) → said grouped_instructions w rest ≡ None
-no_mnemonic w rest h = sym (grouped w rest) ∙ ap (λ (o : Option (LineReader Instruction)). o >>= λ p. p rest) (no_text instructions w refl h)
+no_instruction s h = no_word instructions s refl h

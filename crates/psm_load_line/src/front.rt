@@ -3,13 +3,14 @@ ghost use Rattle.std.specs.Prelude.{◌≡◌, ◌≤◌, codes, drop, length, m
 ghost use Rattle.psm_words.specs.Reading.{after as after_word, datum_at, type_at};
 ghost use Rattle.psm_load_line.specs.Forms as forms;
 ghost use Rattle.psm_load_line.specs.Readers.{bare, chosen, flag_at, last, name_at, one_of, word};
-ghost use Rattle.psm_load_line.specs.Taken.{Takes};
+ghost use Rattle.psm_load_line.specs.Taken.{IsText, Takes};
 
 use crate::fault::Unread;
 use psm_text::{Name, NameFault};
 use psm_value::{Datum, SqlType};
 use psm_words::{datum, number, quoted, sql_type};
 use std::alloc::Global;
+use std::str;
 
 /// What follows the word with which a line begins.
 pub(crate) fn keyword<'a>(word: &[u8], line: &'a [u8]) -> Option<&'a [u8]>
@@ -99,6 +100,17 @@ pub(crate) fn bare_word(rest: &[u8]) -> Option<(&[u8], &[u8])>
     let after = keyword(b" ", rest)?;
     let size = bare_size(after);
     Some((&after[..size], &after[size..]))
+}
+
+/// The word after a blank where it is a text, and what follows it.
+pub(crate) fn text_word(rest: &[u8]) -> Option<(&str, &[u8])>
+    ensures { IsText (option_map bare (after_word (codes " ") rest.now)) (option_map (λ x. (x.0.now, x.1.now)) result) }
+{
+    let (word, rest) = bare_word(rest)?;
+    match str::from_utf8(word) {
+        Ok(word) => Some((word, rest)),
+        Err(_) => None,
+    }
 }
 
 /// How many bytes stand before the next blank.

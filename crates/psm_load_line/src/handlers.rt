@@ -1,13 +1,15 @@
 //! The lines of declared conditions, contexts and handlers.
 ghost use Rattle.std.specs.Prelude.{◌≡◌, option_map};
 ghost use Rattle.psm_load_line.specs.Forms.{block_of, condition_at, context_at, context_kinds, handler_at, handler_kinds, index as index_word, value_at};
-ghost use Rattle.psm_load_line.specs.Readers.{both, by_word, dash_or, flag_at, made, many, name_at, on, one_of, some, word};
+ghost use Rattle.psm_cond.specs.declared.handlers.ContextKind.TheVariants as kinds;
+ghost use Rattle.psm_load_line.specs.Groups.{said};
+ghost use Rattle.psm_load_line.specs.Readers.{both, by_word, dash_or, flag_at, last, made, many, name_at, on, one_of, some, word};
 ghost use Rattle.psm_load_line.specs.Said.{declared_of as condition_of, handler_of, Reads};
 ghost use Rattle.psm_load_line.specs.Taken.{several_of, Builds, Takes};
 
 use crate::details::last_index;
 use crate::fault::Unread;
-use crate::front::{bare_word, flag, index, keyword, name_first, pick};
+use crate::front::{flag, index, keyword, name_first, pick, text_word};
 use crate::lists::{add_indexes, add_values};
 use crate::values::{condition_value, state, state_of};
 use psm_cond::{Block, ConditionValue, Context, ContextKind, Declared, Handler, HandlerKind};
@@ -68,12 +70,27 @@ pub fn context(alloc: Global, line: &[u8]) -> Result<Context, Unread>
 fn context_kind(alloc: Global, rest: &[u8]) -> Result<ContextKind, Unread>
     ensures { Reads (by_word context_kinds rest.now) result }
 {
-    let (word, rest) = bare_word(rest).ok_or(Unread::Misfit)?;
+    match text_word(rest) {
+        Some((word, rest)) => context_kind_of(alloc, word, rest),
+        None => Err(Unread::Misfit),
+    }
+}
+
+fn context_kind_of(alloc: Global, word: &str, rest: &[u8]) -> Result<ContextKind, Unread>
+    ensures { Reads (said context_kinds word.now rest.now) result }
+{
     match word {
-        b"BLOCK" => block(alloc, rest),
-        b"ACTION" => Ok(ContextKind::Action(last_index(rest).ok_or(Unread::Misfit)?)),
+        "BLOCK" => block(alloc, rest),
+        "ACTION" => action(rest).ok_or(Unread::Misfit),
         _ => Err(Unread::Misfit),
     }
+}
+
+fn action(rest: &[u8]) -> Option<ContextKind>
+    ensures { result ≡ option_map kinds.Action (last index_word rest.now) }
+{
+    let handler = last_index(rest)?;
+    Some(ContextKind::Action(handler))
 }
 
 fn block(alloc: Global, rest: &[u8]) -> Result<ContextKind, Unread>

@@ -1,9 +1,9 @@
 //! Lists of numbers, and of condition values, up to the end of a line.
-ghost use Rattle.std.specs.Prelude.{◌≡◌, ℕ};
+ghost use Rattle.std.specs.Prelude.{◌≡◌};
 ghost use Rattle.psm_load_line.specs.Forms.{index as index_word, value_at};
 ghost use Rattle.psm_load_line.specs.Readers.{many, some, word};
 ghost use Rattle.psm_load_line.specs.Said.{columns_of, value_of};
-ghost use Rattle.psm_load_line.specs.Taken.{Adds, Builds};
+ghost use Rattle.psm_load_line.specs.Taken.{Adds, Appends, Builds};
 
 use crate::fault::Unread;
 use crate::front::index;
@@ -25,7 +25,7 @@ pub(crate) fn columns(alloc: Global, rest: &[u8]) -> Result<List<u32>, Unread>
 
 /// Puts all numbers that follow after those of a list.
 pub(crate) fn add_indexes(list: &mut Vec<u32>, rest: &[u8]) -> Result<(), Unread>
-    ensures { Adds (λ (n : ℕ). n) (many index_word rest.now) list.old.items list.new.items result }
+    ensures { Appends (many index_word rest.now) list.old.items list.new.items result }
 {
     let mut left = rest;
     for _done in 0..rest.len() {

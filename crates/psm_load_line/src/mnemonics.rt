@@ -9,36 +9,24 @@ use crate::fault::Unread;
 use crate::details::{
     condition_item, decimals, last_index, last_kind, next, side, statement_item, value_letter,
 };
-use crate::front::{bare_word, value};
+use crate::front::{text_word, value};
 use psm_code::Instruction;
 use psm_exprcode::Op;
 use std::alloc::Global;
-use std::str;
 
 /// The instruction after a blank, up to the end.
 #[tactic(auto, using(crate::proofs::Grouped::instruction_said, crate::proofs::Grouped::no_instruction))]
 pub(crate) fn instruction(alloc: Global, rest: &[u8]) -> Result<Instruction, Unread>
     ensures { Reads (instruction_at rest.now) result }
 {
-    match bare_word(rest) {
-        Some((word, rest)) => after_word(alloc, word, rest),
+    match text_word(rest) {
+        Some((word, rest)) => instruction_of(alloc, word, rest),
         None => Err(Unread::Misfit),
     }
 }
 
-/// The instruction of a word, and of what follows it.
-#[tactic(auto, using(crate::proofs::Grouped::no_mnemonic))]
-fn after_word(alloc: Global, word: &[u8], rest: &[u8]) -> Result<Instruction, Unread>
-    ensures { Reads (said grouped_instructions word.now rest.now) result }
-{
-    match str::from_utf8(word) {
-        Ok(word) => instruction_of(alloc, word, rest),
-        Err(_) => Err(Unread::Misfit),
-    }
-}
-
 /// The instruction of a mnemonic, and of what follows it.
-#[tactic(auto, unfolding(crate::specs::Groups::grouped_instructions))]
+#[tactic(auto, using(crate::proofs::Grouped::grouped_textless), unfolding(crate::specs::Groups::grouped_instructions))]
 fn instruction_of(alloc: Global, word: &str, rest: &[u8]) -> Result<Instruction, Unread>
     ensures { Reads (said grouped_instructions word.now rest.now) result }
 {
@@ -60,7 +48,7 @@ fn constant(alloc: Global, rest: &[u8]) -> Result<Op, Unread>
     }
 }
 
-#[tactic(auto, using(crate::proofs::Grouped::textless_alone, crate::proofs::Grouped::textless_followed))]
+#[tactic(auto, using(crate::proofs::Grouped::textless_alone, crate::proofs::Grouped::textless_longer, crate::proofs::Grouped::textless_followed))]
 fn textless(word: &str, rest: &[u8]) -> Option<Instruction>
     ensures { result ≡ said textless_instructions word.now rest.now }
 {

@@ -1,5 +1,5 @@
 //! The lines of queries, cursors and plans.
-ghost use Rattle.std.specs.Prelude.{◌≡◌, drop, option_map};
+ghost use Rattle.std.specs.Prelude.{◌≡◌, option_map};
 ghost use Rattle.psm_load_line.specs.Forms.{directions, functions, index as index_word, insert_at, item_at, plan_at, plans, query_at};
 ghost use Rattle.psm_load_line.specs.Forms as forms;
 ghost use Rattle.psm_load_line.specs.Groups.{said};
@@ -9,7 +9,7 @@ ghost use Rattle.psm_load_line.specs.Said.{item_head_of, plan_head_of, query_hea
 
 use crate::details::last_index;
 use crate::fault::Unread;
-use crate::front::{bare_size, bare_word, flag, index, keyword, name, pick, pick_last};
+use crate::front::{bare_size, flag, index, keyword, name, pick, pick_last, text_word};
 use crate::head::{ItemHead, PlanHead, QueryHead};
 use crate::lists::columns;
 use psm_code::CodeCursor;
@@ -93,18 +93,32 @@ fn aggregate(rest: &[u8]) -> Option<ItemHead>
 pub fn plan_head(alloc: Global, line: &[u8]) -> Result<PlanHead, Unread>
     ensures { Reads (option_map plan_head_of (plan_at line.now)) result }
 {
-    let rest = keyword(b"PLAN", line).ok_or(Unread::Misfit)?;
-    let (word, rest) = bare_word(rest).ok_or(Unread::Misfit)?;
-    plan(alloc, word, rest)
+    match keyword(b"PLAN", line) {
+        Some(rest) => plan(alloc, rest),
+        None => Err(Unread::Misfit),
+    }
 }
 
-fn plan(alloc: Global, word: &[u8], rest: &[u8]) -> Result<PlanHead, Unread>
+fn plan(alloc: Global, rest: &[u8]) -> Result<PlanHead, Unread>
+    ensures { Reads (option_map plan_head_of (by_word plans rest.now)) result }
+{
+    match text_word(rest) {
+        Some((word, rest)) => plan_of(alloc, word, rest),
+        None => Err(Unread::Misfit),
+    }
+}
+
+fn plan_of(alloc: Global, word: &str, rest: &[u8]) -> Result<PlanHead, Unread>
     ensures { Reads (option_map plan_head_of (said plans word.now rest.now)) result }
 {
     match word {
-        b"INSERT" => insert(alloc, rest),
-        b"INSERTQ" => insert_query(alloc, rest),
-        _ => change(word, rest).ok_or(Unread::Misfit),
+        "INSERT" => insert(alloc, rest),
+        "INSERTQ" => insert_query(alloc, rest),
+        "UPDATE" => update(rest).ok_or(Unread::Misfit),
+        "DELETE" => delete(rest).ok_or(Unread::Misfit),
+        "UPDATEAT" => update_at(rest).ok_or(Unread::Misfit),
+        "DELETEAT" => delete_at(rest).ok_or(Unread::Misfit),
+        _ => Err(Unread::Misfit),
     }
 }
 
@@ -132,21 +146,6 @@ fn insert_query(alloc: Global, rest: &[u8]) -> Result<PlanHead, Unread>
         query,
         columns,
     })
-}
-
-/// A plan that puts no rows in.
-fn change(word: &[u8], rest: &[u8]) -> Option<PlanHead>
-    ensures { result ≡ option_map plan_head_of (said (drop 2 plans) word.now rest.now) }
-{
-    match word {
-        b"UPDATE" => update(rest),
-        b"DELETE" => delete(rest),
-        b"UPDATEAT" => update_at(rest),
-        b"DELETEAT" => Some(PlanHead::DeleteAt {
-            cursor: last_index(rest)?,
-        }),
-        _ => None,
-    }
 }
 
 fn update(rest: &[u8]) -> Option<PlanHead>
@@ -186,6 +185,13 @@ fn update_at(rest: &[u8]) -> Option<PlanHead>
     } else {
         None
     }
+}
+
+fn delete_at(rest: &[u8]) -> Option<PlanHead>
+    ensures { result ≡ option_map (λ x. plan_head_of (forms.DeleteAt x)) (last index_word rest.now) }
+{
+    let cursor = last_index(rest)?;
+    Some(PlanHead::DeleteAt { cursor })
 }
 
 /// The cursor of a line `CURSOR`.
