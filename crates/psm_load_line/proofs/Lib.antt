@@ -1,5 +1,8 @@
+pub mod Entries
 pub mod Forms
+pub mod Grouped
 pub mod Instructions
+pub mod Many
 pub mod Operations
 pub mod OtherForms
 pub mod Spelled

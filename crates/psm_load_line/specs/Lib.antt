@@ -1,7 +1,9 @@
 pub mod Forms
+pub mod Groups
 pub mod Heads
 pub mod InstructionForms
 pub mod OperationForms
 pub mod Readers
 pub mod RoutineForms
 pub mod Said
+pub mod Taken

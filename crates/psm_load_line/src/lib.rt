@@ -2,15 +2,19 @@
 #![tactic(auto)]
 
 mod code_lines;
+mod details;
 mod fault;
 mod front;
 mod handlers;
 mod head;
 mod heads;
 mod laws;
+mod lists;
+mod mnemonics;
 mod queries;
 mod routines;
 mod tables;
+mod values;
 
 pub use code_lines::{code_line, operation_line};
 pub use fault::Unread;

@@ -1,0 +1,66 @@
+-- Words are read one after another, up to the end of a line.
+use Rattle.std.proofs.Common.{◌≡◌, ℕ, ◌+◌, ◌<◌, true, false, List, [], ◌∷◌, ◌++◌, length, get_or, map, drop, Option, Some, None, refl, sym, ap, ◌∙◌, append_assoc, arith, eqb-true}
+use Rattle.std.specs.Prelude.{nat_eq}
+use Rattle.std.proofs.lemmas.List.{append-nil, drop_more, map-id}
+use Rattle.psm_words.specs.Reading.{◌>>=◌}
+use Rattle.psm_words.proofs.Several.{some_is}
+use Rattle.psm_load_line.specs.Readers.{many, many_within, some, Reader}
+
+abbrev with_first : {A : Type 0} → A → List A → Option (A × List A)
+with_first a others = Some (a, others)
+
+module _ {A B : Type 0} (make : A → B) (p : Reader A) where
+  -- what stands in a list with what is made of what is read
+  abbrev pub grown : List B → Option (List A) → Option (List B)
+  grown before None = None
+  grown before (Some more) = Some (before ++ map make more)
+
+  pushed : (before : List B) (a : A) (o : Option (List A)) → grown before (o >>= λ others. Some (a ∷ others)) ≡ grown (before ++ make a ∷ []) o
+  pushed before a None = refl
+  pushed before a (Some more) = ap Some (sym (append_assoc before (make a ∷ []) (map make more)))
+
+  not_empty : (s : List ℕ) → nat_eq (length s) 0 ≡ false → 0 < length s
+  not_empty [] e = absurd cc
+  not_empty (c ∷ s) e = omega arith
+
+  one_read : (before : List B) (m : ℕ) (most left after : List ℕ) (a : A) → 0 < length left → p left ≡ Some (a, after) → grown before (many_within p (m ∷ most) left) ≡ grown (before ++ make a ∷ []) (many_within p most after)
+  one_read before m most [] after a l e = absurd (omega (arith, l))
+  one_read before m most (c ∷ s) after a l e =
+      ap (λ (o : Option (A × List ℕ)). grown before (o >>= λ x. many_within p most x.1 >>= λ others. Some (x.0 ∷ others))) e
+      ∙ pushed before a (many_within p most after)
+
+  all_read : (most left : List ℕ) → length left ≡ 0 → many_within p most left ≡ Some []
+  all_read [] [] l = refl
+  all_read (m ∷ most) [] l = refl
+  all_read most (c ∷ s) l = absurd (omega (arith, l))
+
+  grown_some : (before after : List B) (o : Option (List A)) → grown before o ≡ Some after → (more : List A) × (o ≡ Some more) × (after ≡ before ++ map make more)
+  grown_some before after None e = absurd cc
+  grown_some before after (Some more) e = (more, refl, sym (some_is (before ++ map make more) after e))
+
+  pub some_read : (s rest : List ℕ) (a : A) (more : List A) → p s ≡ Some (a, rest) → many p rest ≡ Some more → some p s ≡ Some (a, more)
+  some_read s rest a more e f =
+      ap (λ (o : Option (A × List ℕ)). o >>= λ x. many p x.1 >>= with_first x.0) e
+      ∙ ap (λ (o : Option (List A)). o >>= with_first a) f
+
+  -- ---- where a loop has come, which has read as many words as k
+
+  -- what the list had before the loop and has now, and what is left of the line
+  abbrev pub Going : List B → List B → List ℕ → ℕ → List ℕ → Type 0
+  Going old now rest k left = grown old (many p rest) ≡ grown now (many_within p (drop k rest) left)
+
+  pub goes_on : (old now : List B) (rest : List ℕ) (k : ℕ) (left after : List ℕ) (a : A) → k < length rest → nat_eq (length left) 0 ≡ false → p left ≡ Some (a, after) → Going old now rest k left → Going old (now ++ make a ∷ []) rest (k + 1) after
+  goes_on old now rest k left after a h l e going =
+      going
+      ∙ ap (λ (most : List ℕ). grown now (many_within p most left)) (drop_more rest k 0 h)
+      ∙ one_read now (get_or rest k 0) (drop (k + 1) rest) left after a (not_empty left l) e
+
+  pub comes_to_end : (old now : List B) (rest : List ℕ) (k : ℕ) (left : List ℕ) → nat_eq (length left) 0 ≡ true → Going old now rest k left → (more : List A) × (many p rest ≡ Some more) × (now ≡ old ++ map make more)
+  comes_to_end old now rest k left l going =
+      grown_some old now (many p rest) (going ∙ ap (grown now) (all_read (drop k rest) left (eqb-true (length left) 0 l)) ∙ ap Some (append-nil now))
+
+-- the same of numbers, which are kept as they are
+pub comes_to_last : (p : Reader ℕ) (old now rest : List ℕ) (k : ℕ) (left : List ℕ) → nat_eq (length left) 0 ≡ true → Going (λ n. n) p old now rest k left → (more : List ℕ) × (many p rest ≡ Some more) × (now ≡ old ++ more)
+comes_to_last p old now rest k left l going =
+    let h : (more : List ℕ) × (many p rest ≡ Some more) × (now ≡ old ++ map (λ n. n) more) = comes_to_end (λ n. n) p old now rest k left l going in
+    (h.0, h.1, h.2 ∙ ap (λ ns. old ++ ns) (map-id h.0))
