@@ -1,6 +1,6 @@
 -- Words are read one after another, up to the end of a line.
-use Rattle.std.proofs.Common.{◌≡◌, ℕ, ◌+◌, ◌<◌, true, false, List, [], ◌∷◌, ◌++◌, length, get_or, map, drop, Option, Some, None, refl, sym, ap, ◌∙◌, append_assoc, arith, eqb-true}
-use Rattle.std.specs.Prelude.{nat_eq}
+use Rattle.std.proofs.Common.{◌≡◌, ℕ, ◌+◌, ◌<◌, true, false, List, [], ◌∷◌, ◌++◌, length, get_or, map, drop, Option, Some, None, refl, sym, ap, subst, ◌∙◌, append_assoc, arith, eqb-true}
+use Rattle.std.specs.Prelude.{nat_eq, option_map}
 use Rattle.std.proofs.lemmas.List.{append-nil, drop_more, map-id}
 use Rattle.psm_words.specs.Reading.{◌>>=◌}
 use Rattle.psm_words.proofs.Several.{some_is}
@@ -54,6 +54,26 @@ module _ {A B : Type 0} (make : A → B) (p : Reader A) where
       going
       ∙ ap (λ (most : List ℕ). grown now (many_within p most left)) (drop_more rest k 0 h)
       ∙ one_read now (get_or rest k 0) (drop (k + 1) rest) left after a (not_empty left l) e
+
+  abbrev pub with_made : A × List ℕ → B × List ℕ
+  with_made x = (make x.0, x.1)
+
+  mapped : (o : Option (A × List ℕ)) (b : B) (after : List ℕ) → option_map with_made o ≡ Some (b, after) → (a : A) × (o ≡ Some (a, after)) × (b ≡ make a)
+  mapped None b after e = absurd cc
+  mapped (Some x) b after e =
+      let same : (make x.0, x.1) ≡ (b, after) = some_is (make x.0, x.1) (b, after) e in
+      (x.0, ap (λ (r : List ℕ). Some (x.0, r)) (ap (λ (y : B × List ℕ). y.1) same), sym (ap (λ (y : B × List ℕ). y.0) same))
+
+  -- the same where what is made of a word is known
+  pub goes_on_made : (old now : List B) (rest : List ℕ) (k : ℕ) (left after : List ℕ) (b : B) → k < length rest → nat_eq (length left) 0 ≡ false → option_map with_made (p left) ≡ Some (b, after) → Going old now rest k left → Going old (now ++ b ∷ []) rest (k + 1) after
+  goes_on_made old now rest k left after b h l e going =
+      let m = mapped (p left) b after e in
+      subst (λ (x : B). Going old (now ++ x ∷ []) rest (k + 1) after) (sym m.2) (goes_on old now rest k left after m.0 h l m.1 going)
+
+  pub some_made : (s rest : List ℕ) (b : B) (more : List A) → option_map with_made (p s) ≡ Some (b, rest) → many p rest ≡ Some more → (x : A × List A) × (some p s ≡ Some x) × (b ≡ make x.0) × (more ≡ x.1)
+  some_made s rest b more e f =
+      let m = mapped (p s) b rest e in
+      ((m.0, more), some_read s rest m.0 more m.1 f, m.2, refl)
 
   pub comes_to_end : (old now : List B) (rest : List ℕ) (k : ℕ) (left : List ℕ) → nat_eq (length left) 0 ≡ true → Going old now rest k left → (more : List A) × (many p rest ≡ Some more) × (now ≡ old ++ map make more)
   comes_to_end old now rest k left l going =

@@ -4,7 +4,7 @@ ghost use Rattle.psm_words.specs.Reading.{type_at};
 ghost use Rattle.psm_load_line.specs.Readers.{both, dash_or, last, one_of, word};
 ghost use Rattle.psm_load_line.specs.RoutineForms.{control_counts_at, data_counts_at, modes, parameter_at, routine_at, routine_kinds, slot_at};
 ghost use Rattle.psm_load_line.specs.Said.{routine_head_of, Reads};
-ghost use Rattle.psm_load_line.specs.Taken.{counts_of, with_control_counts, with_data_counts, Makes};
+ghost use Rattle.psm_load_line.specs.Taken.{control_counts_said, data_counts_said};
 
 use crate::details::last_kind;
 use crate::fault::Unread;
@@ -41,7 +41,7 @@ fn routine_kind(rest: &[u8]) -> Option<(bool, &[u8])>
 
 /// What stands after the name of a routine, up to the end.
 fn counts(rest: &[u8]) -> Option<(DataCounts, ControlCounts, Option<SqlType>)>
-    ensures { Makes counts_of (last (both data_counts_at (both control_counts_at (word (dash_or type_at)))) rest.now) (option_map (λ x. (x.0, (x.1, x.2))) result) }
+    ensures { option_map (λ x. (data_counts_said x.0, (control_counts_said x.1, x.2))) result ≡ last (both data_counts_at (both control_counts_at (word (dash_or type_at)))) rest.now }
 {
     let (data_counts, rest) = data_counts(rest)?;
     let (control_counts, rest) = control_counts(rest)?;
@@ -54,7 +54,7 @@ fn counts(rest: &[u8]) -> Option<(DataCounts, ControlCounts, Option<SqlType>)>
 }
 
 fn data_counts(rest: &[u8]) -> Option<(DataCounts, &[u8])>
-    ensures { Makes with_data_counts (data_counts_at rest.now) (option_map (λ x. (x.0, x.1.now)) result) }
+    ensures { option_map (λ x. (data_counts_said x.0, x.1.now)) result ≡ data_counts_at rest.now }
 {
     let (parameters, rest) = index(rest)?;
     let (slots, rest) = index(rest)?;
@@ -74,7 +74,7 @@ fn data_counts(rest: &[u8]) -> Option<(DataCounts, &[u8])>
 }
 
 fn control_counts(rest: &[u8]) -> Option<(ControlCounts, &[u8])>
-    ensures { Makes with_control_counts (control_counts_at rest.now) (option_map (λ x. (x.0, x.1.now)) result) }
+    ensures { option_map (λ x. (control_counts_said x.0, x.1.now)) result ≡ control_counts_at rest.now }
 {
     let (conditions, rest) = index(rest)?;
     let (contexts, rest) = index(rest)?;

@@ -14,9 +14,10 @@ returns-then-is_empty c =
 pub loop-done-preserved : goal.loop-done-preserved
 loop-done-preserved c =
     let l = c.loop-done in
-    let h = c.in_ok-value.ensures in
+    let h = c.in-Some.ensures in
     let i = c.condition_value.ensures in
-    let j = c.in_ok-push.ensures.items in
+    let j = c.in-Some.is in
+    let k = c.in_ok-push.ensures.items in
     ?
 
 pub returns-then-is_empty-2 : goal.returns-then-is_empty-2
