@@ -1,7 +1,7 @@
 //! The lines of a routine's head and of its variables.
 ghost use Rattle.std.specs.Prelude.{◌≡◌, option_map};
 ghost use Rattle.psm_words.specs.Reading.{type_at};
-ghost use Rattle.psm_load_line.specs.Readers.{both, dash_or, last, one_of, word};
+ghost use Rattle.psm_load_line.specs.Readers.{both, dash_or, one_of, word};
 ghost use Rattle.psm_load_line.specs.RoutineForms.{control_counts_at, data_counts_at, modes, parameter_at, routine_at, routine_kinds, slot_at};
 ghost use Rattle.psm_load_line.specs.Said.{routine_head_of, Reads};
 ghost use Rattle.psm_load_line.specs.Taken.{control_counts_said, data_counts_said};
@@ -22,14 +22,16 @@ pub fn routine_head(alloc: Global, line: &[u8]) -> Result<RoutineHead, Unread>
     let rest = keyword(b"ROUTINE", line).ok_or(Unread::Misfit)?;
     let (is_function, rest) = routine_kind(rest).ok_or(Unread::Misfit)?;
     let (name, rest) = name(alloc, rest)?;
-    let (data_counts, control_counts, returns) = counts(rest).ok_or(Unread::Misfit)?;
-    Ok(RoutineHead {
-        is_function,
-        name,
-        data_counts,
-        control_counts,
-        returns,
-    })
+    match counts(rest) {
+        Some((data_counts, control_counts, returns, [])) => Ok(RoutineHead {
+            is_function,
+            name,
+            data_counts,
+            control_counts,
+            returns,
+        }),
+        _ => Err(Unread::Misfit),
+    }
 }
 
 /// Whether the word is `F` and not `P`, and what follows it.
@@ -39,18 +41,14 @@ fn routine_kind(rest: &[u8]) -> Option<(bool, &[u8])>
     pick(rest, &[("P", false), ("F", true)])
 }
 
-/// What stands after the name of a routine, up to the end.
-fn counts(rest: &[u8]) -> Option<(DataCounts, ControlCounts, Option<SqlType>)>
-    ensures { option_map (λ x. (data_counts_said x.0, (control_counts_said x.1, x.2))) result ≡ last (both data_counts_at (both control_counts_at (word (dash_or type_at)))) rest.now }
+/// The counts of a routine, the type that it returns, and what follows.
+fn counts(rest: &[u8]) -> Option<(DataCounts, ControlCounts, Option<SqlType>, &[u8])>
+    ensures { option_map (λ x. ((data_counts_said x.0, (control_counts_said x.1, x.2)), x.3.now)) result ≡ both data_counts_at (both control_counts_at (word (dash_or type_at))) rest.now }
 {
     let (data_counts, rest) = data_counts(rest)?;
     let (control_counts, rest) = control_counts(rest)?;
     let (returns, rest) = kind_or_dash(rest)?;
-    if rest.is_empty() {
-        Some((data_counts, control_counts, returns))
-    } else {
-        None
-    }
+    Some((data_counts, control_counts, returns, rest))
 }
 
 fn data_counts(rest: &[u8]) -> Option<(DataCounts, &[u8])>
