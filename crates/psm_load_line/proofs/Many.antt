@@ -45,7 +45,7 @@ module _ {A B : Type 0} (make : A → B) (p : Reader A) where
 
   none_read : (m : ℕ) (most left : List ℕ) → p left ≡ None → nat_eq (length left) 0 ≡ false → many_within p (m ∷ most) left ≡ None
   none_read m most [] e l = absurd cc
-  none_read m most (c ∷ s) e l = ap (λ (o : Option (A × List ℕ)). o >>= λ x. many_within p most x.1 >>= with_first x.0) e
+  none_read m most (c ∷ s) e l = ap (λ (o : Option (A × List ℕ)). o >>= λ x. many_within p most x.1 >>= λ others. Some (x.0 ∷ others)) e
 
   too_many : (left : List ℕ) → nat_eq (length left) 0 ≡ false → many_within p [] left ≡ None
   too_many [] l = absurd cc

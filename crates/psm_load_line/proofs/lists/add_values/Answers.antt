@@ -15,7 +15,7 @@ pub loop-done-preserved : goal.loop-done-preserved
 loop-done-preserved c =
     let l = c.loop-done in
     subst (λ (now : List ConditionValue). Going value_of (word value_at) c.args.list.now.items now c.args.rest.now (l._done + 1) c.in-Some.after.now) (sym c.in_ok-push.ensures.items)
-      (goes_on_made value_of (word value_at) c.args.list.now.items l.list.items c.args.rest.now l._done l.left.now c.in-Some.after.now c.in-Some.value c.loop-done-test.true (sym c.is_empty.ensures ∙ c.if-is_empty.false) (sym c.in-Some.ensures) l.invariant)
+    (goes_on_made value_of (word value_at) c.args.list.now.items l.list.items c.args.rest.now l._done l.left.now c.in-Some.after.now c.in-Some.value c.loop-done-test.true (sym c.is_empty.ensures ∙ c.if-is_empty.false) (sym c.in-Some.ensures) l.invariant)
 
 pub returns-in_default : goal.returns-in_default
 returns-in_default c =
