@@ -3,10 +3,9 @@ use Rattle.std.specs.Prelude.{◌≡◌, ℕ, List, ◌++◌, map, Option, Some,
 use Rattle.std.specs.Str.{IsUtf8}
 use Rattle.psm_list.specs.Several.{Several}
 use Rattle.psm_cond.specs.declared.handlers.ConditionValue.{ConditionValue}
-use Rattle.psm_value.specs.declared.sqltype.SqlType.{SqlType}
 use Rattle.psm_load_line.specs.Forms.{ValueWord}
 use Rattle.psm_load_line.specs.RoutineForms as routines
-use Rattle.psm_load_line.specs.Said.{control_counts_of, data_counts_of, value_of}
+use Rattle.psm_load_line.specs.Said.{value_of}
 use Rattle.psm_load_line.specs.declared.head.ControlCounts.{ControlCounts}
 use Rattle.psm_load_line.specs.declared.head.DataCounts.{DataCounts}
 use Rattle.psm_load_line.specs.declared.fault.Unread.{Unread}
@@ -18,12 +17,7 @@ Takes view said (Ok x) = said ≡ Some (view x)
 Takes view said (Err Misfit) = said ≡ None
 Takes view said (Err Memory) = Unit {0}
 
--- what is made of what is read
-abbrev pub Makes : {A T : Type 0} → (A → T) → Option A → Option T → Type 0
-Makes {A = A} make said (Some x) = (a : A) × (said ≡ Some a) × (x ≡ make a)
-Makes make said None = said ≡ None
-
--- the same, unless memory runs out
+-- what is made of what is read, unless memory runs out
 abbrev pub Builds : {A T : Type 0} → (A → T) → Option A → Result T Unread → Type 0
 Builds {A = A} make said (Ok x) = (a : A) × (said ≡ Some a) × (x ≡ make a)
 Builds make said (Err Misfit) = said ≡ None
@@ -50,14 +44,11 @@ with_value x = (value_of x.0, x.1)
 
 -- ---- the counts of a routine
 
-abbrev pub with_data_counts : routines.DataCounts × List ℕ → DataCounts × List ℕ
-with_data_counts x = (data_counts_of x.0, x.1)
+abbrev pub data_counts_said : DataCounts → routines.DataCounts
+data_counts_said c = (c.parameters, (c.slots, (c.queries, (c.cursors, c.plans))))
 
-abbrev pub with_control_counts : routines.ControlCounts × List ℕ → ControlCounts × List ℕ
-with_control_counts x = (control_counts_of x.0, x.1)
-
-abbrev pub counts_of : routines.DataCounts × (routines.ControlCounts × Option SqlType) → DataCounts × (ControlCounts × Option SqlType)
-counts_of x = (data_counts_of x.0, (control_counts_of x.1.0, x.1.1))
+abbrev pub control_counts_said : ControlCounts → routines.ControlCounts
+control_counts_said c = (c.conditions, (c.contexts, (c.handlers, c.lines)))
 
 -- ---- a word that is a text, before what follows it
 

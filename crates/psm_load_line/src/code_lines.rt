@@ -47,10 +47,7 @@ pub fn operation_line(alloc: Global, line: &[u8]) -> Result<(List<Letter>, Instr
 }
 
 #[tactic(auto, unfolding(crate::specs::Groups::stack_and_instruction_at))]
-fn stack_and_instruction(
-    alloc: Global,
-    line: &[u8],
-) -> Result<(List<Letter>, Instruction), Unread>
+fn stack_and_instruction(alloc: Global, line: &[u8]) -> Result<(List<Letter>, Instruction), Unread>
     ensures { Reads (stack_and_instruction_at line.now) result }
 {
     let (stack, rest) = first_stack(alloc, line)?;

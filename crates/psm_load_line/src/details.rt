@@ -36,11 +36,7 @@ pub(crate) fn decimals(rest: &[u8]) -> Option<u8>
     let after = keyword(b" ", rest)?;
     let (n, size) = number(255, after)?;
     let rest = &after[size..];
-    if rest.is_empty() {
-        Some(n as u8)
-    } else {
-        None
-    }
+    if rest.is_empty() { Some(n as u8) } else { None }
 }
 
 /// A side, up to the end.

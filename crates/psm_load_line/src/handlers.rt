@@ -139,7 +139,9 @@ fn handler_kind(rest: &[u8]) -> Option<(HandlerKind, &[u8])>
 fn values(alloc: Global, rest: &[u8]) -> Result<OneOrMore<ConditionValue>, Unread>
     ensures { Builds several_of (some (word value_at) rest.now) result }
 {
-    let (first, rest) = condition_value(rest).ok_or(Unread::Misfit)?;
+    let Some((first, rest)) = condition_value(rest) else {
+        return Err(Unread::Misfit);
+    };
     let mut others = Vec::new(alloc);
     add_values(&mut others, rest)?;
     Ok(OneOrMore::of(first, List::of(others)))

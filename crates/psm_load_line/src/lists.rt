@@ -52,7 +52,9 @@ pub(crate) fn add_values(list: &mut Vec<ConditionValue>, rest: &[u8]) -> Result<
         if left.is_empty() {
             return Ok(());
         }
-        let (value, after) = condition_value(left).ok_or(Unread::Misfit)?;
+        let Some((value, after)) = condition_value(left) else {
+            return Err(Unread::Misfit);
+        };
         list.push(value)?;
         left = after;
     }

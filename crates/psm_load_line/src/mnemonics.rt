@@ -5,10 +5,10 @@ ghost use Rattle.psm_load_line.specs.OperationForms.{constant_at};
 ghost use Rattle.psm_load_line.specs.Readers.{chosen};
 ghost use Rattle.psm_load_line.specs.Said.{Reads};
 
-use crate::fault::Unread;
 use crate::details::{
     condition_item, decimals, last_index, last_kind, next, side, statement_item, value_letter,
 };
+use crate::fault::Unread;
 use crate::front::{text_word, value};
 use psm_code::Instruction;
 use psm_exprcode::Op;

@@ -1,10 +1,10 @@
 //! The lines of a routine's head and of its variables.
 ghost use Rattle.std.specs.Prelude.{◌≡◌, option_map};
 ghost use Rattle.psm_words.specs.Reading.{type_at};
-ghost use Rattle.psm_load_line.specs.Readers.{both, dash_or, last, one_of, word};
+ghost use Rattle.psm_load_line.specs.Readers.{both, dash_or, one_of, word};
 ghost use Rattle.psm_load_line.specs.RoutineForms.{control_counts_at, data_counts_at, modes, parameter_at, routine_at, routine_kinds, slot_at};
 ghost use Rattle.psm_load_line.specs.Said.{routine_head_of, Reads};
-ghost use Rattle.psm_load_line.specs.Taken.{counts_of, with_control_counts, with_data_counts, Makes};
+ghost use Rattle.psm_load_line.specs.Taken.{control_counts_said, data_counts_said};
 
 use crate::details::last_kind;
 use crate::fault::Unread;
@@ -22,14 +22,16 @@ pub fn routine_head(alloc: Global, line: &[u8]) -> Result<RoutineHead, Unread>
     let rest = keyword(b"ROUTINE", line).ok_or(Unread::Misfit)?;
     let (is_function, rest) = routine_kind(rest).ok_or(Unread::Misfit)?;
     let (name, rest) = name(alloc, rest)?;
-    let (data_counts, control_counts, returns) = counts(rest).ok_or(Unread::Misfit)?;
-    Ok(RoutineHead {
-        is_function,
-        name,
-        data_counts,
-        control_counts,
-        returns,
-    })
+    match counts(rest) {
+        Some((data_counts, control_counts, returns, [])) => Ok(RoutineHead {
+            is_function,
+            name,
+            data_counts,
+            control_counts,
+            returns,
+        }),
+        _ => Err(Unread::Misfit),
+    }
 }
 
 /// Whether the word is `F` and not `P`, and what follows it.
@@ -39,22 +41,18 @@ fn routine_kind(rest: &[u8]) -> Option<(bool, &[u8])>
     pick(rest, &[("P", false), ("F", true)])
 }
 
-/// What stands after the name of a routine, up to the end.
-fn counts(rest: &[u8]) -> Option<(DataCounts, ControlCounts, Option<SqlType>)>
-    ensures { Makes counts_of (last (both data_counts_at (both control_counts_at (word (dash_or type_at)))) rest.now) (option_map (λ x. (x.0, (x.1, x.2))) result) }
+/// The counts of a routine, the type that it returns, and what follows.
+fn counts(rest: &[u8]) -> Option<(DataCounts, ControlCounts, Option<SqlType>, &[u8])>
+    ensures { option_map (λ x. ((data_counts_said x.0, (control_counts_said x.1, x.2)), x.3.now)) result ≡ both data_counts_at (both control_counts_at (word (dash_or type_at))) rest.now }
 {
     let (data_counts, rest) = data_counts(rest)?;
     let (control_counts, rest) = control_counts(rest)?;
     let (returns, rest) = kind_or_dash(rest)?;
-    if rest.is_empty() {
-        Some((data_counts, control_counts, returns))
-    } else {
-        None
-    }
+    Some((data_counts, control_counts, returns, rest))
 }
 
 fn data_counts(rest: &[u8]) -> Option<(DataCounts, &[u8])>
-    ensures { Makes with_data_counts (data_counts_at rest.now) (option_map (λ x. (x.0, x.1.now)) result) }
+    ensures { option_map (λ x. (data_counts_said x.0, x.1.now)) result ≡ data_counts_at rest.now }
 {
     let (parameters, rest) = index(rest)?;
     let (slots, rest) = index(rest)?;
@@ -74,7 +72,7 @@ fn data_counts(rest: &[u8]) -> Option<(DataCounts, &[u8])>
 }
 
 fn control_counts(rest: &[u8]) -> Option<(ControlCounts, &[u8])>
-    ensures { Makes with_control_counts (control_counts_at rest.now) (option_map (λ x. (x.0, x.1.now)) result) }
+    ensures { option_map (λ x. (control_counts_said x.0, x.1.now)) result ≡ control_counts_at rest.now }
 {
     let (conditions, rest) = index(rest)?;
     let (contexts, rest) = index(rest)?;

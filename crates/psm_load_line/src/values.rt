@@ -4,7 +4,7 @@ ghost use Rattle.psm_words.specs.Reading.{state_at};
 ghost use Rattle.psm_load_line.specs.Forms.{classes, value_at};
 ghost use Rattle.psm_load_line.specs.Readers.{one_of, word};
 ghost use Rattle.psm_load_line.specs.Said.{state_of as state_or_success};
-ghost use Rattle.psm_load_line.specs.Taken.{with_value, Makes};
+ghost use Rattle.psm_load_line.specs.Taken.{with_value};
 
 use crate::front::{bare_size, keyword};
 use psm_cond::ConditionValue;
@@ -38,13 +38,13 @@ pub(crate) fn state_of(bytes: [u8; 5]) -> SqlState
 
 /// The condition value after a blank, and what follows it.
 pub(crate) fn condition_value(rest: &[u8]) -> Option<(ConditionValue, &[u8])>
-    ensures { Makes with_value (word value_at rest.now) (option_map (λ x. (x.0, x.1.now)) result) }
+    ensures { option_map (λ x. (x.0, x.1.now)) result ≡ option_map with_value (word value_at rest.now) }
 {
     value_first(keyword(b" ", rest)?)
 }
 
 fn value_first(text: &[u8]) -> Option<(ConditionValue, &[u8])>
-    ensures { Makes with_value (value_at text.now) (option_map (λ x. (x.0, x.1.now)) result) }
+    ensures { option_map (λ x. (x.0, x.1.now)) result ≡ option_map with_value (value_at text.now) }
 {
     match text {
         [] => None,
@@ -63,7 +63,7 @@ fn value_first(text: &[u8]) -> Option<(ConditionValue, &[u8])>
 
 /// The class of states at the front, and what follows it.
 fn class(text: &[u8]) -> Option<(ConditionValue, &[u8])>
-    ensures { Makes with_value (one_of classes text.now) (option_map (λ x. (x.0, x.1.now)) result) }
+    ensures { option_map (λ x. (x.0, x.1.now)) result ≡ option_map with_value (one_of classes text.now) }
 {
     let size = bare_size(text);
     match &text[..size] {

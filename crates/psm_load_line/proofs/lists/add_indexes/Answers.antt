@@ -13,7 +13,7 @@ loop-done-preserved c =
     let l = c.loop-done in
     let e : index l.left.now ≡ Some (c.in_ok-n.n, c.in_ok-n.after.now) = search rules in
     subst (λ (now : List ℕ). Going (λ (n : ℕ). n) index c.args.list.now.items now c.args.rest.now (l._done + 1) c.in_ok-n.after.now) (sym c.in_ok-push.ensures.items)
-      (goes_on (λ (n : ℕ). n) index c.args.list.now.items l.list.items c.args.rest.now l._done l.left.now c.in_ok-n.after.now c.in_ok-n.n c.loop-done-test.true (sym c.is_empty.ensures ∙ c.if-is_empty.false) e l.invariant)
+    (goes_on (λ (n : ℕ). n) index c.args.list.now.items l.list.items c.args.rest.now l._done l.left.now c.in_ok-n.after.now c.in_ok-n.n c.loop-done-test.true (sym c.is_empty.ensures ∙ c.if-is_empty.false) e l.invariant)
 
 pub returns-then-is_empty-2 : goal.returns-then-is_empty-2
 returns-then-is_empty-2 c =
