@@ -4,7 +4,7 @@ ghost use Rattle.psm_load_line.specs.Forms.{block_of, condition_at, context_at, 
 ghost use Rattle.psm_cond.specs.declared.handlers.ContextKind.TheVariants as kinds;
 ghost use Rattle.psm_load_line.specs.Groups.{said};
 ghost use Rattle.psm_load_line.specs.Readers.{both, by_word, dash_or, flag_at, last, made, many, name_at, on, one_of, some, word};
-ghost use Rattle.psm_load_line.specs.Said.{declared_of as condition_of, handler_of, Reads};
+ghost use Rattle.psm_load_line.specs.Said.{declared_of, handler_of, Reads};
 ghost use Rattle.psm_load_line.specs.Taken.{several_of, Builds, Takes};
 
 use crate::details::last_index;
@@ -20,7 +20,7 @@ use std::alloc::Global;
 
 /// The declared condition of a line `COND`. What is no condition stands for one of state 00000.
 pub fn condition(alloc: Global, line: &[u8]) -> Result<Declared, Unread>
-    ensures { Reads (option_map condition_of (condition_at line.now)) result }
+    ensures { Reads (option_map declared_of (condition_at line.now)) result }
 {
     let rest = keyword(b"COND", line).ok_or(Unread::Misfit)?;
     let (state, rest) = state(rest).ok_or(Unread::Misfit)?;
@@ -34,7 +34,7 @@ pub fn condition(alloc: Global, line: &[u8]) -> Result<Declared, Unread>
 
 /// The condition of a state and a name.
 fn declared(state: [u8; 5], name: Option<Name>) -> Declared
-    ensures { result ≡ condition_of (state, name) }
+    ensures { result ≡ declared_of (state, name) }
 {
     match name {
         None => Declared::OfState(state_of(state)),
