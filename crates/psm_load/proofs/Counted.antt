@@ -1,5 +1,5 @@
 -- As many lines are read as the listing has of what they stand for.
-use Rattle.std.proofs.Common.{◌≡◌, ℕ, zero, suc, ◌+◌, Bool, true, false, List, [], ◌∷◌, ◌++◌, length, map, Option, Some, None, Result, Ok, Err, refl, sym, ap, ◌∙◌, arith}
+use Rattle.std.proofs.Common.{◌≡◌, ℕ, zero, suc, ◌+◌, Bool, true, false, List, [], ◌∷◌, length, map, Option, Some, None, Result, Ok, Err, refl, sym, ap, ◌∙◌, arith}
 use Rattle.std.specs.List.{flat_map}
 use Rattle.std.proofs.lemmas.List.{length-append, length-map}
 use Rattle.psm_cond.specs.Tables.{HandlerTable}
@@ -20,15 +20,14 @@ use Rattle.psm_code.specs.declared.code.RawCode.{RawCode}
 use Rattle.psm_code.specs.declared.code.RawRoutine.{RawRoutine}
 use Rattle.psm_code.specs.declared.rule.CodeRule.{CodeRule}
 use Rattle.psm_code.specs.declared.rule.CodeRule.TheVariants.{Definition}
-use Rattle.psm_code.specs.RoutineRules.{code_faults}
 use Rattle.psm_object.specs.Expressions.{expression_lines, operation_line, test_lines}
 use Rattle.psm_object.specs.Handlers.{condition_line, context_line, handler_line}
 use Rattle.psm_object.specs.Instructions.{code_line}
-use Rattle.psm_object.specs.Listing.{first_line, lines_of}
+use Rattle.psm_object.specs.Listing.{lines_of}
 use Rattle.psm_object.specs.Plans.{plan_lines, set_lines}
 use Rattle.psm_object.specs.Queries.{aggregate_lines, cursor_line, function_lines, item_lines, items_lines, query_lines}
-use Rattle.psm_object.specs.Routines.{access_lines, handling_lines, parameter_line, routine_line, routine_lines, slot_line, variable_lines}
-use Rattle.psm_object.specs.Tables.{column_line, key_line, table_line, table_lines, unique_line}
+use Rattle.psm_object.specs.Routines.{parameter_line, routine_lines, slot_line}
+use Rattle.psm_object.specs.Tables.{column_line, table_lines, unique_line}
 use Rattle.psm_load_line.specs.Forms.{ItemHead, PlanHead, QueryHead, TableHead, Delete, DeleteAt, Function, Insert, InsertQuery, Rows, Update, UpdateAt, Value, column_at, condition_at, context_at, first_at, handler_at, item_at, key_at, plan_at, query_at, set_at, table_at, unique_at}
 use Rattle.psm_load_line.specs.InstructionForms.{code_line_at, operation_line_at}
 use Rattle.psm_load_line.specs.OperationForms.{expression_at}

@@ -1,7 +1,6 @@
 -- What is loaded of a text.
-use Rattle.std.proofs.Common.{◌≡◌, ℕ, ◌+◌, ◌<◌, List, [], ◌∷◌, length, Option, Some, None, Result, Ok, Err, refl, sym, ap, subst, ◌∙◌, arith, inl, inr}
+use Rattle.std.proofs.Common.{◌≡◌, ℕ, ◌+◌, ◌<◌, List, [], ◌∷◌, length, Some, None, Result, Ok, Err, refl, sym, ap, subst, ◌∙◌, arith, inl, inr}
 use Rattle.psm_code.specs.declared.code.RawCode.{RawCode}
-use Rattle.psm_code.specs.declared.rule.CodeRule.{CodeRule}
 use Rattle.psm_code.specs.RoutineRules.{code_faults, first_fault}
 use Rattle.psm_object.specs.Listing.{lines_of}
 use Rattle.psm_load.specs.Judged.{IsNumbered, Judges}
@@ -9,7 +8,7 @@ use Rattle.psm_load.specs.Left.{next_of, start_of}
 use Rattle.psm_load.specs.Left as left
 use Rattle.psm_load.specs.Loading.{GivesCode, GivesRefusal, IsObject, IsObjectFault, Loads}
 use Rattle.psm_load.specs.Parts.{At}
-use Rattle.psm_load.specs.Stated.{Stated, at_start, code, stated, whole}
+use Rattle.psm_load.specs.Stated.{Stated, code, stated, whole}
 use Rattle.psm_load.specs.declared.fault.LoadFault.{LoadFault}
 use Rattle.psm_load.specs.declared.fault.LoadFault.TheVariants.{Refused, Memory}
 use Rattle.psm_load.specs.declared.fault.ObjectFault.{ObjectFault}

@@ -1,11 +1,10 @@
 -- A line that fits and stands for nothing that code holds.
-use Rattle.std.proofs.Common.{◌≡◌, ℕ, suc, List, [], ◌∷◌, Option, Some, None, Result, Ok, Err, refl, sym, ap, ◌∙◌}
+use Rattle.std.proofs.Common.{◌≡◌, ℕ, suc, List, Option, Some, None, Result, Ok, Err, refl, sym, ap, ◌∙◌}
 use Rattle.psm_code.specs.declared.instruction.Instruction.{Instruction}
 use Rattle.psm_code.specs.declared.instruction.Instruction.TheVariants as instruction
 use Rattle.psm_code.specs.declared.rule.CodeRule.{CodeRule}
 use Rattle.psm_code.specs.declared.rule.CodeRule.TheVariants.{Place}
 use Rattle.psm_exprcode.specs.declared.op.Letter.{Letter}
-use Rattle.psm_exprcode.specs.declared.op.Line.{Line}
 use Rattle.psm_exprcode.specs.declared.op.Op.{Op}
 use Rattle.psm_exprcode.specs.declared.op.Op.TheVariants as op
 use Rattle.psm_load_line.specs.InstructionForms.{operation_line_at}

@@ -1,13 +1,12 @@
 -- What a line says, as a part.
-use Rattle.std.proofs.Common.{◌≡◌, ℕ, List, [], ◌∷◌, Option, Some, None, option_map, Result, Ok, Err, refl, sym, ap, subst, ◌∙◌}
+use Rattle.std.proofs.Common.{◌≡◌, ℕ, Option, Some, None, option_map, Result, Ok, Err, refl, sym, ap, subst, ◌∙◌}
 use Rattle.psm_load_line.specs.Readers.{LineReader}
 use Rattle.psm_load_line.specs.Said.{Reads}
-use Rattle.psm_load.specs.Parts.{At, Part, after_line, given, one, taken}
+use Rattle.psm_load.specs.Parts.{one, taken}
 use Rattle.psm_load.specs.Left.{Left, Gives, GivesAs, Takes, placed}
 use Rattle.psm_load.specs.Read.{says}
 use Rattle.psm_load.specs.declared.left.NumberedLine.{NumberedLine}
 use Rattle.psm_load.specs.declared.stop.Stop.{Stop}
-use Rattle.psm_load.specs.declared.stop.Stop.TheVariants as stop
 use Rattle.psm_load_line.specs.declared.fault.Unread.{Unread}
 use Rattle.psm_load_line.specs.declared.fault.Unread.TheVariants.{Misfit, Memory}
 

@@ -1,8 +1,7 @@
 -- Parts by what the readers of their lines give are those of a text.
-use Rattle.std.proofs.Common.{◌≡◌, ℕ, zero, suc, ◌<◌, ◌-◌, List, [], ◌∷◌, map, Option, Some, None, option_map, Result, Ok, Err, refl, sym, ap, ◌∙◌, arith, sub-one}
+use Rattle.std.proofs.Common.{◌≡◌, ℕ, zero, suc, ◌<◌, ◌-◌, List, ◌∷◌, map, Option, Some, None, option_map, Result, Ok, Err, refl, sym, ap, ◌∙◌, arith}
 use Rattle.psm_table.specs.declared.definition.Column.{Column}
 use Rattle.psm_code.specs.declared.code.CodeTable.{CodeTable}
-use Rattle.psm_code.specs.declared.code.Plan.{Plan}
 use Rattle.psm_load_line.specs.Forms as forms
 use Rattle.psm_load_line.specs.Forms.{column_at, item_at, key_at, plan_at, table_at, unique_at}
 use Rattle.psm_load_line.specs.Readers.{LineReader}

@@ -1,5 +1,5 @@
 -- The parts of a listing, by what the readers of their lines give.
-use Rattle.std.specs.Prelude.{ℕ, List}
+use Rattle.std.specs.Prelude.{List}
 use Rattle.psm_exprcode.specs.declared.op.Line.{Line}
 use Rattle.psm_code.specs.declared.code.CodeTable.{CodeTable}
 use Rattle.psm_code.specs.declared.code.Plan.{Plan}

@@ -81,11 +81,7 @@ fn plan(alloc: Global, head: PlanHead, lines: &mut LinesLeft<'_>) -> Result<Plan
             table,
             sets,
             has_test,
-        } => {
-            let sets = several(alloc, sets, lines)?;
-            let test = test(alloc, has_test, lines)?;
-            Ok(Plan::Update { table, sets, test })
-        }
+        } => update(alloc, table, sets, has_test, lines),
         PlanHead::Delete { table, has_test } => {
             let test = test(alloc, has_test, lines)?;
             Ok(Plan::Delete { table, test })
@@ -96,4 +92,19 @@ fn plan(alloc: Global, head: PlanHead, lines: &mut LinesLeft<'_>) -> Result<Plan
         }
         PlanHead::DeleteAt { cursor } => Ok(Plan::DeleteAt { cursor }),
     }
+}
+
+// The lines behind that of an UPDATE: its assignments, and its test.
+fn update(
+    alloc: Global,
+    table: u32,
+    sets: u32,
+    has_test: bool,
+    lines: &mut LinesLeft<'_>,
+) -> Result<Plan, Stop>
+    ensures { Gives (plan_read (PlanHead.Update table sets has_test)) lines.old lines.new result }
+{
+    let sets = several(alloc, sets, lines)?;
+    let test = test(alloc, has_test, lines)?;
+    Ok(Plan::Update { table, sets, test })
 }

@@ -1,4 +1,4 @@
-use Rattle.std.proofs.Common.{◌-◌, [], ◌∷◌}
+use Rattle.std.proofs.Common.{◌-◌, []}
 use Rattle.psm_load.specs.Left.{Repeated}
 use Rattle.psm_load.proofs.listed.several.Given as goal
 
