@@ -54,23 +54,23 @@ pub(crate) fn finish_in_place<S: Store>(
     store: &mut S,
     t: u32,
     checks: &[ExprCode],
-    rows: Vec<Row>,
+    made: Vec<Row>,
 ) -> Result<u32, DataFault>
     requires exists { t < length (S.tables store.old) }
-    requires places { IfSome (slice_get (S.tables store.old) t) (λ c. AreInPlace c rows.items) }
+    requires places { IfSome (slice_get (S.tables store.old) t) (λ c. AreInPlace c made.items) }
     requires type_checks { IfSome (slice_get (S.tables store.old) t) (λ c. ChecksTypeCheck checks.now c.def) }
-    requires legal { IfSome (slice_get (S.tables store.old) t) (λ c. IsLegal (over []) (schema_of c.def checks.now) (without_keys (keys_of_rows c.def rows.items) c).rows) }
+    requires legal { IfSome (slice_get (S.tables store.old) t) (λ c. IsLegal (over []) (schema_of c.def checks.now) (without_keys (keys_of_rows c.def made.items) c).rows) }
     requires room { S.marks store.old < most_marks }
-    ensures answer { IfSome (slice_get (S.tables store.old) t) (λ c. Ends c (counting (length rows.items) (ended (over []) (schema_of c.def checks.now) ((without_keys (keys_of_rows c.def rows.items) c).rows ++ rows.items))) (S.tables store.old) t (S.tables store.new) result) }
+    ensures answer { IfSome (slice_get (S.tables store.old) t) (λ c. Ends c (counting (length made.items) (ended (over []) (schema_of c.def checks.now) ((without_keys (keys_of_rows c.def made.items) c).rows ++ made.items))) (S.tables store.old) t (S.tables store.new) result) }
     ensures marks { S.marks store.new ≡ S.marks store.old }
     ensures keeps { Keeps AnyMark (S.holds store.old) (S.at store.old) (S.holds store.new) (S.at store.new) }
 {
-    match check(alloc, store.table(t), checks, rows.as_slice()) {
+    match check(alloc, store.table(t), checks, made.as_slice()) {
         Ok(()) => {}
         Err(fault) => return Err(fault),
     }
-    let count = rows.len() as u32;
-    if change_rows(alloc, store, t, rows)? {
+    let count = made.len() as u32;
+    if change_rows(alloc, store, t, made)? {
         Ok(count)
     } else {
         Err(violated(alloc, store.table(t)))

@@ -16,7 +16,7 @@ use Rattle.psm_dml.proofs.ending.finish_in_place.Goals as goal
 pub check-requires-clause-rows : goal.check-requires-clause-rows
 check-requires-clause-rows g c =
     let t : Contents = c.table.result.now.contents in
-    let places : AreInPlace t c.args.rows.items = there (λ x. AreInPlace x c.args.rows.items) (slice_get (g.S.Store.tables c.args.store.now) c.args.t) t c.table.ensures c.requires.places in
+    let places : AreInPlace t c.args.made.items = there (λ x. AreInPlace x c.args.made.items) (slice_get (g.S.Store.tables c.args.store.now) c.args.t) t c.table.ensures c.requires.places in
     subst (λ (l : List (List Datum)). All (IsWhole t.def) l) (sym c.as_slice.ensures.value)
     (λ k d l. let fit = places.fit k d l in record { long = fit.long; families = fit.families })
 
@@ -24,7 +24,7 @@ pub returns-in-Err-clause-answer : goal.returns-in-Err-clause-answer
 returns-in-Err-clause-answer g c =
     let old : List Contents = g.S.Store.tables c.args.store.now in
     let t : Contents = c.table.result.now.contents in
-    let rows : List (List Datum) = c.args.rows.items in
+    let rows : List (List Datum) = c.args.made.items in
     let keys : List (List Datum) = keys_of_rows t.def rows in
     let places : AreInPlace t rows = there (λ x. AreInPlace x rows) (slice_get old c.args.t) t c.table.ensures c.requires.places in
     let legal = there (λ x. IsLegal (over []) (schema_of x.def c.args.checks.now) (without_keys (keys_of_rows x.def rows) x).rows) (slice_get old c.args.t) t c.table.ensures c.requires.legal in
@@ -37,7 +37,7 @@ returns-then-branch-clause-answer g c =
     let old : List Contents = g.S.Store.tables c.args.store.now in
     let new : List Contents = g.S.Store.tables c.change_rows.new.store in
     let t : Contents = c.table.result.now.contents in
-    let rows : List (List Datum) = c.args.rows.items in
+    let rows : List (List Datum) = c.args.made.items in
     let keys : List (List Datum) = keys_of_rows t.def rows in
     let places : AreInPlace t rows = there (λ x. AreInPlace x rows) (slice_get old c.args.t) t c.table.ensures c.requires.places in
     let legal = there (λ x. IsLegal (over []) (schema_of x.def c.args.checks.now) (without_keys (keys_of_rows x.def rows) x).rows) (slice_get old c.args.t) t c.table.ensures c.requires.legal in
@@ -56,7 +56,7 @@ returns-else-branch-clause-answer g c =
     let old : List Contents = g.S.Store.tables c.args.store.now in
     let new : List Contents = g.S.Store.tables c.change_rows.new.store in
     let t : Contents = c.table.result.now.contents in
-    let rows : List (List Datum) = c.args.rows.items in
+    let rows : List (List Datum) = c.args.made.items in
     let keys : List (List Datum) = keys_of_rows t.def rows in
     let places : AreInPlace t rows = there (λ x. AreInPlace x rows) (slice_get old c.args.t) t c.table.ensures c.requires.places in
     let legal = there (λ x. IsLegal (over []) (schema_of x.def c.args.checks.now) (without_keys (keys_of_rows x.def rows) x).rows) (slice_get old c.args.t) t c.table.ensures c.requires.legal in
