@@ -7,7 +7,8 @@ over it. A block `text listing` is what the module compiles to. A block `text ob
 over it by `exec`. In the tutorial each block is of these, or `sh` or `yaml`.
 
 Each example with a module and a script is run twice: by `run`, and by `exec` over what `compile` prints, which has to give the same
-bytes and the same status. PSM_PROGRAM names the program; else one `rt try` runs all, and another what `compile` printed.
+bytes and the same status. PSM_PROGRAM names the program; else `rt try` builds one without a proof. The examples of each page, and those
+of the folders, are told of as they are run.
 """
 import collections
 import os
@@ -31,6 +32,7 @@ PAGES = (
     "README.md",
 )
 TUTORIAL = PAGES[0]
+CAUSES = ".ci/causes.txt"
 # By the second word of a block with code, what runs a script over it.
 COMMANDS = {"module": "run", "object": "exec"}
 # Where it stands, the command, its two texts (a module file or an object, and a script), the turns, and what is told of this status
@@ -96,7 +98,7 @@ def cases_of(page):
 
 
 def cause(number, line):
-    """Returns the case of a line of causes.txt."""
+    """Returns the case of a line of the causes."""
     told, _, text = line.partition(" | ")
     column = text.index("»") + 1
     text = text.replace("»", "")
@@ -108,7 +110,7 @@ def cause(number, line):
         _, mend = refusals.help_for(found[4], text, 1, column)
         return None if told in mend else f"the help is: {mend}"
 
-    return Case(f".ci/causes.txt:{number}", "run", text, "", None, judge)
+    return Case(f"{CAUSES}:{number}", "run", text, "", None, judge)
 
 
 def judge_folder(differences, folder):
@@ -127,17 +129,17 @@ def examples():
     return found
 
 
-def all_cases():
-    found, wrong = examples(), []
+def groups():
+    """Returns the cases by where they stand, and what is wrong with the pages."""
+    found, wrong = [("examples", examples())], []
     for page in PAGES:
         if exists(page):
             cases, faults = cases_of(page)
-            found, wrong = [*found, *cases], [*wrong, *faults]
+            found, wrong = [*found, (page, cases)], [*wrong, *faults]
         elif is_due(page):
             wrong.append(f"README.md names {page}, which is not there")
-    for number, line in enumerate(read(".ci/causes.txt").splitlines(), 1):
-        if line and not line.startswith("#"):
-            found.append(cause(number, line))
+    lines = enumerate(read(CAUSES).splitlines(), 1)
+    found.append((CAUSES, [cause(number, line) for number, line in lines if line and not line.startswith("#")]))
     return found, wrong
 
 
@@ -173,13 +175,24 @@ def run(cases):
     return told, len(written)
 
 
-def main():
-    cases, wrong = all_cases()
-    told, twice = run(cases)
-    wrong += told
+def tell(wrong):
     for it in wrong:
-        print(f"repository: {it}", file=sys.stderr)
-    print(f"{len(cases)} examples are run, {twice} of them over what is compiled too, and {len(wrong)} are wrong")
+        print(f"repository: {it}", file=sys.stderr, flush=True)
+
+
+def main():
+    found, wrong = groups()
+    tell(wrong)
+    if not folders.program():
+        # (rt try would build the program anew for each group)
+        found = [("all", [it for _, cases in found for it in cases])]
+    count = over_compiled = 0
+    for where, cases in found:
+        told, twice = run(cases)
+        tell(told)
+        print(f"{where}: {len(cases)} run, {twice} of them over what is compiled too, {len(told)} wrong", flush=True)
+        count, over_compiled, wrong = count + len(cases), over_compiled + twice, wrong + told
+    print(f"{count} examples are run, {over_compiled} of them over what is compiled too, and {len(wrong)} are wrong")
     return 1 if wrong else 0
 
 
