@@ -4,7 +4,7 @@
 In a document an example is a block `sql module`, maybe a block `sql script`, and a block `text output`. A line `--   ^` marks
 the place of the fault in the line above it. `sql script turns N` gives the turns. A module stands until the next one, and so does a script
 over it. A block `text listing` is what the module compiles to. A block `text object` stands in place of a module, and scripts are run
-over it by `exec`. In the tutorial each block is of these, or `sh` or `yaml`.
+over it by `exec`. A block `text command` is a call of `psm` without files. In the tutorial each block is of these, or `sh` or `yaml`.
 
 Each example with a module and a script is run twice: by `run`, and by `exec` over what `compile` prints, which has to give the same
 bytes and the same status. PSM_PROGRAM names the program; else `rt try` builds one without a proof. The examples of each page, and those
@@ -35,14 +35,24 @@ TUTORIAL = PAGES[0]
 CAUSES = ".ci/causes.txt"
 # By the second word of a block with code, what runs a script over it.
 COMMANDS = {"module": "run", "object": "exec"}
-# Where it stands, the command, its two texts (a module file or an object, and a script), the turns, and what is told of this status
-# and output, if anything.
+USAGE = "usage: psm run M S [--turns N] | psm compile M | psm exec O S [--turns N] | psm gen N\n"
+# What `gen` prints, by its argument.
+GENERATED = {
+    "0": "CALLS 0\nTURNS 0\nROW 0, NULL\n",
+    "1": "CALLS 1\nTURNS 1\nROW 1, 1\n",
+    "97": "CALLS 97\nTURNS 97\nROW 97, 4753\n",
+    "98": "CALLS 98\nTURNS 99\nROW 97, 4851\n",
+    "200": "CALLS 200\nTURNS 303\nROW 97, 20100\n",
+    **{it: USAGE for it in ("200001", "999999", "1000000", "00", "07", "-1", "+1", "1.0", "x", "0x10")},
+}
+# Where it stands, the command, its two texts (a module file, an object or arguments, and a script), the turns, and what is told of
+# this status and output, if anything.
 Case = collections.namedtuple("Case", "name command code script turns judge")
 
 
 def status_due(output):
     """Returns the status of a run that prints this."""
-    for start, status in (("module ", 4), ("script ", 5), ("object ", 8)):
+    for start, status in (("usage: ", 1), ("module ", 4), ("script ", 5), ("object ", 8)):
         if output.startswith(start):
             return status
     return 6 if output.endswith("TURNS USED\n") else 0
@@ -80,6 +90,8 @@ def cases_of(page):
         name = f"{page}:{block.line}"
         if words[:2] in (["sql", "module"], ["text", "object"]):
             command, code, script, turns, used = COMMANDS[words[1]], block.text, "", None, False
+        elif words[:2] == ["text", "command"]:
+            command, code, script, turns, used = "arguments", block.text.strip()[len("psm ") :], "", None, False
         elif words[:2] == ["sql", "script"]:
             script, used = block.text, False
             turns = words[3] if words[2:3] == ["turns"] else None
@@ -113,6 +125,11 @@ def cause(number, line):
     return Case(f"{CAUSES}:{number}", "run", text, "", None, judge)
 
 
+def generated():
+    """Returns the cases of `gen`."""
+    return [Case(f"gen {it}", "arguments", f"gen {it}", "", None, judge_output(output, None)) for it, output in GENERATED.items()]
+
+
 def judge_folder(differences, folder):
     return lambda status, output: "\n".join(differences(folder, status, output)) or None
 
@@ -131,7 +148,7 @@ def examples():
 
 def groups():
     """Returns the cases by where they stand, and what is wrong with the pages."""
-    found, wrong = [("examples", examples())], []
+    found, wrong = [("examples", examples()), ("gen", generated())], []
     for page in PAGES:
         if exists(page):
             cases, faults = cases_of(page)
@@ -145,6 +162,8 @@ def groups():
 
 def call(case, code, script):
     """Returns the arguments of a case with these files."""
+    if case.command == "arguments":
+        return case.code.split()
     if case.command == "compile":
         return folders.to_compile(code)
     return (folders.to_exec if case.command == "exec" else folders.to_run)(code, script, case.turns)

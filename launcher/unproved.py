@@ -2,7 +2,7 @@
 
 For many runs `program` builds it once.
 
-The arguments are those of the program: run M S [--turns N], compile M or exec O S [--turns N].
+The arguments are those of the program: run M S [--turns N], compile M, exec O S [--turns N] or gen N.
 """
 import atexit
 import functools
@@ -67,7 +67,7 @@ def program():
 
 def files_of(words):
     """Returns the files of a call, by the letters that stand for them in the usage line."""
-    return dict(zip("OS" if words[0] == "exec" else "MS", words[1:3]))
+    return {} if words[0] == "gen" else dict(zip("OS" if words[0] == "exec" else "MS", words[1:3]))
 
 
 def run(is_explained, words):
@@ -75,7 +75,7 @@ def run(is_explained, words):
     say_how_long("running")
     files = files_of(words)
     given = [it for name, file in files.items() for it in ("--data", f"{name}={os.path.abspath(file)}")]
-    command = ["rt", "try", *given, "--", words[0], *files, *words[3:]]
+    command = ["rt", "try", *given, "--", words[0], *files, *words[1 + len(files) :]]
     how = {"stdin": subprocess.DEVNULL, "stdout": subprocess.PIPE, "stderr": subprocess.PIPE}
     ran = subprocess.run(command, cwd=FOLDER, **how)
     ended = ENDED.search(ran.stderr.decode(errors="replace"))
@@ -105,7 +105,7 @@ def run_many(calls):
             with open(f"{folder}/{name}", "w", encoding="utf-8"):
                 pass
             with open(f"{folder}/{name}.args", "w", encoding="utf-8") as args:
-                args.writelines(f"{word}\n" for word in [words[0], *files, *words[3:]])
+                args.writelines(f"{word}\n" for word in [words[0], *files, *words[1 + len(files) :]])
             for it, file in files.items():
                 data += ["--data", f"{it}={os.path.abspath(file)}"]
         how = {"stdin": subprocess.DEVNULL, "stdout": subprocess.PIPE, "stderr": subprocess.PIPE}
