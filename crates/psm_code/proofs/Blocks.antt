@@ -32,7 +32,7 @@ use Rattle.psm_code.specs.State.{Frame, InBlock, InAction, Stuck, Machine, clear
 use Rattle.psm_code.specs.Steps.{change, ends, read}
 use Rattle.psm_code.proofs.Acts.{Does, Has, and_then, present_does}
 use Rattle.psm_code.proofs.Faults.{line_well_formed, WellFormedRoutineCode}
-use Rattle.psm_code.proofs.NextLines.{bears, known, next_fall_through, settles, machine_invariant_at, Next}
+use Rattle.psm_code.proofs.NextLines.{bears, falls_by, known, next_fall_through, settles, machine_invariant_at, Next}
 use Rattle.psm_code.proofs.Handling.{finds_found, left_one}
 use Rattle.psm_code.proofs.Raises.{blocks, left, not_some, there_some}
 use Rattle.psm_code.proofs.Simple.{well_formed_here, with, Kept}
@@ -71,7 +71,7 @@ module _ (code : RawCode) (well_formed_code : first_fault code ≡ None) (r : Ra
       let e = plain name [] [] in
       let k = known code r m.running.line l line e q in
       let same : k.rest ≡ reverse s = let o : Some k.rest ≡ Some (reverse s) = sym k.left in cc in
-      subst (λ t. Next r (suc m.running.line) t (rules.context_after r l i)) same (next_fall_through code r m.running.line l line [] k.rest (ap rules.falls_through (q N N)) k.fall_through)
+      subst (λ t. Next r (suc m.running.line) t (rules.context_after r l i)) same (next_fall_through code r m.running.line l line [] k.rest (falls_by code r i N N e [] (q N N) refl) k.fall_through)
 
   pub enter_kept : (k : ℕ) → Kept code well_formed_code r g c resume s (instruction.Enter k)
   enter_kept k m h =

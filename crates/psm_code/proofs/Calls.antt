@@ -41,7 +41,7 @@ use Rattle.psm_code.specs.Steps.{Act, change, pops, read, turn, ◌>>=◌, ◌>>
 use Rattle.psm_code.proofs.Acts.{Does, Has, and_then, pop_does, present_does, tried_does}
 use Rattle.psm_code.proofs.Entering.{activation_stands, argument_values, bounded_does, entered_does, first_line, pops_does, turn_does}
 use Rattle.psm_code.proofs.Faults.{clean_each, clean_head, line_well_formed, routine_well_formed, three_hold, two_hold, WellFormedRoutineCode}
-use Rattle.psm_code.proofs.NextLines.{bears, known, next_fall_through, settles}
+use Rattle.psm_code.proofs.NextLines.{bears, falls_by, known, next_fall_through, settles}
 use Rattle.psm_code.proofs.Operating.{stored_letter}
 use Rattle.psm_code.proofs.Raises.{there_some, where_some}
 use Rattle.psm_code.proofs.Simple.{well_formed_here, with, Kept}
@@ -189,7 +189,7 @@ module _ (code : RawCode) (well_formed_code : first_fault code ≡ None) where
       let same : known_one.rest ≡ w.below = let o : Some known_one.rest ≡ Some w.below = sym known_one.left ∙ w.is_below in cc in
       let stated : rules.stated_fall_through st.routine a.line (Some puts) w.below ≡ true =
       ap (λ t. rules.stated_fall_through st.routine a.line (Some puts) t) (sym same) ∙ ap (λ o. rules.stated_fall_through st.routine a.line o known_one.rest) (sym q) ∙ known_one.fall_through in
-      let goes : rules.line_falls_through code st.routine i ≡ true = ap rules.falls_through w.is_effect ∙ ap there q in
+      let goes = falls_by code st.routine i N N w.effect puts (call_same code st.routine callee i N N w.calls ∙ w.is_effect) q in
       let next = next_fall_through code st.routine a.line st.line line puts w.below goes stated in
       record {
         running = record {

@@ -1,22 +1,27 @@
 -- What is known of well-formed code, line by line of its listing.
 use Rattle.std.proofs.Common.{◌≡◌, ℕ, zero, suc, ◌+◌, Bool, true, false, ◌&&◌, List, [], ◌∷◌, ◌++◌, length, map, refl, ap, sym, subst, ◌∙◌, arith, Option, Some, None, length-append}
-use Rattle.std.specs.Prelude.{slice_get}
-use Rattle.std.specs.List.{flat_map}
+use Rattle.std.specs.Prelude.{not, reverse, slice_get}
+use Rattle.std.specs.List.{flat_map, list_all}
 use Rattle.psm_num.proofs.Literals.{and_first, and_second}
+use Rattle.psm_exprcode.specs.declared.op.Letter.{Letter}
+use Rattle.psm_exprcode.specs.WellFormed.{is_type, left_of}
 use Rattle.psm_cond.specs.declared.handlers.Context.{Context}
 use Rattle.psm_cond.specs.declared.handlers.Handler.{Handler}
 use Rattle.psm_code.specs.declared.code.CodeTable.{CodeTable}
 use Rattle.psm_code.specs.declared.code.RawCode.{RawCode}
 use Rattle.psm_code.specs.declared.code.RawRoutine.{RawRoutine}
+use Rattle.psm_code.specs.declared.instruction.Instruction.{Instruction}
+use Rattle.psm_code.specs.declared.instruction.Instruction.TheVariants as instruction
 use Rattle.psm_code.specs.declared.lines.CodeLine.{CodeLine}
 use Rattle.psm_code.specs.declared.rule.CodeRule.{CodeRule}
-use Rattle.psm_code.specs.declared.rule.CodeRule.TheVariants.{Range, Target, Stack, Resume, Turn, Place}
+use Rattle.psm_code.specs.declared.rule.CodeRule.TheVariants.{Range, Target, Stack, Resume, Turn, Place, Definition}
 use Rattle.psm_code.specs.declared.rule.CodeRule.TheVariants.{Context as InContext}
+use Rattle.psm_code.specs.Instructions.{arguments}
 use Rattle.psm_code.specs.Parts.{handler_at, line_at, routine_at}
 use Rattle.psm_code.specs.PlanRules.{cursor_fault, plan_faults, query_faults}
 use Rattle.psm_code.specs.RoutineRules.{code_faults, context_fault, context_faults, declared_fault, first_fault, handler_fault, line_fault, line_faults, parameter_fault, routine_fault, routine_faults, type_fault}
 use Rattle.psm_code.specs.RoutineRules as rules
-use Rattle.psm_code.specs.Rules.{each_after, fault_in, first_of, unless, where_there}
+use Rattle.psm_code.specs.Rules.{each_after, fault_in, first_of, is_some, there, unless, where_there}
 use Rattle.psm_code.specs.TableRules.{table_faults}
 
 -- ---- lines without a fault
@@ -102,12 +107,13 @@ four_hold false b c d p q s t e = absurd (cc)
 pub record WellFormedLine (code : RawCode) (r : RawRoutine) (at : ℕ) (l : CodeLine) : Type 0 where
   pub named : rules.names_there code r l.instruction ≡ true
   pub inside : rules.context_there r l.context ≡ true
-  pub targets : rules.are_targets code r at l ≡ true
+  pub targets : rules.are_targets r at l ≡ true
   pub bare : rules.is_bare l ≡ true
   pub stack : rules.stack_follows code r at l ≡ true
+  pub typed : rules.lacks_result code r (reverse l.stack) l.instruction ≡ false
   pub first : rules.is_first_well_formed at l ≡ true
   pub stands : rules.stands_well_formed r l l.instruction ≡ true
-  pub contexts : rules.contexts_follow code r at l ≡ true
+  pub contexts : rules.contexts_follow r at l ≡ true
   pub resumes : rules.resumes_well_formed r at l ≡ true
   pub place : rules.may_stand code r l.instruction ≡ true
 
@@ -122,11 +128,27 @@ seven_hold true true true true false f g h = absurd (cc)
 seven_hold true true true true true false g h = absurd (cc)
 seven_hold true true true true true true false h = absurd (cc)
 
-pub well_formed_line : (code : RawCode) (r : RawRoutine) (at : ℕ) (l : CodeLine) → line_fault code r at l ≡ None → WellFormedLine code r at l
-well_formed_line code r at l e =
+-- an instruction that returns a value stands in a function, and one that calls a function names one: they have types
+abbrev pub HasTypes : RawCode → Type 0
+HasTypes code = (n : ℕ) (q : RawRoutine) → routine_at code n ≡ Some q → rules.same_truth q.is_function (there q.returns) ≡ true
+
+typed_there : (b c : Bool) → rules.same_truth b c ≡ true → b ≡ true → c ≡ true
+typed_there true c h p = h
+typed_there false c h p = absurd (cc)
+
+has_result : (code : RawCode) (r : RawRoutine) (s : List Letter) (i : Instruction) → HasTypes code → rules.same_truth r.is_function (there r.returns) ≡ true → rules.may_stand code r i ≡ true → rules.lacks_result code r s i ≡ false
+has_result code r s instruction.ReturnValue types own p = ap not (typed_there r.is_function (there r.returns) own p)
+has_result code r s (instruction.FunctionCall n) types own p = callee (routine_at code n) (types n) p where
+  callee : (o : Option RawRoutine) → ((q : RawRoutine) → o ≡ Some q → rules.same_truth q.is_function (there q.returns) ≡ true) → where_there o (λ q. q.is_function) ≡ true → rules.takes_untyped s o ≡ false
+  callee None t p = refl
+  callee (Some q) t p = ap (λ b. not b && there (left_of (arguments q) s)) (typed_there q.is_function (there q.returns) (t q refl) p)
+has_result code r s i types own p = refl
+
+pub well_formed_line : (code : RawCode) (r : RawRoutine) (at : ℕ) (l : CodeLine) → HasTypes code → rules.same_truth r.is_function (there r.returns) ≡ true → line_fault code r at l ≡ None → WellFormedLine code r at l
+well_formed_line code r at l types own e =
     let inside = rules.context_there r l.context in
-    let enclosing = rules.stands_well_formed r l l.instruction && rules.contexts_follow code r at l in
-    let h = seven_hold (inside && rules.names_there code r l.instruction) (rules.are_targets code r at l) (rules.is_bare l && rules.stack_follows code r at l) (rules.is_first_well_formed at l && enclosing)
+    let enclosing = rules.stands_well_formed r l l.instruction && rules.contexts_follow r at l in
+    let h = seven_hold (inside && rules.names_there code r l.instruction) (rules.are_targets r at l) (rules.is_bare l && rules.stack_follows code r at l) (rules.is_first_well_formed at l && enclosing)
     (rules.resumes_well_formed r at l) (where_there (rules.jump_of l.instruction) (rules.uses_turn r at)) (rules.may_stand code r l.instruction) e in
     let rest = and_second (rules.is_first_well_formed at l) enclosing h.3 in
     record {
@@ -136,9 +158,10 @@ well_formed_line code r at l e =
       bare = and_first (rules.is_bare l) (rules.stack_follows code r at l) h.2;
       stack = and_second (rules.is_bare l) (rules.stack_follows code r at l) h.2;
       first = and_first (rules.is_first_well_formed at l) enclosing h.3;
-      stands = and_first (rules.stands_well_formed r l l.instruction) (rules.contexts_follow code r at l) rest;
-      contexts = and_second (rules.stands_well_formed r l l.instruction) (rules.contexts_follow code r at l) rest;
+      stands = and_first (rules.stands_well_formed r l l.instruction) (rules.contexts_follow r at l) rest;
+      contexts = and_second (rules.stands_well_formed r l l.instruction) (rules.contexts_follow r at l) rest;
       resumes = h.4;
+      typed = has_result code r (reverse l.stack) l.instruction types own h.6;
       place = h.6;
     }
 
@@ -167,6 +190,7 @@ contexts_at r n (x ∷ cs) (suc i) c h e =
 pub record WellFormedRoutineCode (code : RawCode) (r : RawRoutine) : Type 0 where
   pub before : List RawRoutine
   pub first : routine_fault before r ≡ None
+  pub types : HasTypes code
   pub parameters : Clean (each_after (parameter_fault r) [] r.parameters)
   pub variables : Clean (map type_fault r.variables)
   pub queries : Clean (flat_map (query_faults code r) r.queries)
@@ -176,8 +200,8 @@ pub record WellFormedRoutineCode (code : RawCode) (r : RawRoutine) : Type 0 wher
   pub handlers : Clean (each_after (handler_fault r) [] r.handlers.handlers)
   pub lines : Clean (line_faults code r 0 r.lines)
 
-well_formed_routine : (code : RawCode) (before : List RawRoutine) (r : RawRoutine) → Clean (routine_faults code before r) → WellFormedRoutineCode code r
-well_formed_routine code before r h =
+well_formed_routine : (code : RawCode) (before : List RawRoutine) (r : RawRoutine) → HasTypes code → Clean (routine_faults code before r) → WellFormedRoutineCode code r
+well_formed_routine code before r types h =
     let t1 = each_after (parameter_fault r) [] r.parameters in
     let t2 = t1 ++ map type_fault r.variables in
     let t3 = t2 ++ flat_map (query_faults code r) r.queries in
@@ -197,6 +221,7 @@ well_formed_routine code before r h =
     record {
       before = before;
       first = clean_head (routine_fault before r) (t8 ++ line_faults code r 0 r.lines) h;
+      types = types;
       parameters = clean_first t1 (map type_fault r.variables) h2;
       variables = clean_second t1 (map type_fault r.variables) h2;
       queries = clean_second t2 (flat_map (query_faults code r) r.queries) h3;
@@ -212,10 +237,21 @@ well_formed_routine code before r h =
 code_clean : (code : RawCode) → first_fault code ≡ None → Clean (each_after table_faults [] code.tables ++ each_after (routine_faults code) [] code.routines)
 code_clean code e = clean_of 1 (code_faults code) e
 
+own_type : (before : List RawRoutine) (r : RawRoutine) → routine_fault before r ≡ None → rules.same_truth r.is_function (there r.returns) ≡ true
+own_type before r h =
+    let apart = list_all (rules.are_apart r) before in
+    let t = three_hold (where_there r.returns is_type) (is_some r.lines) (apart && rules.same_truth r.is_function (there r.returns)) Range Target Definition h in
+    and_second apart (rules.same_truth r.is_function (there r.returns)) t.2
+
+has_types : (code : RawCode) → first_fault code ≡ None → HasTypes code
+has_types code e n q g =
+    let h = clean_each (routine_faults code) [] code.routines n q (clean_second (each_after table_faults [] code.tables) (each_after (routine_faults code) [] code.routines) (code_clean code e)) g in
+    own_type h.before q (clean_head (routine_fault h.before q) _ h.clean)
+
 pub routine_well_formed : (code : RawCode) (n : ℕ) (r : RawRoutine) → first_fault code ≡ None → routine_at code n ≡ Some r → WellFormedRoutineCode code r
 routine_well_formed code n r e g =
     let h = clean_each (routine_faults code) [] code.routines n r (clean_second (each_after table_faults [] code.tables) (each_after (routine_faults code) [] code.routines) (code_clean code e)) g in
-    well_formed_routine code h.before r h.clean
+    well_formed_routine code h.before r (has_types code e) h.clean
 
 pub table_well_formed : (code : RawCode) (n : ℕ) (t : CodeTable) → first_fault code ≡ None → slice_get code.tables n ≡ Some t → (before : List CodeTable) × Clean (table_faults before t)
 table_well_formed code n t e g =
@@ -223,7 +259,7 @@ table_well_formed code n t e g =
     (h.before, h.clean)
 
 pub line_well_formed : (code : RawCode) (r : RawRoutine) (at : ℕ) (l : CodeLine) → WellFormedRoutineCode code r → line_at r at ≡ Some l → WellFormedLine code r at l
-line_well_formed code r at l h g = let z : 0 + at ≡ at = omega arith in well_formed_line code r at l (ap (λ j. line_fault code r j l) (sym z) ∙ lines_at code r 0 r.lines at l h.lines g)
+line_well_formed code r at l h g = let z : 0 + at ≡ at = omega arith in well_formed_line code r at l h.types (own_type h.before r h.first) (ap (λ j. line_fault code r j l) (sym z) ∙ lines_at code r 0 r.lines at l h.lines g)
 
 pub context_well_formed : (code : RawCode) (r : RawRoutine) (i : ℕ) (c : Context) → WellFormedRoutineCode code r → slice_get r.handlers.contexts i ≡ Some c → context_fault r (suc i) c.parent c.kind ≡ None
 context_well_formed code r i c h g = let s : 1 + i ≡ suc i = omega arith in ap (λ j. context_fault r j c.parent c.kind) (sym s) ∙ contexts_at r 1 r.handlers.contexts i c h.contexts g

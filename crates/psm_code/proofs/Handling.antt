@@ -260,7 +260,7 @@ resumes_by r at l (Some n) q h t w =
 pub goes_on : (code : RawCode) (r : RawRoutine) (at : ℕ) (l : CodeLine) → WellFormedLine code r at l → rules.wants_resume l.instruction ≡ true → GoesOn r l
 goes_on code r at l h w =
     resumes_by r at l l.resume refl h.resumes
-    (and_first (where_there l.resume (is_there r.lines)) (where_there (rules.jump_of l.instruction) (is_there r.lines) && (not (rules.line_falls_through code r l.instruction) || is_there r.lines (suc at))) h.targets) w
+    (and_first (where_there l.resume (is_there r.lines)) (where_there (rules.jump_of l.instruction) (is_there r.lines) && (not (rules.falls_through l.instruction) || is_there r.lines (suc at))) h.targets) w
 
 call_wants : (n : ℕ) (i : Instruction) → is_call_of n i ≡ true → rules.wants_resume i ≡ true
 call_wants n (instruction.Call k) h = refl

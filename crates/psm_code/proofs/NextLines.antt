@@ -1,23 +1,27 @@
 -- Where an instruction of well-formed code goes on there is a line that states the operands that it leaves.
 use Rattle.std.proofs.Common.{◌≡◌, ◌⊎◌, inl, inr, ℕ, suc, Bool, true, false, ◌&&◌, ◌||◌, List, [], ◌∷◌, ◌++◌, refl, ap, sym, subst, ◌∙◌, eqb-true, Option, Some, None}
-use Rattle.std.specs.Prelude.{reverse, not}
+use Rattle.std.specs.Prelude.{codes, not, option_map, reverse}
 use Rattle.psm_num.proofs.Literals.{and_first, and_second}
+use Rattle.psm_value.specs.declared.sqltype.SqlType.{SqlType}
 use Rattle.psm_cond.specs.Condition.{Entries}
 use Rattle.psm_exprcode.specs.declared.op.Letter.{Letter}
 use Rattle.psm_exprcode.specs.declared.op.Letter.TheVariants.{N, T, B}
-use Rattle.psm_exprcode.specs.Kinds.{have, is_letter, is_value, some_letter, some_value}
+use Rattle.psm_exprcode.specs.declared.op.Op.TheVariants as op
+use Rattle.psm_exprcode.specs.Kinds.{have, is_letter, is_value, letter_of, some_letter, some_value}
 use Rattle.psm_exprcode.specs.Operations.{Effect}
 use Rattle.psm_exprcode.specs.WellFormed.{left_of, same_stack}
 use Rattle.psm_exprcode.proofs.Stripping.{is_letter-same, left_of-some}
 use Rattle.psm_code.specs.declared.code.RawCode.{RawCode}
 use Rattle.psm_code.specs.declared.code.RawRoutine.{RawRoutine}
 use Rattle.psm_code.specs.declared.lines.CodeLine.{CodeLine}
-use Rattle.psm_code.specs.Instructions.{instruction_effect, may_raise}
+use Rattle.psm_code.specs.declared.instruction.Instruction.{Instruction}
+use Rattle.psm_code.specs.declared.instruction.Instruction.TheVariants as instruction
+use Rattle.psm_code.specs.Instructions.{instruction_effect, last, may_raise}
 use Rattle.psm_code.specs.Parts.{line_at}
 use Rattle.psm_code.specs.RoutineRules as rules
 use Rattle.psm_code.specs.RoutineRules.{first_fault}
 use Rattle.psm_code.specs.Run.{fall_through, settled, then_fall_through, Successor}
-use Rattle.psm_code.specs.Rules.{is_there, there, where_there}
+use Rattle.psm_code.specs.Rules.{is_there, where_there}
 use Rattle.psm_code.specs.MachineInvariant.{MachineInvariant, Stand, StaysWellFormed}
 use Rattle.psm_code.specs.State.{Frame, Machine, at_line}
 use Rattle.psm_code.specs.Steps.{Act, Given, Got, Raises, Ends}
@@ -67,29 +71,50 @@ next_line r at s k t h g =
       same = eqb-true line.0.context k (ap (rules.is_in k) (sym line.1) ∙ g);
     }
 
+abbrev fall_through_of : Option Effect → Option (List Letter)
+fall_through_of None = None
+fall_through_of (Some e) = e.fall_through
+
+returns_last : (o : Option SqlType) → fall_through_of (option_map (λ t. last (codes "RETV") (letter_of t ∷ [])) o) ≡ None
+returns_last None = refl
+returns_last (Some t) = refl
+
+never_puts : {A : Type 0} (o : Option Effect) (e : Effect) (puts : List Letter) → fall_through_of o ≡ None → o ≡ Some e → e.fall_through ≡ Some puts → A
+never_puts o e puts n q a = let none : None ≡ Some puts = sym n ∙ ap fall_through_of q ∙ a in absurd (cc)
+
+-- an instruction that puts something where it goes on at the line that follows does go on there
+pub falls_by : (code : RawCode) (r : RawRoutine) (i : Instruction) (k x : Letter) (e : Effect) (puts : List Letter) → instruction_effect code r i k x ≡ Some e → e.fall_through ≡ Some puts → rules.falls_through i ≡ true
+falls_by code r (instruction.Operation (op.Jump p)) k x e puts q a = never_puts (instruction_effect code r (instruction.Operation (op.Jump p)) k x) e puts refl q a
+falls_by code r (instruction.EndAction h) k x e puts q a = never_puts (instruction_effect code r (instruction.EndAction h) k x) e puts refl q a
+falls_by code r instruction.ReturnValue k x e puts q a = never_puts (instruction_effect code r instruction.ReturnValue k x) e puts (returns_last r.returns) q a
+falls_by code r instruction.End k x e puts q a = never_puts (instruction_effect code r instruction.End k x) e puts refl q a
+falls_by code r instruction.NoReturn k x e puts q a = never_puts (instruction_effect code r instruction.NoReturn k x) e puts refl q a
+falls_by code r instruction.NoCase k x e puts q a = never_puts (instruction_effect code r instruction.NoCase k x) e puts refl q a
+falls_by code r i k x e puts q a = refl
+
 unless_not : (a b : Bool) → (not a || b) ≡ true → a ≡ true → b ≡ true
 unless_not true b h e = h
 unless_not false b h e = absurd (cc)
 
 module _ (code : RawCode) (r : RawRoutine) (at : ℕ) (l : CodeLine) (h : WellFormedLine code r at l) where
-  pub next_fall_through : (puts rest : List Letter) → rules.line_falls_through code r l.instruction ≡ true → rules.stated_fall_through r at (Some puts) rest ≡ true → Next r (suc at) (puts ++ rest) (rules.context_after r l l.instruction)
+  pub next_fall_through : (puts rest : List Letter) → rules.falls_through l.instruction ≡ true → rules.stated_fall_through r at (Some puts) rest ≡ true → Next r (suc at) (puts ++ rest) (rules.context_after r l l.instruction)
   next_fall_through puts rest goes s =
       let jumps = where_there (rules.jump_of l.instruction) (is_there r.lines) in
       let line = is_there r.lines (suc at) in
-      let targets = and_second jumps (not (rules.line_falls_through code r l.instruction) || line) (and_second (where_there l.resume (is_there r.lines)) (jumps && (not (rules.line_falls_through code r l.instruction) || line)) h.targets) in
+      let targets = and_second jumps (not (rules.falls_through l.instruction) || line) (and_second (where_there l.resume (is_there r.lines)) (jumps && (not (rules.falls_through l.instruction) || line)) h.targets) in
       let inside = rules.is_in (rules.context_after r l l.instruction) (line_at r (suc at)) in
-      let contexts = and_first (not (rules.line_falls_through code r l.instruction) || inside) (where_there (rules.jump_of l.instruction) (λ p. rules.is_in l.context (line_at r p))) h.contexts in
-      next_line r (suc at) (puts ++ rest) (rules.context_after r l l.instruction) (unless_not (rules.line_falls_through code r l.instruction) line targets goes) s
-      (unless_not (rules.line_falls_through code r l.instruction) inside contexts goes)
+      let contexts = and_first (not (rules.falls_through l.instruction) || inside) (where_there (rules.jump_of l.instruction) (λ p. rules.is_in l.context (line_at r p))) h.contexts in
+      next_line r (suc at) (puts ++ rest) (rules.context_after r l l.instruction) (unless_not (rules.falls_through l.instruction) line targets goes) s
+      (unless_not (rules.falls_through l.instruction) inside contexts goes)
 
   pub next_branch : (p : ℕ) (puts rest : List Letter) → rules.jump_of l.instruction ≡ Some p → rules.stated_branch r (Some (p, puts)) rest ≡ true → Next r p (puts ++ rest) l.context
   next_branch p puts rest j s =
       let line = is_there r.lines (suc at) in
       let jumps = where_there (rules.jump_of l.instruction) (is_there r.lines) in
-      let targets = and_first jumps (not (rules.line_falls_through code r l.instruction) || line) (and_second (where_there l.resume (is_there r.lines)) (jumps && (not (rules.line_falls_through code r l.instruction) || line)) h.targets) in
+      let targets = and_first jumps (not (rules.falls_through l.instruction) || line) (and_second (where_there l.resume (is_there r.lines)) (jumps && (not (rules.falls_through l.instruction) || line)) h.targets) in
       let inside = rules.is_in (rules.context_after r l l.instruction) (line_at r (suc at)) in
       let test : ℕ → Bool = λ p. rules.is_in l.context (line_at r p) in
-      let contexts = and_second (not (rules.line_falls_through code r l.instruction) || inside) (where_there (rules.jump_of l.instruction) test) h.contexts in
+      let contexts = and_second (not (rules.falls_through l.instruction) || inside) (where_there (rules.jump_of l.instruction) test) h.contexts in
       next_line r p (puts ++ rest) l.context (where_some (rules.jump_of l.instruction) (is_there r.lines) p targets j) s (where_some (rules.jump_of l.instruction) test p contexts j)
 
   -- an effect whose letters are known
@@ -114,7 +139,9 @@ module _ (code : RawCode) (r : RawRoutine) (at : ℕ) (l : CodeLine) (h : WellFo
   choose =
       let for_other : Letter → Letter → Bool = λ k x. rules.follows_with r at (reverse l.stack) (instruction_effect code r l.instruction k x) in
       let for_kind : Letter → Bool = λ k. some_letter (for_other k) in
-      let k = value_found for_kind (and_second (rules.constant_fits l.instruction) (some_value for_kind) h.stack) in
+      let asked : Bool = rules.lacks_result code r (reverse l.stack) l.instruction || some_value for_kind in
+      let some : some_value for_kind ≡ true = ap (λ b. b || some_value for_kind) (sym h.typed) ∙ and_second (rules.constant_fits l.instruction) asked h.stack in
+      let k = value_found for_kind some in
       let x = letter_found (for_other k.0) k.2 in
       record { kind = k.0; other = x.0; is_kind = k.1; follows = x.1 }
 
@@ -153,7 +180,7 @@ module _ (code : RawCode) (well_formed_code : first_fault code ≡ None) (r : Ra
       let k = known code r at l line e q in
       let same : k.rest ≡ rest = let o : Some k.rest ≡ Some rest = sym k.left ∙ f in cc in
       let s : rules.stated_fall_through r at (Some puts) rest ≡ true = ap (λ t. rules.stated_fall_through r at (Some puts) t) (sym same) ∙ ap (λ o. rules.stated_fall_through r at o k.rest) (sym a) ∙ k.fall_through in
-      let goes : rules.line_falls_through code r l.instruction ≡ true = ap rules.falls_through (q N N) ∙ ap there a in
+      let goes = falls_by code r l.instruction N N e puts (q N N) a in
       let x = next_fall_through code r at l line puts rest goes s in
       machine_invariant_at (suc at) (puts ++ rest) l.context n.running.frames n h h.body.frames (subst (Next r (suc at) (puts ++ rest)) c x)
 

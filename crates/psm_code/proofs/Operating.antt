@@ -8,7 +8,6 @@ use Rattle.psm_value.specs.declared.sqltype.SqlType.{SqlType}
 use Rattle.psm_value.specs.declared.sqltype.SqlType.TheVariants.{SmallInt, Integer, Numeric, Char, VarChar}
 use Rattle.psm_value.specs.Stored.{is_stored}
 use Rattle.psm_exprcode.specs.declared.op.Letter.{Letter}
-use Rattle.psm_exprcode.specs.declared.op.Letter.TheVariants.{N}
 use Rattle.psm_exprcode.specs.declared.op.Op.{Op}
 use Rattle.psm_exprcode.specs.declared.op.Op.TheVariants as op
 use Rattle.psm_exprcode.specs.declared.operand.Operand.{Operand}
@@ -88,14 +87,14 @@ record Table (r : RawRoutine) (o : Op) (vars : List Datum) (k x : Letter) : Type
   is_kind : is_value kind ≡ true
   is : operation_effect r o k x ≡ Some (effect o kind x)
   named : names [] vars o kind ≡ true
-  goes : (puts : List Letter) → (effect o kind x).fall_through ≡ Some puts → rules.falls_through (operation_effect r o N N) ≡ true
+  goes : (puts : List Letter) → (effect o kind x).fall_through ≡ Some puts → rules.falls_through (instruction.Operation o) ≡ true
 
 op_table : (code : RawCode) (r : RawRoutine) (o : Op) (vars : List Datum) (k x : Letter) → is_value k ≡ true → are_stored (slots_of r) vars ≡ true → rules.names_there code r (instruction.Operation o) ≡ true
     → rules.may_stand code r (instruction.Operation o) ≡ true → Table r o vars k x
 op_table code r (op.Variable i) vars k x v h n p =
     let t = there_some (slice_get (slots_of r) i) n in
     let put : Option SqlType → Option Effect = λ o. option_map (λ l. plain (codes "VAR") [] (l ∷ [])) (option_map letter_of o) in
-    record { kind = letter_of t.0; is_kind = letter_of-value t.0; is = ap put t.1; named = stored_in (slots_of r) vars i t.0 h t.1; goes = λ puts e. ap (λ o. rules.falls_through (put o)) t.1 }
+    record { kind = letter_of t.0; is_kind = letter_of-value t.0; is = ap put t.1; named = stored_in (slots_of r) vars i t.0 h t.1; goes = λ puts e. refl }
 op_table code r (op.Column i) vars k x v h n p = absurd (cc)
 op_table code r (op.Jump q) vars k x v h n p = record { kind = k; is_kind = v; is = refl; named = refl; goes = λ puts e. absurd (cc) }
 op_table code r o vars k x v h n p = record { kind = k; is_kind = v; is = refl; named = refl; goes = λ puts e. refl }

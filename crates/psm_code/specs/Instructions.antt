@@ -161,8 +161,12 @@ next_effect p ls = jumping (codes "NEXT") [] (Some ls) p []
 abbrev pub procedure_effect : RawRoutine → Effect
 procedure_effect r = plain (codes "CALL") (reverse (parameter_letters (taking r.parameters))) (parameter_letters (giving r.parameters))
 
+-- the letters of a function's arguments, the last one first
+abbrev pub arguments : RawRoutine → List Letter
+arguments r = reverse (parameter_letters r.parameters)
+
 abbrev pub returning_effect : RawRoutine → Letter → Effect
-returning_effect r l = plain (codes "FCALL") (reverse (parameter_letters r.parameters)) (l ∷ [])
+returning_effect r l = plain (codes "FCALL") (arguments r) (l ∷ [])
 
 abbrev pub function_effect : RawRoutine → Option Effect
 function_effect r = option_map (λ t. returning_effect r (letter_of t)) r.returns

@@ -15,7 +15,7 @@ use Rattle.psm_table.specs.Queries.{Answer, answer}
 use Rattle.psm_tablecode.specs.Codes.{over, query_of}
 use Rattle.psm_code.specs.declared.code.CodeCursor.{CodeCursor}
 use Rattle.psm_code.specs.declared.code.RawRoutine.{RawRoutine}
-use Rattle.psm_code.specs.State.{Stuck, warning, with_cursor}
+use Rattle.psm_code.specs.State.{Stuck, with_cursor}
 use Rattle.psm_code.specs.Steps.{Act, got, ends, raises, change, of_state, present, put, put_value, put_values, read, table_now, tried, ◌>>=◌, ◌>>◌}
 
 -- the answer of a query over its table and the variables as they are now
@@ -58,10 +58,10 @@ only_row [] = raises (of_state (codes "02000"))
 only_row (row ∷ []) = got row
 only_row (row ∷ other ∷ rows) = raises (of_state (codes "21000"))
 
--- nulls that a set function skipped are a warning
+-- nulls that a set function skipped are a warning, in place of one that is pending
 abbrev pub skipping : Bool → Act (Unit {0})
 skipping false = got tt
-skipping true = change (warning (codes "01003"))
+skipping true = change (λ m. record m { pending = Some (codes "01003") })
 
 abbrev pub select_row : RawRoutine → ℕ → Act (Unit {0})
 select_row r n = do

@@ -19,7 +19,6 @@ use Rattle.psm_cond.specs.declared.handlers.HandlerKind.{HandlerKind}
 use Rattle.psm_cond.specs.declared.handlers.HandlerKind.TheVariants.{Continue, Exit, Undo}
 use Rattle.psm_cond.specs.Handlers.{context_at}
 use Rattle.psm_exprcode.specs.declared.op.Letter.{Letter}
-use Rattle.psm_exprcode.specs.declared.op.Letter.TheVariants.{N}
 use Rattle.psm_exprcode.specs.declared.op.Op.TheVariants as op
 use Rattle.psm_exprcode.specs.Kinds.{some_letter, some_value}
 use Rattle.psm_exprcode.specs.Operations.{Effect}
@@ -32,7 +31,7 @@ use Rattle.psm_code.specs.declared.instruction.Instruction.TheVariants as instru
 use Rattle.psm_code.specs.declared.lines.CodeLine.{CodeLine}
 use Rattle.psm_code.specs.declared.rule.CodeRule.{CodeRule}
 use Rattle.psm_code.specs.declared.rule.CodeRule.TheVariants.{Range, Target, Stack, Context, Resume, Turn, Place, Definition}
-use Rattle.psm_code.specs.Instructions.{instruction_effect, may_raise}
+use Rattle.psm_code.specs.Instructions.{arguments, instruction_effect, may_raise}
 use Rattle.psm_code.specs.Parts.{block_at, gives, handler_at, line_at, routine_at, slots_of}
 use Rattle.psm_code.specs.PlanRules.{cursor_fault, plan_faults, query_faults}
 use Rattle.psm_code.specs.Rules.{each_after, fault_in, first_of, is_same, is_some, is_there, there, unless, where_there}
@@ -234,17 +233,20 @@ jump_of (instruction.Operation o) = target_of o
 jump_of (instruction.Next c end) = Some end
 jump_of i = None
 
-abbrev pub falls_through : Option Effect → Bool
-falls_through None = false
-falls_through (Some e) = there e.fall_through
+-- whether an instruction may go on at the line that follows
+abbrev pub falls_through : Instruction → Bool
+falls_through (instruction.Operation (op.Jump p)) = false
+falls_through (instruction.EndAction h) = false
+falls_through instruction.ReturnValue = false
+falls_through instruction.End = false
+falls_through instruction.NoReturn = false
+falls_through instruction.NoCase = false
+falls_through i = true
 
-abbrev pub line_falls_through : RawCode → RawRoutine → Instruction → Bool
-line_falls_through code r i = falls_through (instruction_effect code r i N N)
-
-abbrev pub are_targets : RawCode → RawRoutine → ℕ → CodeLine → Bool
-are_targets code r at l =
+abbrev pub are_targets : RawRoutine → ℕ → CodeLine → Bool
+are_targets r at l =
     where_there l.resume (is_there r.lines) && (where_there (jump_of l.instruction) (is_there r.lines)
-    && (not (line_falls_through code r l.instruction) || is_there r.lines (suc at)))
+    && (not (falls_through l.instruction) || is_there r.lines (suc at)))
 
 -- the operands, the last one first, are those that a line states
 abbrev pub is_stated : Option CodeLine → List Letter → Bool
@@ -272,8 +274,23 @@ abbrev pub constant_fits : Instruction → Bool
 constant_fits (instruction.Operation o) = is_of_letter o
 constant_fits i = true
 
+-- a routine without a type has no letter of a result, so none is asked: its own line is at fault, or the place of the instruction.
+-- The operands of its parameters are asked
+abbrev pub takes_untyped : List Letter → Option RawRoutine → Bool
+takes_untyped s None = false
+takes_untyped s (Some q) = not (there q.returns) && there (left_of (arguments q) s)
+
+abbrev pub lacks_result : RawCode → RawRoutine → List Letter → Instruction → Bool
+lacks_result code r s instruction.ReturnValue = not (there r.returns)
+lacks_result code r s (instruction.FunctionCall n) = takes_untyped s (routine_at code n)
+lacks_result code r s i = false
+
+abbrev pub operands_follow : RawCode → RawRoutine → ℕ → List Letter → Instruction → Bool
+operands_follow code r at s i =
+    constant_fits i && (lacks_result code r s i || some_value (λ k. some_letter (λ x. follows_with r at s (instruction_effect code r i k x))))
+
 abbrev pub stack_follows : RawCode → RawRoutine → ℕ → CodeLine → Bool
-stack_follows code r at l = constant_fits l.instruction && some_value (λ k. some_letter (λ x. follows_with r at (reverse l.stack) (instruction_effect code r l.instruction k x)))
+stack_follows code r at l = operands_follow code r at (reverse l.stack) l.instruction
 
 -- no operand stands before these
 abbrev pub stands_alone : Instruction → Bool
@@ -312,9 +329,9 @@ context_after r l (instruction.Enter k) = k
 context_after r l (instruction.Exit k) = parent_of_context (context_at r.handlers k)
 context_after r l i = l.context
 
-abbrev pub contexts_follow : RawCode → RawRoutine → ℕ → CodeLine → Bool
-contexts_follow code r at l =
-    (not (line_falls_through code r l.instruction) || is_in (context_after r l l.instruction) (line_at r (suc at)))
+abbrev pub contexts_follow : RawRoutine → ℕ → CodeLine → Bool
+contexts_follow r at l =
+    (not (falls_through l.instruction) || is_in (context_after r l l.instruction) (line_at r (suc at)))
     && where_there (jump_of l.instruction) (λ p. is_in l.context (line_at r p))
 
 -- where the instructions about contexts may stand
@@ -366,9 +383,9 @@ may_stand code r i = true
 abbrev pub line_fault : RawCode → RawRoutine → ℕ → CodeLine → Option CodeRule
 line_fault code r at l = first_of (
     unless (context_there r l.context && names_there code r l.instruction) Range
-    ∷ unless (are_targets code r at l) Target
+    ∷ unless (are_targets r at l) Target
     ∷ unless (is_bare l && stack_follows code r at l) Stack
-    ∷ unless (is_first_well_formed at l && (stands_well_formed r l l.instruction && contexts_follow code r at l)) Context
+    ∷ unless (is_first_well_formed at l && (stands_well_formed r l l.instruction && contexts_follow r at l)) Context
     ∷ unless (resumes_well_formed r at l) Resume
     ∷ unless (where_there (jump_of l.instruction) (uses_turn r at)) Turn
     ∷ unless (may_stand code r l.instruction) Place ∷ [])

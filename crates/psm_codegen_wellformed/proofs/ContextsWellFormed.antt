@@ -57,8 +57,8 @@ bare-by true false bare follows others h = absurd (cc)
 bare-by false target bare follows others h = absurd (cc)
 
 bare-line : (code : RawCode) (r : RawRoutine) (at : ℕ) (l : CodeLine) → line_fault code r at l ≡ None → is_bare l ≡ true
-bare-line code r at l h = bare-by (context_there r l.context && names_there code r l.instruction) (are_targets code r at l) (is_bare l) (stack_follows code r at l) (
-    unless (is_first_well_formed at l && (stands_well_formed r l l.instruction && contexts_follow code r at l)) rules.Context
+bare-line code r at l h = bare-by (context_there r l.context && names_there code r l.instruction) (are_targets r at l) (is_bare l) (stack_follows code r at l) (
+    unless (is_first_well_formed at l && (stands_well_formed r l l.instruction && contexts_follow r at l)) rules.Context
     ∷ unless (resumes_well_formed r at l) rules.Resume
     ∷ unless (where_there (jump_of l.instruction) (uses_turn r at)) rules.Turn
     ∷ unless (may_stand code r l.instruction) rules.Place ∷ []) h

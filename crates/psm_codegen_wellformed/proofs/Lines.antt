@@ -18,7 +18,7 @@ use Rattle.psm_code.specs.declared.rule.CodeRule.TheVariants.{Range, Target, Sta
 use Rattle.psm_code.specs.declared.rule.CodeRule.TheVariants.{Context as InContext}
 use Rattle.psm_code.specs.Instructions.{instruction_effect}
 use Rattle.psm_code.specs.Parts.{line_at}
-use Rattle.psm_code.specs.RoutineRules.{constant_fits, context_after, context_there, follows_with, is_bare, is_first_well_formed, is_in, is_resume, is_stated, jump_of, line_fault, line_falls_through, may_stand, names_there, resumes_well_formed, stack_follows, stands_well_formed, stated_fall_through, stated_branch, stated_after, uses_turn, wants_resume}
+use Rattle.psm_code.specs.RoutineRules.{constant_fits, context_after, context_there, falls_through, follows_with, is_bare, is_first_well_formed, is_in, is_resume, is_stated, jump_of, lacks_result, line_fault, may_stand, names_there, resumes_well_formed, stack_follows, stands_well_formed, stated_fall_through, stated_branch, stated_after, uses_turn, wants_resume}
 use Rattle.psm_code.specs.Rules.{first_of, is_some, is_there, there, unless, where_there}
 use Rattle.psm_codegen_wellformed.specs.Frame.{Ends, Follows, Free}
 
@@ -111,20 +111,20 @@ pub record Does (code : RawCode) (r : RawRoutine) (i : Instruction) (e : Effect)
   pub effect : instruction_effect code r i value other ≡ Some e
 
 -- it goes on at the line that follows as it says, in that context
-pub record Ahead (code : RawCode) (r : RawRoutine) (at context : ℕ) (i : Instruction) (puts : Option (List Letter)) (rest : List Letter) : Type 0 where
-  pub target : (not (line_falls_through code r i) || is_there r.lines (suc at)) ≡ true
-  pub inside : (not (line_falls_through code r i) || is_in context (line_at r (suc at))) ≡ true
+pub record Ahead (r : RawRoutine) (at context : ℕ) (i : Instruction) (puts : Option (List Letter)) (rest : List Letter) : Type 0 where
+  pub target : (not (falls_through i) || is_there r.lines (suc at)) ≡ true
+  pub inside : (not (falls_through i) || is_in context (line_at r (suc at))) ≡ true
   pub stated : stated_fall_through r at puts rest ≡ true
 
-pub goes-fall_through : {code : RawCode} {r : RawRoutine} {at context : ℕ} {puts rest : List Letter} (i : Instruction) → Follows r (suc at) context (puts ++ rest) → Ahead code r at context i (Some puts) rest
-goes-fall_through {code} {r} {at} {context} i f = record {
-  target = or_second (not (line_falls_through code r i)) (is_there r.lines (suc at)) (follows-there f);
-  inside = or_second (not (line_falls_through code r i)) (is_in context (line_at r (suc at))) (follows-inside f);
+pub goes-fall_through : {r : RawRoutine} {at context : ℕ} {puts rest : List Letter} (i : Instruction) → Follows r (suc at) context (puts ++ rest) → Ahead r at context i (Some puts) rest
+goes-fall_through {r} {at} {context} i f = record {
+  target = or_second (not (falls_through i)) (is_there r.lines (suc at)) (follows-there f);
+  inside = or_second (not (falls_through i)) (is_in context (line_at r (suc at))) (follows-inside f);
   stated = follows-stated f;
 }
 
-pub never-fall_through : {code : RawCode} {r : RawRoutine} {at context : ℕ} {rest : List Letter} (i : Instruction) → line_falls_through code r i ≡ false → Ahead code r at context i None rest
-never-fall_through {code} {r} {at} {context} i h = record {
+pub never-fall_through : {r : RawRoutine} {at context : ℕ} {rest : List Letter} (i : Instruction) → falls_through i ≡ false → Ahead r at context i None rest
+never-fall_through {r} {at} {context} i h = record {
   target = ap (λ b. not b || is_there r.lines (suc at)) h;
   inside = ap (λ b. not b || is_in context (line_at r (suc at))) h;
   stated = refl;
@@ -189,18 +189,18 @@ stack-follows : {code : RawCode} {r : RawRoutine} (at : ℕ) (l : CodeLine) (e :
     → stated_fall_through r at e.fall_through rest ≡ true → stated_branch r e.branching rest ≡ true → stack_follows code r at l ≡ true
 stack-follows {code} {r} at l e rest d s a b =
     let test : Letter → Letter → Bool = λ k x. follows_with r at (reverse l.stack) (instruction_effect code r l.instruction k x) in
-    both d.fits (some_value-has (λ k. some_letter (test k)) d.value d.is_value (some_letter-has (test d.value) d.other
-    (ap (follows_with r at (reverse l.stack)) d.effect ∙ ap (λ t. follows_with r at t (Some e)) s ∙ ap (λ o. stated_after r at e o) (left_of-taken e.takes rest) ∙ both a b)))
+    both d.fits (or_second (lacks_result code r (reverse l.stack) l.instruction) (some_value (λ k. some_letter (test k))) (some_value-has (λ k. some_letter (test k)) d.value d.is_value (some_letter-has (test d.value) d.other
+    (ap (follows_with r at (reverse l.stack)) d.effect ∙ ap (λ t. follows_with r at t (Some e)) s ∙ ap (λ o. stated_after r at e o) (left_of-taken e.takes rest) ∙ both a b))))
 
 -- a line is free of faults
 pub line-well_formed : {code : RawCode} {r : RawRoutine} {at following : ℕ} (l : CodeLine) (e : Effect) (rest : List Letter) → line_at r at ≡ Some l → Follows r 0 0 [] → context_there r l.context ≡ true
     → Does code r l.instruction e → is_bare l ≡ true → stands_well_formed r l l.instruction ≡ true → context_after r l l.instruction ≡ following → reverse l.stack ≡ e.takes ++ rest
-    → Resumes r at l → Ahead code r at following l.instruction e.fall_through rest → Away r at l.context l.instruction e.branching rest → line_fault code r at l ≡ None
+    → Resumes r at l → Ahead r at following l.instruction e.fall_through rest → Away r at l.context l.instruction e.branching rest → line_fault code r at l ≡ None
 line-well_formed {code} {r} {at} {following} l e rest q first known d bare stands goes s resumes fall_through branching = rules_hold _ _ _ _ _ _ _
     (both known d.names)
     (both resumes.target (both branching.target fall_through.target))
     (both bare (stack-follows at l e rest d s fall_through.stated branching.stated))
-    (both (first-well_formed at l first q) (both stands (both (ap (λ k. not (line_falls_through code r l.instruction) || is_in k (line_at r (suc at))) goes ∙ fall_through.inside) branching.inside)))
+    (both (first-well_formed at l first q) (both stands (both (ap (λ k. not (falls_through l.instruction) || is_in k (line_at r (suc at))) goes ∙ fall_through.inside) branching.inside)))
     resumes.right
     branching.turn
     d.place

@@ -84,7 +84,7 @@ grows-after {w} {v} g = omega (arith, ap length g.lines.is, length-append w.line
 
 module _ {code : RawCode} {r : RawRoutine} {context resume : ℕ} (first : Follows r 0 0 []) (known : context_there r context ≡ true) (ends : Ends r resume context) where
   pub written-free : (i : Instruction) (e : Effect) (rest : List Letter) (w : Written) → BeginsWith (w.lines ++ line_of context (Some resume) i w ∷ []) r.lines → Does code r i e → Calm r i → w.stack ≡ e.takes ++ rest → here w < resume
-      → Ahead code r (here w) context i e.fall_through rest → Away r (here w) context i e.branching rest → Free code r (here w) (suc (here w))
+      → Ahead r (here w) context i e.fall_through rest → Away r (here w) context i e.branching rest → Free code r (here w) (suc (here w))
   written-free i e rest w b d calm s h fall_through branching =
       let l : CodeLine = line_of context (Some resume) i w in
       let there : line_at r (here w) ≡ Some l = there_at w.lines b in

@@ -19,7 +19,6 @@ use Rattle.psm_code.specs.declared.instruction.Instruction.TheVariants as instru
 use Rattle.psm_code.specs.Instructions.{last, letters_of_query, of_routine, parameter_letters, procedure_effect, putting}
 use Rattle.psm_code.specs.Parts.{giving, routine_at}
 use Rattle.psm_code.specs.Rules.{is_some, is_there, there, where_there}
-use Rattle.psm_code.specs.RoutineRules.{falls_through}
 use Rattle.psm_meaning.specs.Calls.{returns}
 use Rattle.psm_simulation.specs.Scheme.{slots_given}
 use Rattle.psm_codegen.specs.declared.known.Known.{Known}
@@ -64,7 +63,7 @@ module _ {e : TypingContext} {known : Known} {code : RawCode} {r : RawRoutine} {
       let one : WellFormedLines code r context resume w v (k ∷ w.stack) = source-part keeps (subst (λ l. Writes known context resume l x w v) known_result a) s o in
       well_formed-then one (last-well_formed instruction.ReturnValue (codes "RETV") k [] v
       (record { names = refl; place = is.kind ∙ ap returns h; fits = refl; value = N; other = B; is_value = refl; effect = ap (option_map (λ u. last (codes "RETV") (letter_of u ∷ []))) type })
-      (record { stands = refl; right = λ l. refl; following = λ l. refl }) refl (ap (λ o. falls_through (option_map (λ u. last (codes "RETV") (letter_of u ∷ [])) o)) type) (one.stack ∙ ap (λ z. k ∷ z) q))
+      (record { stands = refl; right = λ l. refl; following = λ l. refl }) refl refl (one.stack ∙ ap (λ z. k ∷ z) q))
 
   -- CALL stands in a procedure
   pub call-statement : (n : ℕ) (args : List ResolvedArgument) (ps : List ResolvedParameter) (p : FunctionBuilder) (w : Written) → CallArguments known context resume (letters_at known.takes n) 0 args (cleared context p) w

@@ -15,7 +15,7 @@ use Rattle.psm_code.specs.declared.instruction.Instruction.TheVariants as instru
 use Rattle.psm_code.specs.declared.lines.CodeLine.{CodeLine}
 use Rattle.psm_code.specs.Instructions.{last}
 use Rattle.psm_code.specs.Rules.{is_some}
-use Rattle.psm_code.specs.RoutineRules.{context_after, jump_of, line_falls_through, stands_alone, stands_well_formed}
+use Rattle.psm_code.specs.RoutineRules.{context_after, falls_through, jump_of, stands_alone, stands_well_formed}
 use Rattle.psm_resolved.specs.declared.expr.ResolvedExpr.{ResolvedExpr}
 use Rattle.psm_codegen.specs.declared.known.Known.{Known}
 use Rattle.psm_codegen.specs.Exprs.{Arguments, Writes}
@@ -109,7 +109,7 @@ module _ {code : RawCode} {r : RawRoutine} {context resume : ℕ} where
       }
 
   -- an instruction that takes an operand, and after which the routine ends
-  pub last-well_formed : (i : Instruction) (name : List ℕ) (k : Letter) (s : List Letter) (w : Written) → Does code r i (last name (k ∷ [])) → Calm r i → jump_of i ≡ None → line_falls_through code r i ≡ false → w.stack ≡ k ∷ s
+  pub last-well_formed : (i : Instruction) (name : List ℕ) (k : Letter) (s : List Letter) (w : Written) → Does code r i (last name (k ∷ [])) → Calm r i → jump_of i ≡ None → falls_through i ≡ false → w.stack ≡ k ∷ s
       → WellFormedLines code r context resume w (takes context resume i 1 w) s
   last-well_formed i name k s w d calm stays never q =
       let next = here-takes context resume i 1 w in

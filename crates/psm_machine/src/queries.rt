@@ -12,7 +12,6 @@ ghost use Rattle.psm_machine.specs.Over.{DoesOver};
 use crate::operands::put;
 use crate::stop::{Stop, stop_at};
 use crate::table_statements::part_of;
-use crate::variables::warn_of;
 use psm_code::RawRoutine;
 use psm_exprcode::{Operand, Query};
 use psm_query::{Answer, rows};
@@ -61,7 +60,7 @@ pub fn scalar<S: Store>(
 }
 
 /// Puts the items of the one row of a query on the operands, the first of them on top. 02000 comes where there is no row, and
-/// 21000 where there are more. Nulls that a set function skipped make the warning 01003 pending, unless there is one.
+/// 21000 where there are more. Nulls that a set function skipped make the warning 01003 pending, in place of any other.
 pub fn select_row<S: Store>(
     alloc: Global,
     routine: &RawRoutine,
@@ -150,13 +149,13 @@ fn only_row(alloc: Global, rows: Vec<Row>) -> Result<Row, Stop>
     }
 }
 
-// Nulls that a set function skipped are a warning.
+// Nulls that a set function skipped are a warning, in place of one that is pending.
 fn skip(run: &mut Run, skipped: bool)
     ensures due { Does (skipping skipped) run.old (Ok tt) run.new }
     ensures same { SameFrames run.old run.new }
 {
     if skipped {
-        warn_of(run, SqlState::NULL_ELIMINATED);
+        run.pending = Some(SqlState::NULL_ELIMINATED);
     }
 }
 

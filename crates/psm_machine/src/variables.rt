@@ -120,8 +120,8 @@ fn lose(run: &mut Run, is_cut: bool)
     }
 }
 
-/// Makes a warning pending, unless there is one.
-pub(crate) fn warn_of(run: &mut Run, state: SqlState)
+// Makes a warning pending, unless there is one.
+fn warn_of(run: &mut Run, state: SqlState)
     ensures due { Does (change (warning state)) run.old (Ok tt) run.new }
     ensures same { SameFrames run.old run.new }
 {

@@ -140,7 +140,7 @@ selected eval_context slots rows skipped = acts.◌>>=◌ (meaning.only_row rows
 
 row-put : (code : RawCode) (spot : Spot) (pc : ℕ) (st : State) (row : List Datum) (skipped : Bool) → after_line code (selecting (row ∷ []) skipped) (machine spot pc [] st) ≡ pending_at spot (suc pc) (on_top row []) (skipping_as skipped) st
 row-put code spot pc st row true =
-    ap (λ came. let c = steps.go_on came.given (λ u. steps.got code_rows.fall_through) came.machine in settled code c.given c.machine) (put-values row (code_state.warning (codes "01003") (machine spot pc [] st)))
+    ap (λ came. let c = steps.go_on came.given (λ u. steps.got code_rows.fall_through) came.machine in settled code c.given c.machine) (put-values row (record (machine spot pc [] st) { pending = Some (codes "01003") }))
 row-put code spot pc st row false = ap (λ came. let c = steps.go_on came.given (λ u. steps.got code_rows.fall_through) came.machine in settled code c.given c.machine) (put-values row (machine spot pc [] st))
 
 select-evaluates : (code : RawCode) (r : RawRoutine) (k following : ℕ) (spot : Spot) (m : Meaning) (eval_context : EvalContext) → routine_at code spot.number ≡ Some r → slots_of r ≡ eval_context.routine.slots → (slots : List ℕ) (pc mid : ℕ) (i : Instruction) → Raising r k following pc i

@@ -301,8 +301,8 @@ clean_line code r base (k ∷ ls) (suc i) l h e =
 jumps_well_formed : (code : RawCode) (r : RawRoutine) (at : ℕ) (l : CodeLine) → WellFormedRoutineCode code r → line_at r at ≡ Some l → where_there (jump_of l.instruction) (uses_turn r at) ≡ true
 jumps_well_formed code r at l g e =
     let z : 0 + at ≡ at = omega arith in
-    first_six (unless (rules.context_there r l.context && rules.names_there code r l.instruction) codes_of.Range) (unless (rules.are_targets code r at l) codes_of.Target) (unless (rules.is_bare l && rules.stack_follows code r at l) codes_of.Stack)
-    (unless (rules.is_first_well_formed at l && (rules.stands_well_formed r l l.instruction && rules.contexts_follow code r at l)) codes_of.Context) (unless (rules.resumes_well_formed r at l) codes_of.Resume)
+    first_six (unless (rules.context_there r l.context && rules.names_there code r l.instruction) codes_of.Range) (unless (rules.are_targets r at l) codes_of.Target) (unless (rules.is_bare l && rules.stack_follows code r at l) codes_of.Stack)
+    (unless (rules.is_first_well_formed at l && (rules.stands_well_formed r l l.instruction && rules.contexts_follow r at l)) codes_of.Context) (unless (rules.resumes_well_formed r at l) codes_of.Resume)
     (where_there (jump_of l.instruction) (uses_turn r at)) (unless (rules.may_stand code r l.instruction) codes_of.Place ∷ []) (ap (λ j. line_fault code r j l) (sym z) ∙ clean_line code r 0 r.lines at l g.lines e)
 
 turn_only : (i : Instruction) → is_turn i ≡ true → i ≡ instruction.Turn

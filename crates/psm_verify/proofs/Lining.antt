@@ -36,17 +36,17 @@ apart code r at l =
     let follow : Bool = stack_follows code r at l in
     ap (λ b. first_of (
     unless (context_there r l.context && names_there code r l.instruction) Range
-    ∷ unless (are_targets code r at l) Target
+    ∷ unless (are_targets r at l) Target
     ∷ unless ((not (stands_alone l.instruction) || not (is_some (reverse l.stack))) && b) Stack
-    ∷ unless (first_right at l.context (reverse l.stack) && (stands_well_formed r l l.instruction && contexts_follow code r at l)) Context
+    ∷ unless (first_right at l.context (reverse l.stack) && (stands_well_formed r l l.instruction && contexts_follow r at l)) Context
     ∷ unless (resumes_well_formed r at l) Resume
     ∷ unless (where_there (jump_of l.instruction) (uses_turn r at)) Turn
     ∷ unless (may_stand code r l.instruction) Place ∷ [])) (sym (follows_is_split code r at (reverse l.stack) l.instruction))
     ∙ ap (λ b. first_of (
     unless (context_there r l.context && names_there code r l.instruction) Range
-    ∷ unless (are_targets code r at l) Target
+    ∷ unless (are_targets r at l) Target
     ∷ unless ((not (stands_alone l.instruction) || not b) && follow) Stack
-    ∷ unless ((not (nat_eq at 0) || (nat_eq l.context 0 && not b)) && (stands_well_formed r l l.instruction && contexts_follow code r at l)) Context
+    ∷ unless ((not (nat_eq at 0) || (nat_eq l.context 0 && not b)) && (stands_well_formed r l l.instruction && contexts_follow r at l)) Context
     ∷ unless (resumes_well_formed r at l) Resume
     ∷ unless (where_there (jump_of l.instruction) (uses_turn r at)) Turn
     ∷ unless (may_stand code r l.instruction) Place ∷ [])) (some_reversed l.stack)

@@ -1,27 +1,13 @@
 -- Rows of operands, and the letters of columns.
-use Rattle.std.proofs.Common.{◌≡◌, ℕ, zero, suc, ◌-◌, ◌<◌, ◌&&◌, List, [], ◌∷◌, ◌++◌, append_assoc, refl, ap, sym, ◌∙◌, arith, Option, Some, None}
+use Rattle.std.proofs.Common.{◌≡◌, ℕ, zero, suc, ◌-◌, ◌<◌, List, [], ◌∷◌, ◌++◌, append_assoc, refl, ap, sym, ◌∙◌, arith, Option, Some, None}
 use Rattle.std.specs.Prelude.{replicate, reverse, slice_get}
 use Rattle.std.specs.List.{flat_map}
 use Rattle.std.proofs.lemmas.List.{append-nil, reverse-append}
 use Rattle.psm_exprcode.specs.declared.op.Letter.{Letter}
 use Rattle.psm_exprcode.specs.WellFormed.{left_of}
 use Rattle.psm_exprcode.proofs.Stripping.{left_below_none, left_below_some}
-use Rattle.psm_code.specs.Instructions.{letters_at, values_letters, with_letter}
-use Rattle.psm_code.specs.Rules.{there}
-use Rattle.psm_code.specs.TableRules.{are_there}
+use Rattle.psm_code.specs.Instructions.{letters_at, with_letter}
 use Rattle.psm_verify.specs.Moves.{given_rows, prepend}
-
-pub values_there : (rows : ℕ) (o : Option (List Letter)) → there (values_letters rows o) ≡ there o
-values_there rows None = refl
-values_there rows (Some ls) = refl
-
-pub row_there : (letters : List Letter) (columns : List ℕ) → there (letters_at letters columns) ≡ are_there letters columns
-row_there letters [] = refl
-row_there letters (c ∷ cs) = by (slice_get letters c) (letters_at letters cs) (row_there letters cs) where
-  by : (m : Option Letter) (o : Option (List Letter)) → there o ≡ are_there letters cs → there (with_letter m o) ≡ (there m && are_there letters cs)
-  by None o h = refl
-  by (Some l) None h = h
-  by (Some l) (Some ls) h = h
 
 -- ---- letters of columns one after another
 

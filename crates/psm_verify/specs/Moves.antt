@@ -1,9 +1,7 @@
 -- What an instruction does to the operands, as the verifier holds it, without its name.
-use Rattle.std.specs.Prelude.{ℕ, Bool, false, ◌&&◌, List, [], ◌++◌, Option, Some, None, option_map, replicate, slice_get}
+use Rattle.std.specs.Prelude.{ℕ, Bool, false, ◌&&◌, ◌||◌, List, [], ◌++◌, Option, Some, None, option_map, replicate, slice_get}
 use Rattle.std.specs.List.{flat_map}
-use Rattle.psm_exprcode.specs.declared.op.Letter.TheVariants.{N}
 use Rattle.psm_exprcode.specs.Kinds.{some_letter, some_value}
-use Rattle.psm_code.specs.Rules.{there}
 use Rattle.psm_exprcode.specs.declared.op.Letter.{Letter}
 use Rattle.psm_exprcode.specs.Operations as table
 use Rattle.psm_exprcode.specs.Table.{letters_of}
@@ -13,7 +11,7 @@ use Rattle.psm_code.specs.declared.code.RawRoutine.{RawRoutine}
 use Rattle.psm_code.specs.declared.instruction.Instruction.{Instruction}
 use Rattle.psm_code.specs.declared.instruction.Instruction.TheVariants.{Data}
 use Rattle.psm_code.specs.Instructions.{instruction_effect, of_plan, plan_letters}
-use Rattle.psm_code.specs.RoutineRules.{constant_fits, stated_fall_through, stated_branch}
+use Rattle.psm_code.specs.RoutineRules.{constant_fits, lacks_result, stated_fall_through, stated_branch}
 use Rattle.psm_verify.specs.declared.effects.Effect.{Effect}
 use Rattle.psm_verify.specs.declared.effects.Run.{Run}
 use Rattle.psm_verify.specs.declared.effects.Run.TheVariants.{Few, Items}
@@ -57,10 +55,6 @@ moves_after r at m (Some rest) = stated_fall_through r at m.fall_through rest &&
 abbrev pub moves_follow : RawRoutine → ℕ → List Letter → Moves → Bool
 moves_follow r at s m = moves_after r at m (left_of m.takes s)
 
-abbrev pub moves_fall_through : Option Moves → Bool
-moves_fall_through None = false
-moves_fall_through (Some m) = there m.fall_through
-
 abbrev pub optional_follow : RawRoutine → ℕ → List Letter → Option Moves → Bool
 optional_follow r at s None = false
 optional_follow r at s (Some m) = moves_follow r at s m
@@ -73,15 +67,10 @@ abbrev pub plan_follows : RawRoutine → ℕ → List Letter → Option (List Le
 plan_follows r at s None = false
 plan_follows r at s (Some ls) = moves_follow r at s (record { takes = ls; fall_through = Some []; branching = None })
 
--- whether an instruction may go on at the line that follows, by whether it changes rows
-abbrev pub fall_through_split : RawCode → RawRoutine → Instruction → Bool
-fall_through_split code r (Data p) = there (taken_by_plan code r p)
-fall_through_split code r i = moves_fall_through (moves_at code r i N N)
-
 -- whether the operands follow, by whether it changes rows
 abbrev pub follows_split : RawCode → RawRoutine → ℕ → List Letter → Instruction → Bool
 follows_split code r at s (Data p) = plan_follows r at s (taken_by_plan code r p)
-follows_split code r at s i = constant_fits i && some_value (λ k. some_letter (λ x. optional_follow r at s (moves_at code r i k x)))
+follows_split code r at s i = constant_fits i && (lacks_result code r s i || some_value (λ k. some_letter (λ x. optional_follow r at s (moves_at code r i k x))))
 
 -- n rows of operands, each with the last one first
 abbrev pub given_rows : ℕ → List Letter → List Letter

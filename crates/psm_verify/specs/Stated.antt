@@ -30,9 +30,9 @@ bare_before i operands = not (stands_alone i) || not (is_some operands)
 abbrev pub line_fault_with : RawCode → RawRoutine → ℕ → CodeLine → List Letter → Option CodeRule
 line_fault_with code r at l operands = first_of (
     unless (context_there r l.context && names_there code r l.instruction) Range
-    ∷ unless (are_targets code r at l) Target
+    ∷ unless (are_targets r at l) Target
     ∷ unless (bare_before l.instruction operands && follows_split code r at operands l.instruction) Stack
-    ∷ unless (first_right at l.context operands && (stands_well_formed r l l.instruction && contexts_follow code r at l)) Context
+    ∷ unless (first_right at l.context operands && (stands_well_formed r l l.instruction && contexts_follow r at l)) Context
     ∷ unless (resumes_well_formed r at l) Resume
     ∷ unless (where_there (jump_of l.instruction) (uses_turn r at)) Turn
     ∷ unless (may_stand code r l.instruction) Place ∷ [])

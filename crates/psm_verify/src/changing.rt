@@ -1,62 +1,23 @@
 //! Where the instructions of a routine go on, and with which operands.
-ghost use Rattle.std.specs.Prelude.{◌≡◌, ◌<◌, ◌&&◌, [], Some, None, length, reverse, option_map, slice_get, IfOk};
+ghost use Rattle.std.specs.Prelude.{◌≡◌, ◌<◌, ◌&&◌, ◌||◌, Some, None, length, reverse, option_map, slice_get, IfOk};
 ghost use Rattle.std.specs.Option.{option_copied};
 ghost use Rattle.psm_exprcode.specs.declared.op.Letter.TheVariants.{N};
 ghost use Rattle.psm_exprcode.specs.Kinds.{some_letter, some_value};
 ghost use Rattle.psm_code.specs.declared.instruction.Instruction.TheVariants as instruction;
 ghost use Rattle.psm_exprcode.specs.WellFormed.{left_of};
 ghost use Rattle.psm_code.specs.Instructions as instructions;
-ghost use Rattle.psm_code.specs.Rules.{there};
+ghost use Rattle.psm_code.specs.Parts.{routine_at};
 ghost use Rattle.psm_code.specs.RoutineRules as routines;
-ghost use Rattle.psm_verify.specs.Moves.{fall_through_split, follows_split, given_rows, moves_fall_through, moves_at, optional_follow, plan_follows, taken_by_plan};
+ghost use Rattle.psm_verify.specs.Moves.{follows_split, given_rows, moves_at, optional_follow, plan_follows, taken_by_plan};
 
 use crate::effects::{follows, goes_on, left_by};
 use crate::instructions::{none, plain};
-use crate::numbers::are_there;
 use crate::verify_context::VerifyContext;
 use psm_code::{Instruction, Plan};
 use psm_exprcode::{Letter, Op};
 use std::alloc::{AllocError, Global};
 
 impl<'a> VerifyContext<'a> {
-    /// Whether an instruction may go on at the line that follows.
-    pub(crate) fn falls_through(&self, instruction: &Instruction) -> bool
-        ensures { result ≡ fall_through_split self.now.code.now self.now.routine.now instruction.now }
-    {
-        match instruction {
-            Instruction::Data(plan) => self.is_plan(*plan),
-            _ => self.effect_falls_through(instruction),
-        }
-    }
-
-    fn effect_falls_through(&self, instruction: &Instruction) -> bool
-        ensures { result ≡ moves_fall_through (moves_at self.now.code.now self.now.routine.now instruction.now N N) }
-    {
-        match self.effect(instruction, Letter::N, Letter::N) {
-            Some(effect) => effect.fall_through.is_some(),
-            None => false,
-        }
-    }
-
-    fn is_plan(&self, plan: u32) -> bool
-        ensures { result ≡ there (taken_by_plan self.now.code.now self.now.routine.now plan) }
-    {
-        match self.routine.plans.items().get(plan as usize) {
-            Some(plan) => self.has_letters(plan),
-            None => false,
-        }
-    }
-
-    #[tactic(auto, using(crate::proofs::Rows::values_there))]
-    fn has_letters(&self, plan: &Plan) -> bool
-        ensures { result ≡ there (instructions.plan_letters self.now.code.now plan.now) }
-    {
-        match plan {
-            Plan::Insert { table, columns, .. } => self.has_row(*table, columns.items()),
-            _ => true,
-        }
-    }
-
     // The letters of the columns of a table, if it is there.
     #[tactic(auto, using(crate::proofs::Each::known_at))]
     fn table_letters(&self, table: u32) -> Option<&'a [Letter]>
@@ -65,15 +26,6 @@ impl<'a> VerifyContext<'a> {
         match self.columns.get(table as usize) {
             Some(letters) => Some(letters.items()),
             None => None,
-        }
-    }
-
-    fn has_row(&self, table: u32, columns: &[u32]) -> bool
-        ensures { result ≡ there (instructions.letters_in columns.now (instructions.table_letters self.now.code.now table)) }
-    {
-        match self.table_letters(table) {
-            Some(letters) => is_row(letters, columns),
-            None => false,
         }
     }
 
@@ -104,15 +56,42 @@ impl<'a> VerifyContext<'a> {
         instruction: &Instruction,
     ) -> Result<bool, AllocError>
         requires { at < length self.now.routine.now.lines }
-        ensures { IfOk result (λ b. b ≡ (routines.constant_fits instruction.now && some_value (λ k. some_letter (λ x. optional_follow self.now.routine.now at operands.now (moves_at self.now.code.now self.now.routine.now instruction.now k x))))) }
+        ensures { IfOk result (λ b. b ≡ (routines.constant_fits instruction.now && (routines.lacks_result self.now.code.now self.now.routine.now operands.now instruction.now || some_value (λ k. some_letter (λ x. optional_follow self.now.routine.now at operands.now (moves_at self.now.code.now self.now.routine.now instruction.now k x)))))) }
     {
         if !constant_fits(instruction) {
             return Ok(false);
+        }
+        if self.lacks_result(operands, instruction) {
+            return Ok(true);
         }
         if self.follows_for(alloc, at, operands, instruction, Letter::N)? {
             return Ok(true);
         }
         self.follows_for(alloc, at, operands, instruction, Letter::T)
+    }
+
+    // A routine without a type has no letter of a result, so none is asked. The operands of its parameters are.
+    fn lacks_result(&self, operands: &[Letter], instruction: &Instruction) -> bool
+        ensures { result ≡ routines.lacks_result self.now.code.now self.now.routine.now operands.now instruction.now }
+    {
+        match instruction {
+            Instruction::ReturnValue => self.routine.returns.is_none(),
+            Instruction::FunctionCall(number) => self.takes_untyped(operands, *number),
+            _ => false,
+        }
+    }
+
+    #[tactic(auto, using(crate::proofs::Each::known_at))]
+    fn takes_untyped(&self, operands: &[Letter], number: u32) -> bool
+        ensures { result ≡ routines.takes_untyped operands.now (routine_at self.now.code.now number) }
+    {
+        let Some(call) = self.calls.get(number as usize) else {
+            return false;
+        };
+        let Some(routine) = self.code.routines.items().get(number as usize) else {
+            return false;
+        };
+        routine.returns.is_none() && left_by(operands, call.all.items()).is_some()
     }
 
     // The same for a value of that letter where it may be of either kind.
@@ -245,13 +224,6 @@ impl<'a> VerifyContext<'a> {
             None => Ok(false),
         }
     }
-}
-
-#[tactic(auto, using(crate::proofs::Rows::row_there))]
-fn is_row(letters: &[Letter], columns: &[u32]) -> bool
-    ensures { result ≡ there (instructions.letters_at letters.now columns.now) }
-{
-    are_there(letters, columns)
 }
 
 fn letter_at(letters: &[Letter], column: u32) -> Option<Letter>

@@ -15,8 +15,8 @@ use crate::verify_context::VerifyContext;
 use psm_code::{CodeRule, Instruction, RawRoutine};
 use psm_exprcode::Letter;
 use psm_verify_line::{
-    context_after, is_in, is_target, jump_of, jumps_right, jumps_within, resumes_at, stands_right,
-    wants_resume,
+    context_after, falls_through, is_in, is_target, jump_of, jumps_right, jumps_within, resumes_at,
+    stands_right, wants_resume,
 };
 use std::alloc::{AllocError, Global};
 
@@ -117,21 +117,14 @@ impl<'a> VerifyContext<'a> {
         context_there(self.routine, line.context) && self.names_there(line.instruction)
     }
 
-    #[tactic(auto, using(crate::proofs::Splits::fall_through_is_split))]
-    fn may_go_fall_through(&self, instruction: &Instruction) -> bool
-        ensures { result ≡ routines.line_falls_through self.now.code.now self.now.routine.now instruction.now }
-    {
-        self.falls_through(instruction)
-    }
-
     // Where the run goes on there is a line.
     fn targets_right(&self, at: usize, line: &StatedLine<'_>) -> bool
         requires { at < length self.now.routine.now.lines }
-        ensures { result ≡ routines.are_targets self.now.code.now self.now.routine.now at (bare line.now) }
+        ensures { result ≡ routines.are_targets self.now.routine.now at (bare line.now) }
     {
         is_target(self.routine, line.resume)
             && is_target(self.routine, jump_of(line.instruction))
-            && (!self.may_go_fall_through(line.instruction) || self.has_next(at))
+            && (!falls_through(line.instruction) || self.has_next(at))
     }
 
     fn has_next(&self, at: usize) -> bool
@@ -144,7 +137,7 @@ impl<'a> VerifyContext<'a> {
 
     fn context_right(&self, at: usize, line: &StatedLine<'_>, operands: &[Letter]) -> bool
         requires { at < length self.now.routine.now.lines }
-        ensures { result ≡ (first_right at line.now.context operands.now && (routines.stands_well_formed self.now.routine.now (bare line.now) line.now.instruction.now && routines.contexts_follow self.now.code.now self.now.routine.now at (bare line.now))) }
+        ensures { result ≡ (first_right at line.now.context operands.now && (routines.stands_well_formed self.now.routine.now (bare line.now) line.now.instruction.now && routines.contexts_follow self.now.routine.now at (bare line.now))) }
     {
         is_first_right(at, line.context, operands)
             && stands_right(self.routine, line.context, line.instruction)
@@ -153,9 +146,9 @@ impl<'a> VerifyContext<'a> {
 
     fn contexts_follow(&self, at: usize, line: &StatedLine<'_>) -> bool
         requires { at < length self.now.routine.now.lines }
-        ensures { result ≡ routines.contexts_follow self.now.code.now self.now.routine.now at (bare line.now) }
+        ensures { result ≡ routines.contexts_follow self.now.routine.now at (bare line.now) }
     {
-        (!self.may_go_fall_through(line.instruction) || self.goes_on_in(at, line))
+        (!falls_through(line.instruction) || self.goes_on_in(at, line))
             && jumps_within(self.routine, line.context, jump_of(line.instruction))
     }
 

@@ -1,4 +1,4 @@
-//! Lines at which the run goes on instead of the line that follows.
+//! Whether the run goes on at the line that follows, and the lines at which it goes on instead.
 ghost use Rattle.std.specs.Prelude.{◌≡◌};
 ghost use Rattle.psm_code.specs.declared.instruction.Instruction.TheVariants as instruction;
 ghost use Rattle.psm_code.specs.Parts as parts;
@@ -7,6 +7,21 @@ ghost use Rattle.psm_code.specs.RoutineRules as routines;
 
 use psm_code::{Instruction, RawRoutine};
 use psm_exprcode::Op;
+
+/// Whether an instruction may go on at the line that follows.
+pub fn falls_through(instruction: &Instruction) -> bool
+    ensures { result ≡ routines.falls_through instruction.now }
+{
+    match instruction {
+        Instruction::Operation(op) => !matches!(op, Op::Jump(_)),
+        Instruction::EndAction(_)
+        | Instruction::ReturnValue
+        | Instruction::End
+        | Instruction::NoReturn
+        | Instruction::NoCase => false,
+        _ => true,
+    }
+}
 
 /// The line at which an instruction may go on instead of the one that follows.
 pub fn jump_of(instruction: &Instruction) -> Option<u32>

@@ -8,6 +8,6 @@ mod operands;
 mod resumes;
 
 pub use contexts::{context_after, is_action_of, is_block, is_in, jumps_within, stands_right};
-pub use jumps::{is_target, jump_of, jumps_right};
+pub use jumps::{falls_through, is_target, jump_of, jumps_right};
 pub use operands::{are_same, are_stated, is_known, left};
 pub use resumes::{is_bare, resumes_at, wants_resume};
