@@ -4,10 +4,11 @@
 In a document an example is a block `sql module`, maybe a block `sql script`, and a block `text output`. A line `--   ^` marks
 the place of the fault in the line above it. `sql script turns N` gives the turns. A module stands until the next one, and so does a script
 over it. A block `text listing` is what the module compiles to. A block `text object` stands in place of a module, and scripts are run
-over it by `exec`. In the tutorial each block is of these, or `sh` or `yaml`.
+over it by `exec`. A block `text command` is a call of `psm` without files. In the tutorial each block is of these, or `sh` or `yaml`.
 
 Each example with a module and a script is run twice: by `run`, and by `exec` over what `compile` prints, which has to give the same
-bytes and the same status. PSM_PROGRAM names the program; else one `rt try` runs all, and another what `compile` printed.
+bytes and the same status. PSM_PROGRAM names the program; else `rt try` builds one without a proof. The examples of each page, and those
+of the folders, are told of as they are run.
 """
 import collections
 import os
@@ -31,16 +32,27 @@ PAGES = (
     "README.md",
 )
 TUTORIAL = PAGES[0]
+CAUSES = ".ci/causes.txt"
 # By the second word of a block with code, what runs a script over it.
 COMMANDS = {"module": "run", "object": "exec"}
-# Where it stands, the command, its two texts (a module file or an object, and a script), the turns, and what is told of this status
-# and output, if anything.
+USAGE = "usage: psm run M S [--turns N] | psm compile M | psm exec O S [--turns N] | psm gen N\n"
+# What `gen` prints, by its argument.
+GENERATED = {
+    "0": "CALLS 0\nTURNS 0\nROW 0, NULL\n",
+    "1": "CALLS 1\nTURNS 1\nROW 1, 1\n",
+    "97": "CALLS 97\nTURNS 97\nROW 97, 4753\n",
+    "98": "CALLS 98\nTURNS 99\nROW 97, 4851\n",
+    "200": "CALLS 200\nTURNS 303\nROW 97, 20100\n",
+    **{it: USAGE for it in ("200001", "999999", "1000000", "00", "07", "-1", "+1", "1.0", "x", "0x10")},
+}
+# Where it stands, the command, its two texts (a module file, an object or arguments, and a script), the turns, and what is told of
+# this status and output, if anything.
 Case = collections.namedtuple("Case", "name command code script turns judge")
 
 
 def status_due(output):
     """Returns the status of a run that prints this."""
-    for start, status in (("module ", 4), ("script ", 5), ("object ", 8)):
+    for start, status in (("usage: ", 1), ("module ", 4), ("script ", 5), ("object ", 8)):
         if output.startswith(start):
             return status
     return 6 if output.endswith("TURNS USED\n") else 0
@@ -78,6 +90,8 @@ def cases_of(page):
         name = f"{page}:{block.line}"
         if words[:2] in (["sql", "module"], ["text", "object"]):
             command, code, script, turns, used = COMMANDS[words[1]], block.text, "", None, False
+        elif words[:2] == ["text", "command"]:
+            command, code, script, turns, used = "arguments", block.text.strip()[len("psm ") :], "", None, False
         elif words[:2] == ["sql", "script"]:
             script, used = block.text, False
             turns = words[3] if words[2:3] == ["turns"] else None
@@ -96,7 +110,7 @@ def cases_of(page):
 
 
 def cause(number, line):
-    """Returns the case of a line of causes.txt."""
+    """Returns the case of a line of the causes."""
     told, _, text = line.partition(" | ")
     column = text.index("»") + 1
     text = text.replace("»", "")
@@ -108,7 +122,12 @@ def cause(number, line):
         _, mend = refusals.help_for(found[4], text, 1, column)
         return None if told in mend else f"the help is: {mend}"
 
-    return Case(f".ci/causes.txt:{number}", "run", text, "", None, judge)
+    return Case(f"{CAUSES}:{number}", "run", text, "", None, judge)
+
+
+def generated():
+    """Returns the cases of `gen`."""
+    return [Case(f"gen {it}", "arguments", f"gen {it}", "", None, judge_output(output, None)) for it, output in GENERATED.items()]
 
 
 def judge_folder(differences, folder):
@@ -127,22 +146,24 @@ def examples():
     return found
 
 
-def all_cases():
-    found, wrong = examples(), []
+def groups():
+    """Returns the cases by where they stand, and what is wrong with the pages."""
+    found, wrong = [("examples", examples()), ("gen", generated())], []
     for page in PAGES:
         if exists(page):
             cases, faults = cases_of(page)
-            found, wrong = [*found, *cases], [*wrong, *faults]
+            found, wrong = [*found, (page, cases)], [*wrong, *faults]
         elif is_due(page):
             wrong.append(f"README.md names {page}, which is not there")
-    for number, line in enumerate(read(".ci/causes.txt").splitlines(), 1):
-        if line and not line.startswith("#"):
-            found.append(cause(number, line))
+    lines = enumerate(read(CAUSES).splitlines(), 1)
+    found.append((CAUSES, [cause(number, line) for number, line in lines if line and not line.startswith("#")]))
     return found, wrong
 
 
 def call(case, code, script):
     """Returns the arguments of a case with these files."""
+    if case.command == "arguments":
+        return case.code.split()
     if case.command == "compile":
         return folders.to_compile(code)
     return (folders.to_exec if case.command == "exec" else folders.to_run)(code, script, case.turns)
@@ -173,13 +194,24 @@ def run(cases):
     return told, len(written)
 
 
-def main():
-    cases, wrong = all_cases()
-    told, twice = run(cases)
-    wrong += told
+def tell(wrong):
     for it in wrong:
-        print(f"repository: {it}", file=sys.stderr)
-    print(f"{len(cases)} examples are run, {twice} of them over what is compiled too, and {len(wrong)} are wrong")
+        print(f"repository: {it}", file=sys.stderr, flush=True)
+
+
+def main():
+    found, wrong = groups()
+    tell(wrong)
+    if not folders.program():
+        # (rt try would build the program anew for each group)
+        found = [("all", [it for _, cases in found for it in cases])]
+    count = over_compiled = 0
+    for where, cases in found:
+        told, twice = run(cases)
+        tell(told)
+        print(f"{where}: {len(cases)} run, {twice} of them over what is compiled too, {len(told)} wrong", flush=True)
+        count, over_compiled, wrong = count + len(cases), over_compiled + twice, wrong + told
+    print(f"{count} examples are run, {over_compiled} of them over what is compiled too, and {len(wrong)} are wrong")
     return 1 if wrong else 0
 
 

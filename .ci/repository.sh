@@ -23,7 +23,7 @@ for example in examples/*/; do
 done
 
 # Each command of the launcher has its page.
-for command in run compile exec try test explain prove which install; do
+for command in run compile exec gen try test explain prove which install; do
     [ -f "launcher/help/$command.txt" ] || fault "launcher/help/$command.txt is missing"
     grep -q "psm $command" launcher/help/psm.txt || fault "launcher/help/psm.txt does not name psm $command"
 done

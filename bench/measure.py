@@ -69,6 +69,13 @@ def run(program, module, script, turns=None, runs=1):
         return min((once(program, folder, turns) for _ in range(runs)), key=lambda each: each.elapsed)
 
 
+def generated(program, calls, runs=1):
+    """The run of `gen` with so many calls that took the least time by the clock, of so many runs."""
+    with tempfile.TemporaryDirectory(prefix="psm-bench-") as folder:
+        words = [program, "gen", str(calls)]
+        return min((measured(folder, words) for _ in range(runs)), key=lambda each: each.elapsed)
+
+
 def listed(program, module, runs=1):
     """The run of `compile` on the module that took the least time by the clock, of so many runs, and the bytes of the listing."""
     with tempfile.TemporaryDirectory(prefix="psm-bench-") as folder:

@@ -2,7 +2,7 @@
 
 A folder holds module.sql, script.sql, expected.txt and maybe expected.status (0 where there is none) and turns. Where it holds
 listing.txt, module.sql is compiled too, and the script is run over what was compiled. Of another folder all such folders below it
-are run. PSM_PROGRAM names the program; without it all are run by one `rt try`, and those over what was compiled by another.
+are run. PSM_PROGRAM names the program; without it `rt try` builds one without a proof.
 """
 import concurrent.futures
 import difflib
@@ -70,19 +70,24 @@ def to_exec(object_file, script, turns):
     return ["exec", object_file, script, *bound(turns)]
 
 
-def run_one(program, words):
-    ran = subprocess.run([program, *words], stdin=subprocess.DEVNULL, stdout=subprocess.PIPE)
+def run_one(path, words):
+    ran = subprocess.run([path, *words], stdin=subprocess.DEVNULL, stdout=subprocess.PIPE)
     return ran.returncode, ran.stdout.decode("utf-8", errors="surrogateescape")
 
 
+def program():
+    """Returns the path of the named program, or of one that is built without a proof, or None where rt try shows none."""
+    return os.environ.get("PSM_PROGRAM") or unproved.program()
+
+
 def run_all(calls):
-    """Returns the status and the output of each list of arguments, of the named program or without a proof."""
-    program = os.environ.get("PSM_PROGRAM")
-    if not program:
+    """Returns the status and the output of each list of arguments."""
+    path = program()
+    if not path:
         unproved.say_how_long("running all")
         return unproved.run_many(calls)
     with concurrent.futures.ThreadPoolExecutor(os.cpu_count()) as pool:
-        return list(pool.map(lambda it: run_one(program, it), calls))
+        return list(pool.map(lambda it: run_one(path, it), calls))
 
 
 def run_over(objects):

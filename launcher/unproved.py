@@ -1,12 +1,19 @@
 """Runs the program without a proof, by `rt try`: python3 unproved.py yes|no ARGUMENTS, where yes explains a refusal.
 
-The arguments are those of the program: run M S [--turns N], compile M or exec O S [--turns N].
+For many runs `program` builds it once.
+
+The arguments are those of the program: run M S [--turns N], compile M, exec O S [--turns N] or gen N.
 """
+import atexit
+import functools
+import glob
 import os
 import re
+import shutil
 import subprocess
 import sys
 import tempfile
+import time
 
 import refusals
 
@@ -23,12 +30,44 @@ def say(text):
 
 
 def say_how_long(what):
-    say(f"{what} without a proof: rt try compiles the program each time, in two to five minutes, longer on a busy machine")
+    say(f"{what} without a proof: rt try compiles the program first, in two to five minutes, longer on a busy machine")
+
+
+def keep_link(made, kept):
+    """Links the file where a program stands below the folder in which it is made, if one stands there."""
+    for path in glob.glob(f"{made}/*/*/program"):
+        try:
+            if not (os.path.isfile(kept) and os.path.samefile(path, kept)):
+                os.link(path, f"{kept}.new")
+                os.replace(f"{kept}.new", kept)
+        except FileNotFoundError:
+            # (it was removed in the meantime)
+            pass
+
+
+@functools.lru_cache(maxsize=None)
+def program():
+    """Builds the program without a proof, once, and returns its path, or None where rt try lets no program be seen.
+
+    rt try builds it as a file in a folder below TMPDIR, runs it there, which prints the usage line, and removes the folder. A link to
+    the file stays until this process ends.
+    """
+    say_how_long("building")
+    folder = tempfile.mkdtemp(prefix="psm-unproved-")
+    atexit.register(shutil.rmtree, folder, ignore_errors=True)
+    made, kept = f"{folder}/made", f"{folder}/psm"
+    os.mkdir(made)
+    how = {"stdin": subprocess.DEVNULL, "stdout": subprocess.DEVNULL, "stderr": subprocess.DEVNULL}
+    with subprocess.Popen(["rt", "try"], cwd=FOLDER, env={**os.environ, "TMPDIR": made}, **how) as building:
+        while building.poll() is None:
+            keep_link(made, kept)
+            time.sleep(0.01)
+    return kept if os.path.isfile(kept) else None
 
 
 def files_of(words):
     """Returns the files of a call, by the letters that stand for them in the usage line."""
-    return dict(zip("OS" if words[0] == "exec" else "MS", words[1:3]))
+    return {} if words[0] == "gen" else dict(zip("OS" if words[0] == "exec" else "MS", words[1:3]))
 
 
 def run(is_explained, words):
@@ -36,7 +75,7 @@ def run(is_explained, words):
     say_how_long("running")
     files = files_of(words)
     given = [it for name, file in files.items() for it in ("--data", f"{name}={os.path.abspath(file)}")]
-    command = ["rt", "try", *given, "--", words[0], *files, *words[3:]]
+    command = ["rt", "try", *given, "--", words[0], *files, *words[1 + len(files) :]]
     how = {"stdin": subprocess.DEVNULL, "stdout": subprocess.PIPE, "stderr": subprocess.PIPE}
     ran = subprocess.run(command, cwd=FOLDER, **how)
     ended = ENDED.search(ran.stderr.decode(errors="replace"))
@@ -66,7 +105,7 @@ def run_many(calls):
             with open(f"{folder}/{name}", "w", encoding="utf-8"):
                 pass
             with open(f"{folder}/{name}.args", "w", encoding="utf-8") as args:
-                args.writelines(f"{word}\n" for word in [words[0], *files, *words[3:]])
+                args.writelines(f"{word}\n" for word in [words[0], *files, *words[1 + len(files) :]])
             for it, file in files.items():
                 data += ["--data", f"{it}={os.path.abspath(file)}"]
         how = {"stdin": subprocess.DEVNULL, "stdout": subprocess.PIPE, "stderr": subprocess.PIPE}
