@@ -25,7 +25,8 @@ use psm_session::{SilentEnd, run_silently};
 use std::alloc::{AllocError, Global};
 
 /// The module file. Its procedure inserts a row, or adds to the row that has the key.
-const MODULE: &str = "CREATE TABLE t (k INTEGER PRIMARY KEY, v NUMERIC(18,0), n INTEGER);\nCREATE MODULE gen\nPROCEDURE put (IN pk INTEGER, IN pv INTEGER) BEGIN\n  DECLARE EXIT HANDLER FOR SQLSTATE '23000' UPDATE t SET v = v + pv, n = n + 1 WHERE k = pk;\n  INSERT INTO t VALUES (pk, pv, 1);\nEND;\nEND MODULE\n";
+const MODULE: &str =
+    "CREATE TABLE t (k INTEGER PRIMARY KEY, v NUMERIC(18,0), n INTEGER);\nCREATE MODULE gen\nPROCEDURE put (IN pk INTEGER, IN pv INTEGER) BEGIN\n  DECLARE EXIT HANDLER FOR SQLSTATE '23000' UPDATE t SET v = v + pv, n = n + 1 WHERE k = pk;\n  INSERT INTO t VALUES (pk, pv, 1);\nEND;\nEND MODULE\n";
 
 /// The most calls of a generated script.
 pub const MOST_CALLS: u32 = 200_000;

@@ -46,7 +46,14 @@ pub fn run_silently<S: Store + Drop>(
 {
     let mut store = store;
     let mut mark = store.mark(alloc)?;
-    run_commands(alloc, code, script.commands.items(), &mut mark, &mut store, turns)
+    run_commands(
+        alloc,
+        code,
+        script.commands.items(),
+        &mut mark,
+        &mut store,
+        turns,
+    )
 }
 
 // Runs the commands in a transaction that has a mark.

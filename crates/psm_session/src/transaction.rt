@@ -31,9 +31,9 @@ pub(crate) fn settle<S: Store>(
             roll_back(step, *mark, store);
             Ok(step)
         }
-        ScriptCommand::Call { .. } | ScriptCommand::Insert { .. } | ScriptCommand::Select(_) => {
-            Ok(step)
-        }
+        ScriptCommand::Call { .. } => Ok(step),
+        ScriptCommand::Insert { .. } => Ok(step),
+        ScriptCommand::Select(_) => Ok(step),
     }
 }
 

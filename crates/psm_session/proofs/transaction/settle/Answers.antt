@@ -16,12 +16,12 @@ returns-in-Call-clause-settles g c = λ turns.
     let t = standing (g.S.Store.tables c.args.store.now) turns (g.S.Store.at c.args.store.now c.args.mark.now) in
     nothing_settles c.args.step c.args.command.now t (rw c.in-Call.is refl)
 
-pub returns-in-Call-2-clause-settles : goal.returns-in-Call-2-clause-settles
-returns-in-Call-2-clause-settles g c = λ turns.
+pub returns-in-Insert-clause-settles : goal.returns-in-Insert-clause-settles
+returns-in-Insert-clause-settles g c = λ turns.
     let t = standing (g.S.Store.tables c.args.store.now) turns (g.S.Store.at c.args.store.now c.args.mark.now) in
-    nothing_settles c.args.step c.args.command.now t (rw c.in-Call-2.is refl)
+    nothing_settles c.args.step c.args.command.now t (rw c.in-Insert.is refl)
 
-pub returns-in-Call-3-clause-settles : goal.returns-in-Call-3-clause-settles
-returns-in-Call-3-clause-settles g c = λ turns.
+pub returns-in-Select-clause-settles : goal.returns-in-Select-clause-settles
+returns-in-Select-clause-settles g c = λ turns.
     let t = standing (g.S.Store.tables c.args.store.now) turns (g.S.Store.at c.args.store.now c.args.mark.now) in
-    nothing_settles c.args.step c.args.command.now t (rw c.in-Call-3.is refl)
+    nothing_settles c.args.step c.args.command.now t (rw c.in-Select.is refl)

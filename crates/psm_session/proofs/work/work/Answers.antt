@@ -1,4 +1,4 @@
-use Rattle.std.proofs.Common.{ℕ, List, ap, sym, subst, ◌∙◌}
+use Rattle.std.proofs.Common.{ℕ, true, List, ap, sym, subst, ◌∙◌}
 use Rattle.psm_value.specs.declared.datum.Datum.{Datum}
 use Rattle.psm_table.specs.Table.{Contents}
 use Rattle.psm_session.specs.Ends.{FitsCommand}
@@ -31,7 +31,7 @@ returns-in-Insert-clause-made g c =
     (settled c.args.command.now (standing (g.S.Store.tables c.insert.new.store) c.args.turns.now committed))) c.insert.result c.going_on.result c.going_on.ensures
     (if_ok_map _ _ c.insert.result (λ piece h committed.
     made_as c.args.code.now c.args.number (standing (g.S.Store.tables c.args.store.now) c.args.turns.now committed) (commands.Insert c.in-Insert.table columns c.items-in-Insert-2.result.now) c.args.command.now
-    (standing (g.S.Store.tables c.insert.new.store) c.args.turns.now committed) named _ piece.items (h c.args.turns.now committed)) c.insert.ensures.made)
+    (standing (g.S.Store.tables c.insert.new.store) c.args.turns.now committed) named true piece.items (h c.args.turns.now committed)) c.insert.ensures.made)
 
 pub returns-in-Select-clause-made : goal.returns-in-Select-clause-made
 returns-in-Select-clause-made g c =
@@ -39,7 +39,7 @@ returns-in-Select-clause-made g c =
     (settled c.args.command.now (standing (g.S.Store.tables c.args.store.now) c.args.turns.now committed))) c.select.result c.going_on-in-Select.result c.going_on-in-Select.ensures
     (if_ok_map _ _ c.select.result (λ piece h committed.
     made_as c.args.code.now c.args.number (standing (g.S.Store.tables c.args.store.now) c.args.turns.now committed) (commands.Select c.in-Select.query) c.args.command.now
-    (standing (g.S.Store.tables c.args.store.now) c.args.turns.now committed) c.in-Select.is _ piece.items (h c.args.code.now c.args.turns.now committed)) c.select.ensures)
+    (standing (g.S.Store.tables c.args.store.now) c.args.turns.now committed) c.in-Select.is true piece.items (h c.args.code.now c.args.turns.now committed)) c.select.ensures)
 
 pub returns-in-Commit-clause-made : goal.returns-in-Commit-clause-made
 returns-in-Commit-clause-made g c =
@@ -47,7 +47,7 @@ returns-in-Commit-clause-made g c =
     (settled c.args.command.now (standing (g.S.Store.tables c.args.store.now) c.args.turns.now committed))) c.piece_of.result c.going_on-in-Commit.result c.going_on-in-Commit.ensures
     (if_ok_map _ _ c.piece_of.result (λ piece h committed.
     let s = standing (g.S.Store.tables c.args.store.now) c.args.turns.now committed in
-    made_as c.args.code.now c.args.number s commands.Commit c.args.command.now s c.in-Commit.is _ piece.items (commit_made c.args.code.now c.args.number s piece.items h)) c.piece_of.ensures)
+    made_as c.args.code.now c.args.number s commands.Commit c.args.command.now s c.in-Commit.is true piece.items (commit_made c.args.code.now c.args.number s piece.items h)) c.piece_of.ensures)
 
 pub returns-in-Rollback-clause-made : goal.returns-in-Rollback-clause-made
 returns-in-Rollback-clause-made g c =
@@ -55,4 +55,4 @@ returns-in-Rollback-clause-made g c =
     (settled c.args.command.now (standing (g.S.Store.tables c.args.store.now) c.args.turns.now committed))) c.piece_of-in-Rollback.result c.going_on-in-Rollback.result c.going_on-in-Rollback.ensures
     (if_ok_map _ _ c.piece_of-in-Rollback.result (λ piece h committed.
     let s = standing (g.S.Store.tables c.args.store.now) c.args.turns.now committed in
-    made_as c.args.code.now c.args.number s commands.Rollback c.args.command.now s c.in-Rollback.is _ piece.items (rollback_made c.args.code.now c.args.number s piece.items h)) c.piece_of-in-Rollback.ensures)
+    made_as c.args.code.now c.args.number s commands.Rollback c.args.command.now s c.in-Rollback.is true piece.items (rollback_made c.args.code.now c.args.number s piece.items h)) c.piece_of-in-Rollback.ensures)
