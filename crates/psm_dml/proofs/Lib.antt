@@ -9,9 +9,12 @@ pub mod Holding
 pub mod InPlace
 pub mod Judging
 pub mod Moved
+pub mod Placed
+pub mod Places
 pub mod Planned
 pub mod Putting
 pub mod Refusing
+pub mod Staying
 pub mod Storings
 pub mod Updated
 pub mod Walked

@@ -1,15 +1,15 @@
 -- Rows that are taken out of a table by their keys, and rows that are put in.
-use Rattle.std.specs.Prelude.{ℕ, ◌+◌, ◌<◌, ◌≤◌, Bool, true, false, ◌&&◌, List, [], ◌∷◌, ◌++◌, All, IfSome, length, slice_get, alloc_error, Option, Some, None, Result, Ok, Err}
+use Rattle.std.specs.Prelude.{◌≡◌, ℕ, ◌+◌, ◌<◌, ◌≤◌, Bool, true, false, ◌&&◌, List, [], ◌∷◌, ◌++◌, All, IfSome, IsSome, length, map, slice_get, alloc_error, Option, Some, None, Result, Ok, Err}
 use Rattle.std.specs.List.{list_all}
 use Rattle.std.specs.declared.alloc.AllocError.{AllocError}
 use Rattle.psm_sqlstate.specs.declared.state.SqlState.{SqlState}
 use Rattle.psm_store.specs.RowCalls.{changed_at}
 use Rattle.psm_value.specs.declared.datum.Datum.{Datum}
-use Rattle.psm_table.specs.Changing.{are_apart, is_filled}
-use Rattle.psm_table.specs.Definition.{kinds_of, AreOfFamilies, HasColumns, IsKey}
+use Rattle.psm_table.specs.Changing.{all_apart, are_apart, is_filled}
+use Rattle.psm_table.specs.Definition.{kinds_of, AreOfFamilies, HasColumns, IsKey, IsRow}
 use Rattle.psm_table.specs.Key.{values_at}
-use Rattle.psm_table.specs.Rows.{without}
-use Rattle.psm_table.specs.Table.{most_rows, with_row, Contents}
+use Rattle.psm_table.specs.Rows.{without, IsAscending}
+use Rattle.psm_table.specs.Table.{most_rows, namesake, with_row, Contents}
 use Rattle.psm_table.specs.declared.definition.TableDef.{TableDef}
 use Rattle.psm_table.specs.declared.fault.RowFault.{RowFault}
 use Rattle.psm_table.specs.declared.fault.RowFault.TheVariants.{Duplicate, Absent, Full, Memory}
@@ -43,6 +43,19 @@ pub record TakesRows (tables : List Contents) (t : ℕ) (keys rows : List (List 
   pub fit : IfSome (slice_get tables t) (λ c. All (IsKey c.def) keys)
   pub whole : IfSome (slice_get tables t) (λ c. All (IsWhole c.def) rows)
   pub few : IfSome (slice_get tables t) (λ c. length (without_keys keys c).rows + length rows ≤ most_rows)
+
+-- the keys of rows
+abbrev pub keys_of_rows : TableDef → List (List Datum) → List (List Datum)
+keys_of_rows def rows = map (values_at def.key) rows
+
+-- The rows may be put in the places of those of the table that have their keys: they fit it and ascend by the key, each has
+-- the key of a row that is there, and with the rows of other keys they agree in no UNIQUE list.
+pub record AreInPlace (c : Contents) (rows : List (List Datum)) : Type 0 where
+  pub fit : All (IsRow c.def) rows
+  pub ascend : IsAscending c.def.key rows
+  pub named : All (λ row. IsSome (namesake c row)) rows
+  pub apart : all_apart c.def ((without_keys (keys_of_rows c.def rows) c).rows ++ rows) ≡ true
+  pub few : length (without_keys (keys_of_rows c.def rows) c).rows + length rows ≤ most_rows
 
 -- the table with some rows put in, one after another
 abbrev pub with_rows : List (List Datum) → Contents → Contents

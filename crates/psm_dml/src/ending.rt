@@ -5,10 +5,11 @@ ghost use Rattle.psm_table.specs.Table.{IsTable};
 ghost use Rattle.psm_store.specs.Marks.{AnyMark, Keeps, most_marks};
 ghost use Rattle.psm_tablecode.specs.Codes.{over};
 ghost use Rattle.psm_dml.specs.Ends.{schema_of, Bears, Ends, Passes};
-ghost use Rattle.psm_dml.specs.Rows.{without_keys, IsWhole, TakesRows};
+ghost use Rattle.psm_dml.specs.Rows.{keys_of_rows, without_keys, AreInPlace, IsWhole, TakesRows};
 ghost use Rattle.psm_dml.specs.TypeChecks.{ChecksTypeCheck};
 
 use crate::applying::replace_rows;
+use crate::changing::change_rows;
 use crate::checking::judge;
 use psm_cond::{Condition, DataFault};
 use psm_exprcode::ExprCode;
@@ -41,6 +42,35 @@ pub(crate) fn finish<S: Store>(
     }
     let count = rows.len() as u32;
     if replace_rows(alloc, store, t, keys, rows)? {
+        Ok(count)
+    } else {
+        Err(violated(alloc, store.table(t)))
+    }
+}
+
+/// The same where the new rows may be put in the places of those that have their keys.
+pub(crate) fn finish_in_place<S: Store>(
+    alloc: Global,
+    store: &mut S,
+    t: u32,
+    checks: &[ExprCode],
+    made: Vec<Row>,
+) -> Result<u32, DataFault>
+    requires exists { t < length (S.tables store.old) }
+    requires places { IfSome (slice_get (S.tables store.old) t) (λ c. AreInPlace c made.items) }
+    requires type_checks { IfSome (slice_get (S.tables store.old) t) (λ c. ChecksTypeCheck checks.now c.def) }
+    requires legal { IfSome (slice_get (S.tables store.old) t) (λ c. IsLegal (over []) (schema_of c.def checks.now) (without_keys (keys_of_rows c.def made.items) c).rows) }
+    requires room { S.marks store.old < most_marks }
+    ensures answer { IfSome (slice_get (S.tables store.old) t) (λ c. Ends c (counting (length made.items) (ended (over []) (schema_of c.def checks.now) ((without_keys (keys_of_rows c.def made.items) c).rows ++ made.items))) (S.tables store.old) t (S.tables store.new) result) }
+    ensures marks { S.marks store.new ≡ S.marks store.old }
+    ensures keeps { Keeps AnyMark (S.holds store.old) (S.at store.old) (S.holds store.new) (S.at store.new) }
+{
+    match check(alloc, store.table(t), checks, made.as_slice()) {
+        Ok(()) => {}
+        Err(fault) => return Err(fault),
+    }
+    let count = made.len() as u32;
+    if change_rows(alloc, store, t, made)? {
         Ok(count)
     } else {
         Err(violated(alloc, store.table(t)))

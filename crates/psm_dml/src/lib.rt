@@ -2,6 +2,7 @@
 #![tactic(auto)]
 
 mod applying;
+mod changing;
 mod checking;
 mod comparing;
 mod deleting;

@@ -88,6 +88,65 @@ fn add_change(changes: &mut Vec<Change>, change: Option<Change>) -> Result<(), A
     Ok(())
 }
 
+/// What is made of the rows that meet a test, in the order of their keys: row by row the test, then all new values, and
+/// then these as the columns store them.
+pub(crate) fn made_rows(
+    alloc: Global,
+    table: &Table,
+    sets: &[SetItem],
+    test: Option<&ExprCode>,
+    vars: &[Datum],
+) -> Result<List<Row>, ValueFault>
+    requires test { TypeChecksTest (option_copied test) vars.now table.now.contents.def }
+    requires sets { SetsTypeCheck sets.now vars.now table.now.contents.def }
+    ensures rows { Gives (walked (test_of (over vars.now) (option_copied test.entry)) (row_set vars.now table.now.contents.def sets.now) table.now.contents.rows) result }
+    ensures table { IsTable table.now.contents }
+{
+    let mut stack = Vec::new(alloc);
+    let mut rows = Vec::new(alloc);
+    let walk = walk_of(alloc, table, false, test, vars)?;
+    let mut coming = Coming::of(table, &walk);
+    for at in 0..table.len() {
+        let Some(row) = coming.next() else {
+            break;
+        };
+        let made = made_of(alloc, &mut stack, table, sets, test, row, vars)?;
+        add_row(&mut rows, made)?;
+    }
+    Ok(List::of(rows))
+}
+
+// What is made of a row, if the row meets the test.
+fn made_of(
+    alloc: Global,
+    stack: &mut Vec<Operand>,
+    table: &Table,
+    sets: &[SetItem],
+    test: Option<&ExprCode>,
+    row: &Row,
+    vars: &[Datum],
+) -> Result<Option<Row>, ValueFault>
+    requires row { IsRow table.now.contents.def row.now }
+    requires runs { IfSome (option_copied test) (Runs row.now vars.now) }
+    requires sets { All (Assigns table.now.contents.def row.now vars.now) sets.now }
+    ensures { Gives (taken (test_of (over vars.now) (option_copied test.entry)) (row_set vars.now table.now.contents.def sets.now) row.now) result }
+{
+    if meets(alloc, stack, test, row.values(), vars)? {
+        Ok(Some(set_row(alloc, stack, table.def(), sets, row, vars)?))
+    } else {
+        Ok(None)
+    }
+}
+
+fn add_row(rows: &mut Vec<Row>, row: Option<Row>) -> Result<(), AllocError>
+    ensures { OnOk result (rows.new.items ≡ with_option rows.old.items row) }
+{
+    if let Some(row) = row {
+        rows.push(row)?;
+    }
+    Ok(())
+}
+
 /// Changes, keys and rows apart.
 #[derive(Drop)]
 pub(crate) struct Plan {

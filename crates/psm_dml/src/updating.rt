@@ -1,15 +1,16 @@
 //! UPDATE (ISO/IEC 9075:1992, 13.9 and 13.10).
-ghost use Rattle.std.specs.Prelude.{◌≡◌, ◌<◌, [], IfSome, length, map, slice_get};
+ghost use Rattle.std.specs.Prelude.{◌≡◌, ◌<◌, [], IfSome, length, map, slice_get, true};
 ghost use Rattle.std.specs.Option.{option_copied};
 ghost use Rattle.psm_table.specs.Changing.{updated, IsLegal};
 ghost use Rattle.psm_store.specs.Marks.{AnyMark, Keeps, most_marks};
 ghost use Rattle.psm_tablecode.specs.Codes.{over};
-ghost use Rattle.psm_dml.specs.Changes.{set_of};
+ghost use Rattle.psm_dml.specs.Changes.{keep_places as places_kept, set_of};
 ghost use Rattle.psm_dml.specs.Ends.{schema_of, Ends};
 ghost use Rattle.psm_dml.specs.TypeChecks.{ChecksTypeCheck, SetsTypeCheck, TypeChecksTest};
 
-use crate::ending::finish;
-use crate::planning::{Plan, changes, split};
+use crate::changing::keep_places;
+use crate::ending::{finish, finish_in_place};
+use crate::planning::{Plan, changes, made_rows, split};
 use psm_cond::DataFault;
 use psm_exprcode::{ExprCode, SetItem};
 use psm_store::Store;
@@ -29,6 +30,62 @@ use std::alloc::Global;
 /// latter two the variables too. `vars` are the values of the variables. Marks stay as they are; fewer than 2^100 have to
 /// be open.
 pub fn update<S: Store>(
+    alloc: Global,
+    store: &mut S,
+    t: u32,
+    checks: &[ExprCode],
+    sets: &[SetItem],
+    test: Option<&ExprCode>,
+    vars: &[Datum],
+) -> Result<u32, DataFault>
+    requires exists { t < length (S.tables store.old) }
+    requires checks { IfSome (slice_get (S.tables store.old) t) (λ c. ChecksTypeCheck checks.now c.def) }
+    requires sets { IfSome (slice_get (S.tables store.old) t) (λ c. SetsTypeCheck sets.now vars.now c.def) }
+    requires test { IfSome (slice_get (S.tables store.old) t) (λ c. TypeChecksTest (option_copied test) vars.now c.def) }
+    requires legal { IfSome (slice_get (S.tables store.old) t) (λ c. IsLegal (over []) (schema_of c.def checks.now) c.rows) }
+    requires room { S.marks store.old < most_marks }
+    ensures answer { IfSome (slice_get (S.tables store.old) t) (λ c. Ends c (updated (over vars.now) (over []) (schema_of c.def checks.now) (map set_of sets.now) (option_copied test.entry) c.rows) (S.tables store.old) t (S.tables store.new) result) }
+    ensures marks { S.marks store.new ≡ S.marks store.old }
+    ensures keeps { Keeps AnyMark (S.holds store.old) (S.at store.old) (S.holds store.new) (S.at store.new) }
+{
+    if keep_places(store.table(t).def(), sets) {
+        update_in_place(alloc, store, t, checks, sets, test, vars)
+    } else {
+        update_anew(alloc, store, t, checks, sets, test, vars)
+    }
+}
+
+// The same where no assignment sets a column of the key, nor one of a UNIQUE list: each new row is put in the place of the
+// old one.
+fn update_in_place<S: Store>(
+    alloc: Global,
+    store: &mut S,
+    t: u32,
+    checks: &[ExprCode],
+    sets: &[SetItem],
+    test: Option<&ExprCode>,
+    vars: &[Datum],
+) -> Result<u32, DataFault>
+    requires exists { t < length (S.tables store.old) }
+    requires checks { IfSome (slice_get (S.tables store.old) t) (λ c. ChecksTypeCheck checks.now c.def) }
+    requires sets { IfSome (slice_get (S.tables store.old) t) (λ c. SetsTypeCheck sets.now vars.now c.def) }
+    requires test { IfSome (slice_get (S.tables store.old) t) (λ c. TypeChecksTest (option_copied test) vars.now c.def) }
+    requires legal { IfSome (slice_get (S.tables store.old) t) (λ c. IsLegal (over []) (schema_of c.def checks.now) c.rows) }
+    requires places { IfSome (slice_get (S.tables store.old) t) (λ c. places_kept c.def sets.now ≡ true) }
+    requires room { S.marks store.old < most_marks }
+    ensures answer { IfSome (slice_get (S.tables store.old) t) (λ c. Ends c (updated (over vars.now) (over []) (schema_of c.def checks.now) (map set_of sets.now) (option_copied test.entry) c.rows) (S.tables store.old) t (S.tables store.new) result) }
+    ensures marks { S.marks store.new ≡ S.marks store.old }
+    ensures keeps { Keeps AnyMark (S.holds store.old) (S.at store.old) (S.holds store.new) (S.at store.new) }
+{
+    let rows = match made_rows(alloc, store.table(t), sets, test, vars) {
+        Ok(rows) => rows.into_vec(),
+        Err(fault) => return Err(raised(alloc, &fault)),
+    };
+    finish_in_place(alloc, store, t, checks, rows)
+}
+
+// The same in general: all old rows are taken out before the first new one is put in.
+fn update_anew<S: Store>(
     alloc: Global,
     store: &mut S,
     t: u32,

@@ -14,7 +14,7 @@ use Rattle.psm_dml.specs.Rows.{without_keys, IsWhole}
 use Rattle.psm_dml.proofs.Answering.{ends_told, gives_err}
 use Rattle.psm_dml.proofs.Finished.{said, there}
 use Rattle.psm_dml.proofs.Updated.{changed_few, changed_keys, changed_legal, changed_whole, keys_of_changes, row_set_whole, rows_of_changes, update_ends, update_of, update_raises}
-use Rattle.psm_dml.proofs.updating.update.Goals as goal
+use Rattle.psm_dml.proofs.updating.update_anew.Goals as goal
 
 pub returns-in-Err-clause-answer : goal.returns-in-Err-clause-answer
 returns-in-Err-clause-answer g c =

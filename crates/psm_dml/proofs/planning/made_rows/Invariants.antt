@@ -1,0 +1,15 @@
+use Rattle.std.proofs.Common.{◌≡◌, drop}
+use Rattle.std.specs.Option.{option_copied}
+use Rattle.psm_table.specs.Evaluator.{test_of}
+use Rattle.psm_tablecode.specs.Asked.{rows_of}
+use Rattle.psm_tablecode.specs.Codes.{over}
+use Rattle.psm_tablecode.specs.RemainingRows.{rows_coming}
+use Rattle.psm_dml.specs.Changes.{row_set}
+use Rattle.psm_dml.proofs.Walked.{Walks}
+use Rattle.psm_dml.proofs.planning.made_rows.Given as goal
+
+abbrev pub invariant-loop-at : goal.invariant-loop-at
+invariant-loop-at l = record {
+  left : drop l.at (rows_of l.table.contents l.walk) ≡ rows_coming l.coming;
+  so_far : Walks (test_of (over l.vars) (option_copied l.test)) (row_set l.vars l.table.contents.def l.sets) (rows_of l.table.contents l.walk) l.at l.rows.items;
+}
