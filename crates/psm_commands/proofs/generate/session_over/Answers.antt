@@ -15,4 +15,4 @@ returns-in-Ok-run c =
 
 pub returns : goal.returns
 returns c =
-    script_fault c.args.code.now (c.code_means_its_module.ensures generated_module c.args.code.now c.requires.stands) c.args.calls c.in-Err-script_over.refusal c.in-Err-script_over.ensures
+    script_fault c.args.code.now (c.code_means_its_module.ensures generated_module c.args.code.now c.requires.stands) c.args.calls c.in-Err.refusal c.in-Err.ensures
