@@ -1,5 +1,5 @@
 -- The generated script is short, and a run of it over the generated module file ends in the session of the two.
-use Rattle.std.proofs.Common.{◌≡◌, ℕ, zero, suc, ◌+◌, ◌*◌, ◌^◌, ◌%◌, ◌<◌, ◌≤◌, Bool, true, false, not, List, [], ◌∷◌, ◌++◌, length, length-append, Some, None, inl, inr, refl, sym, ap, ◌∙◌, subst, arith}
+use Rattle.std.proofs.Common.{◌≡◌, ℕ, zero, suc, ◌+◌, ◌*◌, ◌^◌, ◌%◌, ◌<◌, ◌≤◌, Bool, true, false, List, [], ◌∷◌, ◌++◌, length, length-append, Some, None, inl, inr, refl, sym, ap, ◌∙◌, subst, arith}
 use Rattle.std.proofs.Math.Nat.{mod-le}
 use Rattle.std.proofs.lemmas.Fmt.{length-decimal-le}
 use Rattle.std.specs.Prelude.{◌⊎◌, IfSome, Result, Ok, Err, codes, decimal}
@@ -117,7 +117,3 @@ pub generate_sums : (fetches : Fetches) → NoneFailed fetches → (calls : ℕ)
 generate_sums fetches stays calls end sunk answer h puts =
     says_line (ForGenerate (as_fetched fetches) calls) (expected_after calls end.last.goes_on end.last.piece.items end.turns) sunk answer
     (inr (inr (record { session = h.session; ends_in = h.ends_in; none_fails = stays; expected_is = h.expected_is }))) puts
-
-pub not_true : (b : Bool) → not b ≡ true → b ≡ false
-not_true true h = absurd cc
-not_true false h = refl
