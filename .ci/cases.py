@@ -30,6 +30,7 @@ PAGES = (
     "docs/formats.md",
     "docs/machine.md",
     "README.md",
+    ".ci/objects.md",
 )
 TUTORIAL = PAGES[0]
 CAUSES = ".ci/causes.txt"
