@@ -7,7 +7,7 @@ over it. A block `text listing` is what the module compiles to. A block `text ob
 over it by `exec`. A block `text command` is a call of `psm` without files. In the tutorial each block is of these, or `sh` or `yaml`.
 
 Each example with a module and a script is run twice: by `run`, and by `exec` over what `compile` prints, which has to give the same
-bytes and the same status. PSM_PROGRAM names the program; else `rt try` builds one without a proof. The examples of each page, and those
+bytes and the same status. So are the cases of run_rows, whose own stored run says what they print. PSM_PROGRAM names the program; else `rt try` builds one without a proof. The examples of each page, and those
 of the folders, are told of as they are run.
 """
 import collections
@@ -34,6 +34,7 @@ PAGES = (
 )
 TUTORIAL = PAGES[0]
 CAUSES = ".ci/causes.txt"
+ROWS = "crates/run_rows/stdin"
 # By the second word of a block with code, what runs a script over it.
 COMMANDS = {"module": "run", "object": "exec"}
 USAGE = "usage: psm run M S [--turns N] | psm compile M | psm exec O S [--turns N] | psm gen N\n"
@@ -147,6 +148,34 @@ def examples():
     return found
 
 
+def rows():
+    """Returns the cases of run_rows: the module file and the first script of each."""
+    found, name, texts, turns, part = [], None, {}, None, None
+
+    def end_case():
+        module, script = ("\n".join(texts.get(it, [])) for it in ("module", "script"))
+        if name is not None and script:
+            found.append(Case(f"{ROWS}: {name}", "run", module, script, turns, lambda status, output: None))
+
+    for line in read(ROWS).splitlines():
+        if line.startswith("== "):
+            end_case()
+            name, turns, part = line[3:], None, None
+        elif line.startswith("= "):
+            words = line.split()
+            if words[1] in ("module", "script", "after"):
+                part = words[1]
+                # a new file comes without those that stand on it
+                for it in {"module": ("module", "script", "after"), "script": ("script", "after"), "after": ("after",)}[part]:
+                    texts[it] = []
+            elif words[1] == "turns":
+                turns = words[2]
+        elif line and not line.startswith("#"):
+            texts.setdefault(part, []).append(line)
+    end_case()
+    return found
+
+
 def groups():
     """Returns the cases by where they stand, and what is wrong with the pages."""
     found, wrong = [("examples", examples()), ("gen", generated())], []
@@ -156,6 +185,7 @@ def groups():
             found, wrong = [*found, (page, cases)], [*wrong, *faults]
         elif is_due(page):
             wrong.append(f"README.md names {page}, which is not there")
+    found.append((ROWS, rows()))
     lines = enumerate(read(CAUSES).splitlines(), 1)
     found.append((CAUSES, [cause(number, line) for number, line in lines if line and not line.startswith("#")]))
     return found, wrong

@@ -4,7 +4,8 @@ use Rattle.std.specs.Char.{is_ascii_digit}
 use Rattle.std.specs.Cmp.Lexicographic.{pointwise}
 use Rattle.std.specs.List.{list_all}
 use Rattle.std.specs.Str.Parse.{digits_value}
-use Rattle.psm_commands.specs.Command.{Command, Files, Run, Compile, Exec, named}
+use Rattle.psm_commands.specs.Command.{Command, Files, Run, Compile, Exec, Generate, named}
+use Rattle.psm_commands.specs.Generated.{most_calls}
 
 -- the turns where the words tell none
 abbrev pub default_turns : ℕ
@@ -45,15 +46,27 @@ turns_of (option ∷ []) = None
 turns_of (option ∷ n ∷ []) = if is_word option (codes "--turns") then number_of n else None
 turns_of (option ∷ n ∷ other ∷ others) = None
 
--- ---- the form `compile M`
+-- ---- the forms `compile M` and `gen N`
 
-abbrev pub compile_with : List ℕ → List ℕ → Option Command
-compile_with word m = if is_word word (codes "compile") then Some (Compile m) else None
+-- a number that isn't above the most calls
+abbrev pub bounded : Option ℕ → Option ℕ
+bounded None = None
+bounded (Some n) = if nat_le n most_calls then Some n else None
+
+abbrev pub generate_with : Option ℕ → Option Command
+generate_with None = None
+generate_with (Some calls) = Some (Generate calls)
+
+-- the command of two words
+abbrev pub short_with : List ℕ → List ℕ → Option Command
+short_with word w = if is_word word (codes "compile") then Some (Compile w)
+    else if is_word word (codes "gen") then generate_with (bounded (number_of w))
+    else None
 
 -- ---- the command that the words tell, where they have a form
 
 abbrev pub command_in : List (List ℕ) → Option Command
 command_in [] = None
 command_in (word ∷ []) = None
-command_in (word ∷ m ∷ []) = compile_with word m
+command_in (word ∷ w ∷ []) = short_with word w
 command_in (word ∷ c ∷ s ∷ options) = script_with word c s (turns_of options)

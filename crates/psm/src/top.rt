@@ -33,7 +33,7 @@ fn report_usage<K: Sink>(out: &mut K) -> Status
     ensures { PutsLine (with_line status.Usage usage) (sunk_of K.written K.faults out.old out.new) result }
 {
     put_line(
-        b"usage: psm run M S [--turns N] | psm compile M | psm exec O S [--turns N]\n",
+        b"usage: psm run M S [--turns N] | psm compile M | psm exec O S [--turns N] | psm gen N\n",
         Status::Usage,
         out,
     )

@@ -1,23 +1,24 @@
 //! The words after the program's name.
 ghost use Rattle.std.specs.Char.{is_ascii_digit};
 ghost use Rattle.std.specs.List.{list_all};
-ghost use Rattle.std.specs.Prelude.{◌≡◌, None, Some, MatchOption, map, string_bytes};
-ghost use Rattle.psm_commands.specs.Command.{command_of};
-ghost use Rattle.psm.specs.Words.{begins_with_zero, command_in, compile_with, is_number, number_of, script_with, turns_of};
+ghost use Rattle.std.specs.Prelude.{◌≡◌, None, Some, IfSome, MatchOption, map, string_bytes};
+ghost use Rattle.psm_commands.specs.Command.{CanBeDone, command_of};
+ghost use Rattle.psm.specs.Words.{begins_with_zero, bounded, command_in, generate_with, is_number, number_of, script_with, short_with, turns_of};
 
-use psm_commands::{Command, Files};
+use psm_commands::{Command, Files, MOST_CALLS};
 
 /// The turns of a session where the words tell none.
 const DEFAULT_TURNS: u64 = 1_000_000;
 
-/// The command that the words after the program's name tell, where they have the form `run M S`, `compile M` or `exec O S`; `--turns N`
-/// may stand after the files of `run` and `exec`.
+/// The command that the words after the program's name tell, where they have the form `run M S`, `compile M`, `exec O S` or `gen N`;
+/// `--turns N` may stand after the files of `run` and `exec`.
 pub fn command_in(words: &[String]) -> Option<Command<'_>>
-    ensures { MatchOption result (command_in (map string_bytes words.now) ≡ None)
+    ensures can { IfSome result CanBeDone }
+    ensures told { MatchOption result (command_in (map string_bytes words.now) ≡ None)
         (λ c. command_in (map string_bytes words.now) ≡ Some (command_of c)) }
 {
     match words {
-        [word, for_module] => compile_for(word.as_str(), for_module.as_str()),
+        [word, subject] => short_for(word.as_str(), subject.as_str()),
         [word, for_code, for_script, options @ ..] => script_for(
             word.as_str(),
             for_code.as_str(),
@@ -28,13 +29,30 @@ pub fn command_in(words: &[String]) -> Option<Command<'_>>
     }
 }
 
-// The command `compile`, where the first word is that.
-fn compile_for<'a>(word: &str, for_module: &'a str) -> Option<Command<'a>>
-    ensures { MatchOption result (compile_with word.now for_module.now ≡ None)
-        (λ c. compile_with word.now for_module.now ≡ Some (command_of c)) }
+// The command of two words, `compile` or `gen` by the first.
+fn short_for<'a>(word: &str, subject: &'a str) -> Option<Command<'a>>
+    ensures can { IfSome result CanBeDone }
+    ensures told { MatchOption result (short_with word.now subject.now ≡ None)
+        (λ c. short_with word.now subject.now ≡ Some (command_of c)) }
 {
     if word == "compile" {
-        Some(Command::Compile(for_module))
+        Some(Command::Compile(subject))
+    } else if word == "gen" {
+        generate_for(number_in(subject))
+    } else {
+        None
+    }
+}
+
+// The command `gen` with that number of calls, if there is one and it isn't above the most.
+fn generate_for<'a>(number: Option<u64>) -> Option<Command<'a>>
+    ensures can { IfSome result CanBeDone }
+    ensures told { MatchOption result (generate_with (bounded number) ≡ None)
+        (λ c. generate_with (bounded number) ≡ Some (command_of c)) }
+{
+    let calls = number?;
+    if calls <= MOST_CALLS as u64 {
+        Some(Command::Generate(calls as u32))
     } else {
         None
     }
@@ -47,7 +65,8 @@ fn script_for<'a>(
     for_script: &'a str,
     turns: Option<u64>,
 ) -> Option<Command<'a>>
-    ensures { MatchOption result (script_with word.now for_code.now for_script.now turns ≡ None)
+    ensures can { IfSome result CanBeDone }
+    ensures told { MatchOption result (script_with word.now for_code.now for_script.now turns ≡ None)
         (λ c. script_with word.now for_code.now for_script.now turns ≡ Some (command_of c)) }
 {
     let turns = turns?;

@@ -17,13 +17,15 @@ use Rattle.psm_session.specs.Put.{Sunk}
 use Rattle.psm_files.specs.Answer.{Answers, Completes, IsCut, IsPut, IsPutInPart, Says, Stayed}
 use Rattle.psm_files.specs.Expected.{Expected}
 use Rattle.psm_files.specs.Fetches.{Fetches}
-use Rattle.psm_files.specs.Given.{as_fetched, as_told}
+use Rattle.psm_files.specs.Given.{Given, as_fetched, as_told}
 use Rattle.psm_files.specs.declared.status.Status.{Status}
 use Rattle.psm_files.specs.declared.status.Status.TheVariants.{Done}
-use Rattle.psm_commands.specs.Command.{Command, Files, Run, Compile, Exec}
+use Rattle.psm_commands.specs.Command.{Command, Files, Run, Compile, Exec, Generate}
 use Rattle.psm_commands.specs.Compile.{ForCompile, IsListed, StatusForCompile}
 use Rattle.psm_commands.specs.Contract.{AreFetched, CommandCompletes, CommandSays, ForCommand, StatusFor}
 use Rattle.psm_commands.specs.Exec.{ForExec, IsOver, PlaysOver}
+use Rattle.psm_commands.specs.Generate.{ForGenerate, IsSummed, expected_at}
+use Rattle.psm_commands.specs.Generated.{generated_module, generated_script, generated_turns}
 use Rattle.psm_commands.specs.Run.{ForRun, Plays, expected_for_session}
 use Rattle.psm_commands.specs.Sources.{ForScript, IsObjectRefused, IsRefused}
 use Rattle.psm_commands.specs.declared.source.Which.{Which}
@@ -120,6 +122,28 @@ module _ (one : AreOneThing) (fetches : Fetches) where
       → (e d : Expected) → ForExec (as_fetched fetches) f e → ForExec (as_told fetches.held) f d → e.status ≡ d.status
   exec_same f sm ss e d h k = for_file_same fetches f.for_code sm _ _ (in_object f ss) e d h k
 
+  -- ---- gen
+
+  summed_same : (calls : ℕ) (s u : Session) (e d : Expected) → s ≡ u → expected_at calls s s.end ≡ Some e → expected_at calls u u.end ≡ Some d → e.status ≡ d.status
+  summed_same calls s u e d one h k = ap (λ (x : Expected). x.status) (same_Some e d (sym h ∙ ap (λ (x : Session). expected_at calls x x.end) one ∙ k))
+
+  in_generated_script : (calls : ℕ) (e d : Expected) → IsRefused (as_fetched fetches) Script (IsScriptFault generated_module (generated_script calls)) e ⊎ IsSummed (as_fetched fetches) calls e
+      → IsRefused (as_told fetches.held) Script (IsScriptFault generated_module (generated_script calls)) d ⊎ IsSummed (as_told fetches.held) calls d → e.status ≡ d.status
+  in_generated_script calls e d h k = script_same (IsScriptFile generated_module (generated_script calls)) (IsScriptFault generated_module (generated_script calls)) (one.scripts generated_module (generated_script calls))
+      (IsSummed (as_fetched fetches) calls) (IsSummed (as_told fetches.held) calls) (λ e p. p.ends_in.script) (λ d p. p.ends_in.script)
+      (λ e d p q. summed_same calls p.session q.session e d (one.sessions generated_module (generated_script calls) generated_turns p.session q.session p.ends_in q.ends_in) p.expected_is q.expected_is) e d h k
+
+  -- a generated script has a fault, or a session, only over a module file
+  over_generated : (given : Given) (calls : ℕ) (e : Expected) → IsRefused given Script (IsScriptFault generated_module (generated_script calls)) e ⊎ IsSummed given calls e → IsModuleFile generated_module
+  over_generated given calls e (inl h) = h.is_fault.over
+  over_generated given calls e (inr h) = h.ends_in.script.over
+
+  generate_same : (calls : ℕ) (e d : Expected) → ForGenerate (as_fetched fetches) calls e → ForGenerate (as_told fetches.held) calls d → e.status ≡ d.status
+  generate_same calls e d (inl h) (inl k) = refused_same Module _ _ e d h k
+  generate_same calls e d (inl h) (inr k) = absurd ((one.modules generated_module).file_or_fault h.line h.column h.fault (over_generated (as_told fetches.held) calls d k) h.is_fault)
+  generate_same calls e d (inr h) (inl k) = absurd ((one.modules generated_module).file_or_fault k.line k.column k.fault (over_generated (as_fetched fetches) calls e h) k.is_fault)
+  generate_same calls e d (inr h) (inr k) = in_generated_script calls e d h k
+
   -- ---- all commands
 
   abbrev IsFetched : List ℕ → Type 0
@@ -135,6 +159,7 @@ module _ (one : AreOneThing) (fetches : Fetches) where
   command_same (Run f) fetched e d h k = run_same f (code_fetched f fetched) (script_fetched f fetched) e d h k
   command_same (Compile name) fetched e d h k = compile_same name (All-head IsFetched name [] fetched) e d h k
   command_same (Exec f) fetched e d h k = exec_same f (code_fetched f fetched) (script_fetched f fetched) e d h k
+  command_same (Generate calls) fetched e d h k = generate_same calls e d h k
 
   pub command_completes : (command : Command) (sunk : Sunk) (answer : Status) → CommandSays fetches command sunk answer → CommandCompletes fetches command sunk answer
   command_completes command sunk answer says = λ fetched. says_completes (ForCommand (as_fetched fetches) command) (StatusFor (as_told fetches.held) command) sunk answer (command_same command fetched) says

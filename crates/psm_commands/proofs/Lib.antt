@@ -4,3 +4,4 @@ pub mod Outcomes
 pub mod Answering
 pub mod Completeness
 pub mod Told
+pub mod Generating

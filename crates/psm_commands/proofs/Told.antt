@@ -1,5 +1,5 @@
 -- Where a shelf tells the files of a command, something is expected of it.
-use Rattle.std.proofs.Common.{◌≡◌, ℕ, ◌<◌, ◌≤◌, List, [], ◌∷◌, length, Option, Some, None, refl, inl, inr}
+use Rattle.std.proofs.Common.{◌≡◌, ℕ, ◌<◌, ◌≤◌, true, false, List, [], ◌∷◌, length, Option, Some, None, refl, inl, inr}
 use Rattle.std.specs.Prelude.{◌⊎◌, All, IsSome}
 use Rattle.std.proofs.lemmas.Bool.{cases_lt}
 use Rattle.std.proofs.lemmas.List.Elements.{All-head, All-tail}
@@ -12,18 +12,22 @@ use Rattle.psm_code.specs.RoutineRules.{first_fault}
 use Rattle.psm_code_session.specs.CodeSession.{CodeEndsIn, EndIn, IsScriptOver}
 use Rattle.psm_load.specs.Loading.{IsObject, IsObjectFault}
 use Rattle.psm_load.specs.declared.fault.ObjectFault.{ObjectFault}
-use Rattle.psm_meaning.specs.Session.{Session}
+use Rattle.psm_meaning.specs.Acts.{NoTurns, OutOfFuel, Stuck}
+use Rattle.psm_meaning.specs.Session.{Session, End, Cut, Done as AfterAll}
+use Rattle.psm_session.specs.Ends.{last_or}
 use Rattle.psm_session.specs.declared.command.ScriptCommand.{ScriptCommand}
 use Rattle.psm_files.specs.Expected.{Expected, with_line}
 use Rattle.psm_files.specs.Fetches.{most_bytes}
 use Rattle.psm_files.specs.Given.{ForFile, as_told}
 use Rattle.psm_files.specs.Message.{too_long}
 use Rattle.psm_files.specs.declared.status.Status.TheVariants.{Done, TooLong}
-use Rattle.psm_commands.specs.Command.{Command, Files, Run, Compile, Exec, files_of}
+use Rattle.psm_commands.specs.Command.{Command, Files, Run, Compile, Exec, Generate, files_of}
 use Rattle.psm_commands.specs.Contract.{StatusFor}
 use Rattle.psm_commands.specs.Run.{ForRun, Plays}
 use Rattle.psm_commands.specs.Compile.{StatusForCompile}
 use Rattle.psm_commands.specs.Exec.{ForExec, IsOver, PlaysOver}
+use Rattle.psm_commands.specs.Generate.{ForGenerate, IsSummed, expected_after, expected_at}
+use Rattle.psm_commands.specs.Generated.{generated_module, generated_script, generated_turns}
 use Rattle.psm_commands.specs.Sources.{ForScript, IsObjectRefused, IsRefused, with_object_refusal, with_refusal}
 use Rattle.psm_commands.specs.declared.source.Which.{Which}
 use Rattle.psm_commands.specs.declared.source.Which.TheVariants.{Module, Script}
@@ -109,6 +113,30 @@ module _ (held : List ℕ → Option (List ℕ)) where
         by os (inr h) = (with_object_refusal h.0 h.1, inl (record { line = h.0; fault = h.1; is_fault = h.2; none_fails = tt; expected_is = refl }))
         by os (inl c) = let s = for_file f.for_script hs _ (for_script_over f os c.0 c.1) in (s.0, inr (record { code = c.0; object = c.1; for_script = s.1 }))
 
+    -- something is expected of a session of generated calls that ends
+    generated_expected : (calls : ℕ) (s : Session) → IsEnd s.end → (e : Expected) × (expected_at calls s s.end ≡ Some e)
+    generated_expected calls s h = by s.end h
+      where
+        by : (e : End) → IsEnd e → (x : Expected) × (expected_at calls s e ≡ Some x)
+        by AfterAll k = (expected_after calls true (last_or [] s.pieces) s.turns, refl)
+        by (Cut NoTurns) k = (expected_after calls false (last_or [] s.pieces) s.turns, refl)
+        by (Cut OutOfFuel) k = absurd k
+        by (Cut Stuck) k = absurd k
+
+    for_generate : (calls : ℕ) → Something (ForGenerate (as_told held) calls)
+    for_generate calls = by (all.modules generated_module)
+      where
+        over : Total (IsScriptFile generated_module (generated_script calls)) (IsScriptFault generated_module (generated_script calls)) → Something (ForGenerate (as_told held) calls)
+        over (inr h) = let r = refused Script (IsScriptFault generated_module (generated_script calls)) (IsSummed (as_told held) calls) h in (r.0, inr r.1)
+        over (inl script) =
+            let s = all.sessions generated_module (generated_script calls) generated_turns script in
+            let e = generated_expected calls s.0 (all.ends generated_module (generated_script calls) generated_turns s.0 s.1) in
+            (e.0, inr (inr (record { session = s.0; ends_in = s.1; none_fails = tt; expected_is = e.1 })))
+
+        by : Total (IsModuleFile generated_module) (IsModuleFault generated_module) → Something (ForGenerate (as_told held) calls)
+        by (inr h) = refused Module (IsModuleFault generated_module) _ h
+        by (inl is) = over (all.scripts generated_module (generated_script calls) is)
+
     code_told : (f : Files) → All IsTold (f.for_code ∷ f.for_script ∷ []) → IsTold f.for_code
     code_told f h = All-head IsTold f.for_code (f.for_script ∷ []) h
 
@@ -119,3 +147,4 @@ module _ (held : List ℕ → Option (List ℕ)) where
     for_command (Run f) h = for_run f (code_told f h) (script_told f h)
     for_command (Compile name) h = for_compile name (All-head IsTold name [] h)
     for_command (Exec f) h = for_exec f (code_told f h) (script_told f h)
+    for_command (Generate calls) h = for_generate calls

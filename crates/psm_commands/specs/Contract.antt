@@ -6,22 +6,25 @@ use Rattle.psm_files.specs.Fetches.{Fetches}
 use Rattle.psm_files.specs.Given.{Given, as_fetched, as_told}
 use Rattle.psm_files.specs.declared.status.Status.{Status}
 use Rattle.psm_session.specs.Put.{Sunk}
-use Rattle.psm_commands.specs.Command.{Command, Run, Compile, Exec, files_of}
+use Rattle.psm_commands.specs.Command.{Command, Run, Compile, Exec, Generate, files_of}
 use Rattle.psm_commands.specs.Run.{ForRun}
 use Rattle.psm_commands.specs.Compile.{ForCompile, StatusForCompile}
 use Rattle.psm_commands.specs.Exec.{ForExec}
+use Rattle.psm_commands.specs.Generate.{ForGenerate}
 
 -- this is expected of the command: a status and what is written with it
 abbrev pub ForCommand : Given → Command → Expected → Type 0
 ForCommand given (Run f) = ForRun given f
 ForCommand given (Compile name) = ForCompile given name
 ForCommand given (Exec f) = ForExec given f
+ForCommand given (Generate calls) = ForGenerate given calls
 
 -- the status that is expected of it
 abbrev pub StatusFor : Given → Command → Expected → Type 0
 StatusFor given (Run f) = ForRun given f
 StatusFor given (Compile name) = StatusForCompile given name
 StatusFor given (Exec f) = ForExec given f
+StatusFor given (Generate calls) = ForGenerate given calls
 
 -- no fetch of a file that the command reads failed
 abbrev pub AreFetched : Fetches → Command → Type 0

@@ -4,6 +4,8 @@ pub mod Sources
 pub mod Run
 pub mod Compile
 pub mod Exec
+pub mod Generated
+pub mod Generate
 pub mod Contract
 pub mod Reading
 pub mod Report

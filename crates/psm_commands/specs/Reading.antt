@@ -1,8 +1,8 @@
 -- What is read of the files of a command, step by step.
-use Rattle.std.specs.Prelude.{◌≡◌, ℕ, List, Option, Some, None, IfSome, Result, Ok, Err}
+use Rattle.std.specs.Prelude.{◌≡◌, ℕ, ◌⊎◌, List, Option, Some, None, IfSome, Result, Ok, Err}
 use Rattle.std.specs.Global.{Vec}
 use Rattle.psm_build.specs.ModuleCode.{IsScriptFaultOver}
-use Rattle.psm_build.specs.Program.{IsModuleFault, IsScriptOf, StandsFor}
+use Rattle.psm_build.specs.Program.{IsModuleFault, IsScriptFault, IsScriptOf, StandsFor}
 use Rattle.psm_build.specs.declared.fault.Fault.{Fault}
 use Rattle.psm_build.specs.declared.fault.BuildFault.{BuildFault}
 use Rattle.psm_build.specs.declared.fault.BuildFault.TheVariants as builds
@@ -16,6 +16,9 @@ use Rattle.psm_load.specs.Loading.{IsObject, IsObjectFault}
 use Rattle.psm_load.specs.declared.fault.LoadFault.{LoadFault}
 use Rattle.psm_load.specs.declared.fault.LoadFault.TheVariants as loads
 use Rattle.psm_session.specs.declared.command.ScriptCode.{ScriptCode}
+use Rattle.psm_session.specs.declared.silent.SilentEnd.{SilentEnd}
+use Rattle.psm_commands.specs.Generate.{IsFound}
+use Rattle.psm_commands.specs.Generated.{generated_module, generated_script}
 use Rattle.psm_commands.specs.Sources.{IsObjectRefused, IsRefused, with_object_refusal, with_refusal}
 use Rattle.psm_commands.specs.declared.source.Which.{Which}
 use Rattle.psm_commands.specs.declared.source.Which.TheVariants.{Module, Script}
@@ -70,6 +73,15 @@ refusal_of w builds.Memory = refusal.Memory
 abbrev pub refusal_of_load : LoadFault → Refusal
 refusal_of_load (loads.Refused line fault) = refusal.NoObject line fault
 refusal_of_load loads.Memory = refusal.Memory
+
+-- ---- what is made of a generated module file and a generated script
+
+abbrev pub IsFaultOfGenerated : ℕ → Refusal → Type 0
+IsFaultOfGenerated calls e = IsFaultOf Module (IsModuleFault generated_module) e ⊎ IsFaultOf Script (IsScriptFault generated_module (generated_script calls)) e
+
+abbrev pub Generates : ℕ → Result SilentEnd Refusal → Type 0
+Generates calls (Ok end) = IsFound calls end.last.goes_on end.last.piece.items end.turns
+Generates calls (Err e) = IsFaultOfGenerated calls e
 
 -- ---- what is made of files
 

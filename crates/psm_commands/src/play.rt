@@ -45,8 +45,8 @@ fn status_of(end: ScriptEnd) -> Status
     }
 }
 
-// The tables of the code, all empty.
-fn empty_store(alloc: Global, code: &Code) -> Result<UndoStore, AllocError>
+/// The tables of the code, all empty.
+pub(crate) fn empty_store(alloc: Global, code: &Code) -> Result<UndoStore, AllocError>
     requires { All IsDefinition (definitions code.now) }
     ensures tables { IfOk result (λ s. tables_of s ≡ empty_tables code.now) }
     ensures marks { IfOk result (λ s. s.marks ≡ 0) }

@@ -94,8 +94,8 @@ fn bytes_of<F: Shelf>(alloc: Global, name: &str, shelf: &mut F) -> Result<Vec<u8
     }
 }
 
-// The code of a module file's bytes.
-fn code_of(alloc: Global, bytes: &[u8]) -> Result<Code, Refusal>
+/// The code of a module file's bytes.
+pub(crate) fn code_of(alloc: Global, bytes: &[u8]) -> Result<Code, Refusal>
     requires { length bytes.now ≤ most_bytes }
     ensures { Makes (StandsFor bytes.now) (IsFaultOf which.Module (IsModuleFault bytes.now)) result }
 {
@@ -116,8 +116,8 @@ fn loaded(alloc: Global, bytes: &[u8]) -> Result<Code, Refusal>
     }
 }
 
-// The commands of a script's bytes over the code.
-fn commands_of(alloc: Global, code: &Code, bytes: &[u8]) -> Result<ScriptCode, Refusal>
+/// The commands of a script's bytes over the code.
+pub(crate) fn commands_of(alloc: Global, code: &Code, bytes: &[u8]) -> Result<ScriptCode, Refusal>
     requires { length bytes.now ≤ most_bytes }
     ensures { Makes (IsScriptBy code.now bytes.now) (IsFaultOf which.Script (IsScriptFaultOver code.now bytes.now)) result }
 {

@@ -1,6 +1,8 @@
 -- What a command ends in, from its piece and where that is put.
-use Rattle.std.proofs.Common.{◌≡◌, ◌<◌, ℕ, zero, suc, Bool, true, false, List, [], ◌∷◌, ◌++◌, length, slice_get, Option, Some, None, IfSome, Result, Ok, Err, refl, ap, sym, subst, ◌∙◌, arith}
+use Rattle.std.proofs.Common.{◌≡◌, ◌<◌, ℕ, zero, suc, Bool, true, false, List, [], ◌∷◌, ◌++◌, inl, inr, length, slice_get, Option, Some, None, IfSome, IfOk, Result, Ok, Err, refl, ap, sym, subst, ◌∙◌, arith}
 use Rattle.std.specs.Prelude.{IsSome, codes}
+use Rattle.std.specs.Global.{Vec}
+use Rattle.std.specs.declared.alloc.AllocError.{AllocError}
 use Rattle.psm_sqlstate.specs.declared.state.SqlState.{SqlState}
 use Rattle.psm_exprcode.specs.declared.query.Query.{Query}
 use Rattle.psm_table.specs.Queries.{Answer, answer}
@@ -12,18 +14,12 @@ use Rattle.psm_meaning.specs.Session.{Standing, Went}
 use Rattle.psm_session.specs.CommandSteps.{Executes, commit, rollback, select, selected}
 use Rattle.psm_session.specs.Pieces.{selected_lines}
 use Rattle.psm_session.specs.Put.{Sunk}
-use Rattle.psm_session.specs.Steps.{EndsIn, Does, IsPut, IsTorn, Makes, Puts, standing, tables_after}
+use Rattle.psm_session.specs.Steps.{Closes, Comes, Does, EndsIn, GoesOn, IsPut, IsTorn, Makes, Puts, Settled, Settles, settled, standing, step_after, tables_after}
 use Rattle.psm_session.specs.declared.command.ScriptCommand.{ScriptCommand}
 use Rattle.psm_session.specs.declared.command.ScriptCommand.TheVariants as commands
+use Rattle.psm_session.specs.declared.step.CommandEnd.{CommandEnd}
 use Rattle.psm_session.specs.declared.step.Step.{Step}
 use Rattle.psm_session.specs.declared.step.Step.TheVariants as steps
-
--- a command that leaves the tables as they are
-pub tables_after-same : (step : Step) (tables : List Contents) → tables_after step tables tables ≡ tables
-tables_after-same steps.Next tables = refl
-tables_after-same steps.TurnsUsed tables = refl
-tables_after-same steps.WriteFault tables = refl
-tables_after-same steps.Memory tables = refl
 
 -- what stands at a place inside a list
 pub there : {A : Type 0} (xs : List A) (i : ℕ) → i < length xs → IsSome (slice_get xs i)
@@ -31,59 +27,116 @@ there [] i h = absurd (omega (arith, h))
 there (x ∷ xs) zero h = refl
 there (x ∷ xs) (suc i) h = there xs i (omega (arith, h))
 
--- ---- every command
+-- ---- the piece of a command
 
--- the mark of the command is closed
-pub closed : (code : RawCode) (k : ℕ) (s : Standing) (c : ScriptCommand) (sunk : Sunk) (made now : List Contents) (turns : ℕ) (committed : List Contents) (step : Step)
-    → Does code k s c sunk (standing made turns committed) step → now ≡ tables_after step made s.tables → EndsIn code k s c sunk (standing now turns committed) step
-closed code k s c sunk made now turns committed steps.Next h e = subst (λ tables. IsPut code k s c sunk true (standing tables turns committed)) (sym e) h
-closed code k s c sunk made now turns committed steps.TurnsUsed h e = subst (λ tables. IsPut code k s c sunk false (standing tables turns committed)) (sym e) h
-closed code k s c sunk made now turns committed steps.WriteFault h e = subst (λ tables. IsTorn code k s c sunk (standing tables turns committed)) (sym e) h
-closed code k s c sunk made now turns committed steps.Memory h e = record { put = h; same = e }
+-- where a piece goes on, what holds of it holds of the end of its command
+pub went_on : (P : Bool → List ℕ → Type 0) (piece : Result (Vec ℕ) AllocError) (end : Result CommandEnd AllocError) → GoesOn piece end → IfOk piece (λ p. P true p.items) → IfOk end (λ e. P e.goes_on e.piece.items)
+went_on P (Ok piece) (Ok end) same h = subst (λ goes. P goes end.piece.items) (sym same.1) (subst (λ (p : Vec ℕ). P true p.items) (sym same.0) h)
+went_on P (Ok piece) (Err e) same h = tt
+went_on P (Err e) (Ok end) same h = absurd same
+went_on P (Err e) (Err f) same h = tt
 
--- its piece is put
-pub does : (code : RawCode) (k : ℕ) (s : Standing) (c : ScriptCommand) (sunk : Sunk) (piece : List ℕ) (goes : Bool) (t : Standing) (step : Step) → Puts goes piece sunk step → Makes code k s c goes piece t → Does code k s c sunk t step
-does code k s c sunk piece goes t steps.Next p h = record { piece = piece; makes = subst (λ b. Makes code k s c b piece t) p.0 h; put = p.1 }
-does code k s c sunk piece goes t steps.TurnsUsed p h = record { piece = piece; makes = subst (λ b. Makes code k s c b piece t) p.0 h; put = p.1 }
-does code k s c sunk piece goes t steps.WriteFault p h = record { goes = goes; piece = piece; due = t; makes = h; put = p; same = refl }
+-- the same command
+pub made_as : (code : RawCode) (k : ℕ) (s : Standing) (c d : ScriptCommand) (t : Standing) → d ≡ c → (goes : Bool) (piece : List ℕ) → Makes code k s c goes piece (settled c t) → Makes code k s d goes piece (settled d t)
+made_as code k s c d t e goes piece h = subst (λ x. Makes code k s x goes piece (settled x t)) (sym e) h
+
+pub commit_made : (code : RawCode) (k : ℕ) (s : Standing) (piece : List ℕ) → piece ≡ first_line k (codes "COMMIT") ++ ok_line → Makes code k s commands.Commit true piece (settled commands.Commit s)
+commit_made code k s piece e = subst (λ x. Makes code k s commands.Commit true x (settled commands.Commit s)) (sym e) commit
+
+pub rollback_made : (code : RawCode) (k : ℕ) (s : Standing) (piece : List ℕ) → piece ≡ first_line k (codes "ROLLBACK") ++ ok_line → Makes code k s commands.Rollback true piece (settled commands.Rollback s)
+rollback_made code k s piece e = subst (λ x. Makes code k s commands.Rollback true x (settled commands.Rollback s)) (sym e) rollback
+
+-- ---- its piece is put, and its mark is closed
+
+pub does : (code : RawCode) (k : ℕ) (s : Standing) (c : ScriptCommand) (sunk : Sunk) (piece : List ℕ) (goes : Bool) (t : Standing) (step : Step) → Puts goes piece sunk step → Makes code k s c goes piece (settled c t) → Does code k s c sunk t step
+does code k s c sunk piece goes t steps.Next p h = record { piece = piece; makes = subst (λ b. Makes code k s c b piece (settled c t)) p.0 h; put = p.1 }
+does code k s c sunk piece goes t steps.TurnsUsed p h = record { piece = piece; makes = subst (λ b. Makes code k s c b piece (settled c t)) p.0 h; put = p.1 }
+does code k s c sunk piece goes t steps.WriteFault p h = record { goes = goes; piece = piece; due = settled c t; makes = h; put = p; same = refl }
 does code k s c sunk piece goes t steps.Memory p h = p
 
--- the same where a mark was taken for the command: what it stands for is what the command found
+closed : (code : RawCode) (k : ℕ) (s : Standing) (c : ScriptCommand) (sunk : Sunk) (made now : List Contents) (turns : ℕ) (committed : List Contents) (step : Step)
+    → Does code k s c sunk (standing made turns committed) step → now ≡ tables_after step made s.tables → Closes code k s c sunk (standing now turns committed) step
+closed code k s c sunk made now turns committed steps.Next h e = subst (λ tables. IsPut code k s c sunk true (settled c (standing tables turns committed))) (sym e) h
+closed code k s c sunk made now turns committed steps.TurnsUsed h e = subst (λ tables. IsPut code k s c sunk false (settled c (standing tables turns committed))) (sym e) h
+closed code k s c sunk made now turns committed steps.WriteFault h e = subst (λ tables. IsTorn code k s c sunk (settled c (standing tables turns committed))) (sym e) h
+closed code k s c sunk made now turns committed steps.Memory h e = record { put = h; same = e }
+
+-- the mark that was taken for the command stands for what the command found
 pub closed_at : (code : RawCode) (k : ℕ) (c : ScriptCommand) (sunk : Sunk) (old found at_found at_made made now : List Contents) (turns left : ℕ) (committed : List Contents) (step : Step)
     → found ≡ old → at_found ≡ old → at_made ≡ at_found → Does code k (standing found turns committed) c sunk (standing made left committed) step → now ≡ tables_after step made at_made
-    → EndsIn code k (standing old turns committed) c sunk (standing now left committed) step
+    → Closes code k (standing old turns committed) c sunk (standing now left committed) step
 closed_at code k c sunk old found at_found at_made made now turns left committed step e f g h n =
     closed code k (standing old turns committed) c sunk made now left committed step
     (subst (λ tables. Does code k (standing tables turns committed) c sunk (standing made left committed) step) e h) (n ∙ ap (tables_after step made) (g ∙ f))
 
--- the same command, where what ROLLBACK goes to is the same
-pub comes_as : (code : RawCode) (k : ℕ) (s : Standing) (c d : ScriptCommand) (sunk : Sunk) (now : List Contents) (left : ℕ) (committed new : List Contents) (step : Step)
-    → d ≡ c → new ≡ committed → EndsIn code k s c sunk (standing now left committed) step → EndsIn code k s d sunk (standing now left new) step
-comes_as code k s c d sunk now left committed new step e f h =
-    subst (λ x. EndsIn code k s x sunk (standing now left new) step) (sym e) (subst (λ x. EndsIn code k s c sunk (standing now left x) step) (sym f) h)
+-- ---- the transaction is settled
 
--- a command that has no mark of its own
-pub comes : (code : RawCode) (k : ℕ) (s : Standing) (c : ScriptCommand) (sunk : Sunk) (piece : List ℕ) (made now : List Contents) (turns : ℕ) (committed : List Contents) (goes : Bool) (step : Step)
-    → Puts goes piece sunk step → Makes code k s c goes piece (standing made turns committed) → now ≡ tables_after step made s.tables → EndsIn code k s c sunk (standing now turns committed) step
-comes code k s c sunk piece made now turns committed goes step p h e = closed code k s c sunk made now turns committed step (does code k s c sunk piece goes (standing made turns committed) step p h) e
+pub settled_turns : (c : ScriptCommand) (t : Standing) → (settled c t).turns ≡ t.turns
+settled_turns (commands.Call n values) t = refl
+settled_turns (commands.Insert table columns rows) t = refl
+settled_turns (commands.Select query) t = refl
+settled_turns commands.Commit t = refl
+settled_turns commands.Rollback t = refl
 
--- ---- COMMIT and ROLLBACK
+pub commit_settles : (tables now committed new : List Contents) (turns : ℕ) → now ≡ tables → new ≡ tables → standing now turns new ≡ settled commands.Commit (standing tables turns committed)
+commit_settles tables now committed new turns e h = ap (λ x. standing x turns new) e ∙ ap (standing tables turns) h
 
-pub commit_comes : (code : RawCode) (k : ℕ) (tables now : List Contents) (turns : ℕ) (committed new : List Contents) (sunk : Sunk) (step : Step) → Puts true (first_line k (codes "COMMIT") ++ ok_line) sunk step
-    → now ≡ tables → new ≡ tables → EndsIn code k (standing tables turns committed) commands.Commit sunk (standing now turns new) step
-commit_comes code k tables now turns committed new sunk step p e h =
-    let s = standing tables turns committed in
-    let piece = first_line k (codes "COMMIT") ++ ok_line in
-    comes code k s commands.Commit sunk piece tables now turns new true step p
-    (subst (λ x. Makes code k s commands.Commit true piece (standing tables turns x)) (sym h) commit) (e ∙ sym (tables_after-same step tables))
+pub rollback_settles : (step : Step) (tables now committed new : List Contents) (turns : ℕ) → now ≡ tables_after step committed tables → new ≡ committed
+    → Settles step commands.Rollback (standing tables turns committed) (standing now turns new) (Ok step)
+rollback_settles steps.Next tables now committed new turns e h = (refl, ap (λ x. standing x turns new) e ∙ ap (standing committed turns) h, inl h)
+rollback_settles steps.TurnsUsed tables now committed new turns e h = (refl, e, inl h)
+rollback_settles steps.WriteFault tables now committed new turns e h = (refl, e, inl h)
+rollback_settles steps.Memory tables now committed new turns e h = (refl, e, inl h)
 
-pub roll_back_comes : (code : RawCode) (k : ℕ) (tables now : List Contents) (turns : ℕ) (committed new : List Contents) (sunk : Sunk) (step : Step) → Puts true (first_line k (codes "ROLLBACK") ++ ok_line) sunk step
-    → now ≡ tables_after step committed tables → new ≡ committed → EndsIn code k (standing tables turns committed) commands.Rollback sunk (standing now turns new) step
-roll_back_comes code k tables now turns committed new sunk step p e h =
-    let s = standing tables turns committed in
-    let piece = first_line k (codes "ROLLBACK") ++ ok_line in
-    comes code k s commands.Rollback sunk piece committed now turns new true step p
-    (subst (λ x. Makes code k s commands.Rollback true piece (standing committed turns x)) (sym h) rollback) e
+-- a command that is none of the two
+pub nothing_settles : (step : Step) (c : ScriptCommand) (t : Standing) → settled c t ≡ t → Settles step c t t (Ok step)
+nothing_settles steps.Next c t e = (refl, sym e, inl refl)
+nothing_settles steps.TurnsUsed c t e = (refl, sym (ap (λ (x : Standing). x.tables) e), inl refl)
+nothing_settles steps.WriteFault c t e = (refl, sym (ap (λ (x : Standing). x.tables) e), inl refl)
+nothing_settles steps.Memory c t e = (refl, refl, inl refl)
+
+-- what holds of the tables, and of those to which ROLLBACK goes, holds of them once it is settled
+settled_holds : (P : List Contents → Type 0) (c : ScriptCommand) (t : Standing) → P t.tables → P t.committed → P (settled c t).tables × P (settled c t).committed
+settled_holds P (commands.Call n values) t h k = (h, k)
+settled_holds P (commands.Insert table columns rows) t h k = (h, k)
+settled_holds P (commands.Select query) t h k = (h, k)
+settled_holds P commands.Commit t h k = (h, h)
+settled_holds P commands.Rollback t h k = (k, k)
+
+settled_tables : (P : List Contents → Type 0) (step : Step) (c : ScriptCommand) (t u : Standing) → Settled step c t u → P t.tables → P (settled c t).tables → P u.tables
+settled_tables P steps.Next c t u e h k = subst (λ (x : Standing). P x.tables) (sym e) k
+settled_tables P steps.TurnsUsed c t u e h k = subst P (sym e) k
+settled_tables P steps.WriteFault c t u e h k = subst P (sym e) k
+settled_tables P steps.Memory c t u e h k = subst P (sym e) h
+
+pub settles_tables : (P : List Contents → Type 0) (step : Step) (c : ScriptCommand) (t u : Standing) (result : Result Step AllocError) → Settles step c t u result → P t.tables → P t.committed → P u.tables
+settles_tables P step c t u (Ok s) e h k = settled_tables P step c t u e.1 h (settled_holds P c t h k).0
+settles_tables P step c t u (Err x) e h k = subst P (sym e.1) (settled_holds P c t h k).0
+
+pub settles_committed : (P : List Contents → Type 0) (step : Step) (c : ScriptCommand) (t u : Standing) (result : Result Step AllocError) → Settles step c t u result → P t.tables → P t.committed → IfOk result (λ s. P u.committed)
+settles_committed P step c t u (Ok s) (a, b, inl e) h k = subst P (sym e) k
+settles_committed P step c t u (Ok s) (a, b, inr e) h k = subst P (sym e) (settled_holds P c t h k).1
+settles_committed P step c t u (Err x) e h k = tt
+
+module _ (code : RawCode) (k : ℕ) (s : Standing) (c : ScriptCommand) (t u : Standing) where
+  cut_as : (piece : List ℕ) → u.tables ≡ (settled c t).tables → u.turns ≡ t.turns → Makes code k s c false piece (settled c t) → Makes code k s c false piece u
+  cut_as piece same turns h = (h.0, same ∙ h.1, turns ∙ sym (settled_turns c t) ∙ h.2)
+
+  -- the end of a command, where its step goes on or turns ran out
+  pub settled_makes : (goes : Bool) (piece : List ℕ) → u.turns ≡ t.turns → Makes code k s c goes piece (settled c t) → Settled (step_after goes) c t u → Makes code k s c goes piece u
+  settled_makes true piece turns h e = subst (Makes code k s c true piece) (sym e) h
+  settled_makes false piece turns h e = cut_as piece e turns h
+
+  module _ (sunk : Sunk) where
+    ends : (step : Step) → u.turns ≡ t.turns → Closes code k s c sunk t step → Settled step c t u → EndsIn code k s c sunk u step
+    ends steps.Next turns h e = subst (IsPut code k s c sunk true) (sym e) h
+    ends steps.TurnsUsed turns h e = record { piece = h.piece; makes = cut_as h.piece e turns h.makes; put = h.put }
+    ends steps.WriteFault turns h e = record { goes = h.goes; piece = h.piece; due = h.due; makes = h.makes; put = h.put; same = e ∙ h.same }
+    ends steps.Memory turns h e = record { put = h.put; same = e ∙ h.same }
+
+    pub settles_comes : (step : Step) (result : Result Step AllocError) → u.turns ≡ t.turns → Closes code k s c sunk t step → Settles step c t u result → Comes code k s c sunk u result
+    settles_comes step (Ok x) turns h e = subst (EndsIn code k s c sunk u) (sym e.0) (ends step turns h e.1)
+    settles_comes step (Err x) turns h e = record { due = settled c t; is_put = subst (Closes code k s c sunk t) e.0 h; same = e.1 }
 
 -- ---- SELECT
 
@@ -102,8 +155,5 @@ module _ (code : RawCode) (k : ℕ) (tables : List Contents) (turns : ℕ) (comm
       let first = first_line k (codes "SELECT") in
       subst (Executes code first s (commands.Select q)) (selected_is first s (answer (over []) (query_of q) c.rows) ∙ ap (λ p. Went p s) (sym h)) (select e)
 
-  pub select_comes : (sunk : Sunk) (step : Step) → q.table < length tables → IfSome (slice_get tables q.table) Due → Puts true piece sunk step
-      → EndsIn code k (standing tables turns committed) (commands.Select q) sunk (standing tables turns committed) step
-  select_comes sunk step lt h p =
-      comes code k (standing tables turns committed) (commands.Select q) sunk piece tables tables turns committed true step p
-      (select_makes (slice_get tables q.table) refl (there tables q.table lt) h) (sym (tables_after-same step tables))
+  pub select_made : q.table < length tables → IfSome (slice_get tables q.table) Due → Makes code k (standing tables turns committed) (commands.Select q) true piece (standing tables turns committed)
+  select_made lt h = select_makes (slice_get tables q.table) refl (there tables q.table lt) h

@@ -1,17 +1,16 @@
 -- A script, command by command, and its ends.
-use Rattle.std.proofs.Common.{◌≡◌, ℕ, suc, ◌+◌, ◌<◌, ◌≤◌, Bool, true, false, List, [], ◌∷◌, ◌++◌, ◌⊎◌, inl, inr, length, take, drop, get_or, Option, refl, sym, ap, ◌∙◌, subst, append_assoc, add-one, drop-cons, take-append-drop, length-take-le, take_all, arith}
-use Rattle.std.proofs.lemmas.List.{take_more}
+use Rattle.std.proofs.Common.{◌≡◌, ℕ, ◌+◌, ◌<◌, ◌≤◌, Bool, true, false, List, [], ◌∷◌, ◌++◌, ◌⊎◌, inl, inr, length, take, drop, get_or, Option, refl, sym, ◌∙◌, subst, append_assoc, take-append-drop, take_all}
 use Rattle.psm_code.specs.declared.code.RawCode.{RawCode}
 use Rattle.psm_meaning.specs.Session.{Standing}
 use Rattle.psm_session.specs.Ends.{Ends, RunsOut, IsBroken, IsBrokenCut}
 use Rattle.psm_session.specs.CommandSteps.{Runs, none}
 use Rattle.psm_session.specs.Put.{Sunk, PutAll, PutSome}
-use Rattle.psm_session.specs.Steps.{EndsIn, IsIdle, Makes}
+use Rattle.psm_session.specs.Steps.{EndsIn, IsIdle, IsUnmarked, Makes}
 use Rattle.psm_session.specs.declared.command.ScriptCommand.{ScriptCommand}
 use Rattle.psm_session.specs.declared.script.ScriptEnd.TheVariants as ends
 use Rattle.psm_session.specs.declared.step.Step.{Step}
 use Rattle.psm_session.specs.declared.step.Step.TheVariants as steps
-use Rattle.psm_session.proofs.Commands.{runs_further}
+use Rattle.psm_session.proofs.Commands.{number_at, runs_further, split_at, take_through}
 use Rattle.psm_session.proofs.Puts.{sunk, PutAll-nothing, PutAll-still, PutAll-then, PutUpTo-then}
 
 -- n commands were run, and their pieces are put
@@ -52,20 +51,17 @@ module _ (code : RawCode) (cs : List ScriptCommand) (i : ℕ) (c : ScriptCommand
   abbrev later : List ScriptCommand
   later = drop (i + 1) cs
 
-  drop_here : drop i cs ≡ c ∷ later
-  drop_here = rw add-one (drop-cons cs i c lt ∙ ap (λ d. d ∷ drop (suc i) cs) (sym e))
-
-  take_here : take (i + 1) cs ≡ before ++ c ∷ []
-  take_here = take_more cs i c lt ∙ ap (λ d. take i cs ++ d ∷ []) (sym e)
-
   split : cs ≡ before ++ c ∷ later
-  split = sym (take-append-drop i cs) ∙ ap (λ ds. take i cs ++ ds) drop_here
+  split = split_at cs i c lt e
 
   split_after : cs ≡ (before ++ c ∷ []) ++ later
   split_after = split ∙ sym (append_assoc before (c ∷ []) later)
 
+  take_here : take (i + 1) cs ≡ before ++ c ∷ []
+  take_here = take_through cs i c lt e
+
   number : i + 1 ≡ length before + 1
-  number = ap (λ n. n + 1) (sym (length-take-le i cs (omega (arith, lt))))
+  number = number_at cs i c lt
 
   -- what the command ends in
   abbrev Comes : Step → Type 0
@@ -130,8 +126,8 @@ module _ (code : RawCode) (cs : List ScriptCommand) (i : ℕ) (c : ScriptCommand
   pub ends_write_fault : (step : Step) → step ≡ steps.WriteFault → Comes step → Ends code cs s (sunk w f w'' f'') u.tables u.turns ends.WriteFault
   ends_write_fault step is comes = let last = subst Comes is comes in torn last.goes last.piece last.due last.makes last.put last.same
 
-  pub ends_unmarked : IsIdle t (sunk w' f' w'' f'') u → Ends code cs s (sunk w f w'' f'') u.tables u.turns ends.Memory
-  ends_unmarked idle = record {
+  ends_idle : IsIdle t (sunk w' f' w'' f'') u → Ends code cs s (sunk w f w'' f'') u.tables u.turns ends.Memory
+  ends_idle idle = record {
     pieces = so_far.pieces;
     end = t;
     ran = record { first = before; later = drop i cs; are = sym (take-append-drop i cs); ran = so_far.ran };
@@ -140,4 +136,19 @@ module _ (code : RawCode) (cs : List ScriptCommand) (i : ℕ) (c : ScriptCommand
   }
 
   pub ends_memory : (step : Step) → step ≡ steps.Memory → Comes step → Ends code cs s (sunk w f w'' f'') u.tables u.turns ends.Memory
-  ends_memory step is comes = ends_unmarked (subst Comes is comes)
+  ends_memory step is comes = ends_idle (subst Comes is comes)
+
+  -- the transaction has no mark after the command, which is a COMMIT
+  pub ends_unmarked : IsUnmarked code (i + 1) t c (sunk w' f' w'' f'') u → Ends code cs s (sunk w f w'' f'') u.tables u.turns ends.Memory
+  ends_unmarked last = record {
+    pieces = so_far.pieces ++ last.is_put.piece ∷ [];
+    end = last.due;
+    ran = record {
+      first = before ++ c ∷ [];
+      later = later;
+      are = split_after;
+      ran = runs_further code 1 (i + 1) s t last.due before c so_far.pieces last.is_put.piece number so_far.ran last.is_put.makes;
+    };
+    put = PutAll-then w w' w'' f f' f'' so_far.pieces (last.is_put.piece ∷ []) so_far.put last.is_put.put;
+    tables_are = last.same;
+  }

@@ -1,5 +1,5 @@
 -- How the run of a script ends: what is in the sink, the tables, and the turns that are left.
-use Rattle.std.specs.Prelude.{◌≡◌, ℕ, ◌+◌, ◌⊎◌, List, [], ◌∷◌, ◌++◌, length, IsSome, slice_get, Some}
+use Rattle.std.specs.Prelude.{◌≡◌, ℕ, ◌+◌, ◌⊎◌, Bool, true, false, List, [], ◌∷◌, ◌++◌, length, IsSome, slice_get, Some}
 use Rattle.psm_exprcode.specs.declared.query.Query.{Query}
 use Rattle.psm_table.specs.Table.{Contents}
 use Rattle.psm_tablecode.specs.TypeChecks.{TypeChecksTable}
@@ -102,3 +102,30 @@ Ends code commands s sunk tables turns ends.Done = IsDone code commands s sunk t
 Ends code commands s sunk tables turns ends.TurnsUsed = IsCut code commands s sunk tables turns
 Ends code commands s sunk tables turns ends.WriteFault = IsBroken code commands s sunk tables ⊎ IsBrokenCut code commands s sunk tables
 Ends code commands s sunk tables turns ends.Memory = IsShort code commands s sunk tables
+
+-- ---- ends of a script that puts nothing
+
+-- the last of these pieces, or that one if there are none
+abbrev pub last_or : List ℕ → List (List ℕ) → List ℕ
+last_or piece [] = piece
+last_or piece (p ∷ ps) = last_or p ps
+
+-- all commands were run; the piece is that of the last, empty if there is none
+pub record EndsAfterAll (code : RawCode) (commands : List ScriptCommand) (s : Standing) (piece : List ℕ) (turns : ℕ) : Type 0 where
+  pub pieces : List (List ℕ)
+  pub end : Standing
+  pub ran : Runs code 1 s commands pieces end
+  pub piece_is : piece ≡ last_or [] pieces
+  pub left : turns ≡ end.turns
+
+-- the turns ran out in a command, and the piece is its own
+pub record EndsWithoutTurns (code : RawCode) (commands : List ScriptCommand) (s : Standing) (piece : List ℕ) (turns : ℕ) : Type 0 where
+  pub pieces : List (List ℕ)
+  pub before : Standing
+  pub runs_out : RunsOut code commands s pieces before piece
+  pub left : turns ≡ 0
+
+-- whether all were run, with the last piece and the turns that are left
+abbrev pub EndsWith : RawCode → List ScriptCommand → Standing → Bool → List ℕ → ℕ → Type 0
+EndsWith code commands s true piece turns = EndsAfterAll code commands s piece turns
+EndsWith code commands s false piece turns = EndsWithoutTurns code commands s piece turns

@@ -1,5 +1,6 @@
 -- What one command of a script ends in.
-use Rattle.std.specs.Prelude.{◌≡◌, ℕ, ◌+◌, Bool, true, false, List, [], ◌∷◌, Option, Some, None, Result, Ok, Err}
+use Rattle.std.specs.Prelude.{◌≡◌, ℕ, ◌+◌, ◌⊎◌, Bool, true, false, List, [], ◌∷◌, Option, Some, None, Result, Ok, Err}
+use Rattle.std.specs.Global.{Vec}
 use Rattle.std.specs.declared.alloc.AllocError.{AllocError}
 use Rattle.psm_table.specs.Table.{Contents}
 use Rattle.psm_store.specs.declared.store.Mark.{Mark}
@@ -12,6 +13,8 @@ use Rattle.psm_meaning.specs.Session.{Standing, Stopped, Went}
 use Rattle.psm_session.specs.CommandSteps.{CommandExecutes}
 use Rattle.psm_session.specs.Put.{Sunk, PutAll, PutSome}
 use Rattle.psm_session.specs.declared.command.ScriptCommand.{ScriptCommand}
+use Rattle.psm_session.specs.declared.command.ScriptCommand.TheVariants as commands
+use Rattle.psm_session.specs.declared.step.CommandEnd.{CommandEnd}
 use Rattle.psm_session.specs.declared.step.Step.{Step}
 use Rattle.psm_session.specs.declared.step.Step.TheVariants as steps
 
@@ -80,17 +83,64 @@ EndsIn code k s c sunk t steps.TurnsUsed = IsPut code k s c sunk false t
 EndsIn code k s c sunk t steps.WriteFault = IsTorn code k s c sunk t
 EndsIn code k s c sunk t steps.Memory = IsIdle s sunk t
 
--- the same while the command has a mark of its own: where memory ran out, the tables are put back to that yet
-abbrev pub Does : RawCode → ℕ → Standing → ScriptCommand → Sunk → Standing → Step → Type 0
-Does code k s c sunk t steps.Next = IsPut code k s c sunk true t
-Does code k s c sunk t steps.TurnsUsed = IsPut code k s c sunk false t
-Does code k s c sunk t steps.WriteFault = IsTorn code k s c sunk t
-Does code k s c sunk t steps.Memory = PutAll sunk []
+-- a COMMIT ends in a piece, which is put, and there was no memory for the mark of the next transaction
+pub record IsUnmarked (code : RawCode) (k : ℕ) (s : Standing) (c : ScriptCommand) (sunk : Sunk) (t : Standing) : Type 0 where
+  pub due : Standing
+  pub is_put : IsPut code k s c sunk true due
+  pub same : t.tables ≡ due.tables
 
 -- the same, where the transaction may lose its mark because memory ran out
 abbrev pub Comes : RawCode → ℕ → Standing → ScriptCommand → Sunk → Standing → Result Step AllocError → Type 0
 Comes code k s c sunk t (Ok step) = EndsIn code k s c sunk t step
-Comes code k s c sunk t (Err e) = IsIdle s sunk t
+Comes code k s c sunk t (Err e) = IsUnmarked code k s c sunk t
+
+-- ---- steps of which the transaction isn't settled yet
+
+-- what COMMIT and ROLLBACK make of the tables and of those to which ROLLBACK goes
+abbrev pub settled : ScriptCommand → Standing → Standing
+settled (commands.Call n values) s = s
+settled (commands.Insert table columns rows) s = s
+settled (commands.Select query) s = s
+settled commands.Commit s = record s { committed = s.tables }
+settled commands.Rollback s = record s { tables = s.committed }
+
+-- what command k ends in, once the transaction is settled
+abbrev pub Closes : RawCode → ℕ → Standing → ScriptCommand → Sunk → Standing → Step → Type 0
+Closes code k s c sunk t steps.Next = IsPut code k s c sunk true (settled c t)
+Closes code k s c sunk t steps.TurnsUsed = IsPut code k s c sunk false (settled c t)
+Closes code k s c sunk t steps.WriteFault = IsTorn code k s c sunk (settled c t)
+Closes code k s c sunk t steps.Memory = IsIdle s sunk t
+
+-- the same while the command has a mark of its own: where memory ran out, the tables are put back to that yet
+abbrev pub Does : RawCode → ℕ → Standing → ScriptCommand → Sunk → Standing → Step → Type 0
+Does code k s c sunk t steps.Next = IsPut code k s c sunk true (settled c t)
+Does code k s c sunk t steps.TurnsUsed = IsPut code k s c sunk false (settled c t)
+Does code k s c sunk t steps.WriteFault = IsTorn code k s c sunk (settled c t)
+Does code k s c sunk t steps.Memory = PutAll sunk []
+
+-- the transaction of a command after its step, where the next command is due, a piece is put, or nothing was done
+abbrev pub Settled : Step → ScriptCommand → Standing → Standing → Type 0
+Settled steps.Next c t u = u ≡ settled c t
+Settled steps.TurnsUsed c t u = u.tables ≡ (settled c t).tables
+Settled steps.WriteFault c t u = u.tables ≡ (settled c t).tables
+Settled steps.Memory c t u = u.tables ≡ t.tables
+
+-- the same, or after COMMIT there was no memory for a new mark
+abbrev pub Settles : Step → ScriptCommand → Standing → Standing → Result Step AllocError → Type 0
+Settles step c t u (Ok s) = (s ≡ step) × Settled step c t u × ((u.committed ≡ t.committed) ⊎ (u.committed ≡ (settled c t).committed))
+Settles step c t u (Err e) = (step ≡ steps.Next) × (u.tables ≡ (settled c t).tables)
+
+-- a command with that piece goes on
+abbrev pub GoesOn : Result (Vec ℕ) AllocError → Result CommandEnd AllocError → Type 0
+GoesOn (Ok piece) (Ok end) = (end.piece ≡ piece) × (end.goes_on ≡ true)
+GoesOn (Ok piece) (Err e) = ⊥
+GoesOn (Err e) (Ok end) = ⊥
+GoesOn (Err e) (Err f) = Unit {0}
+
+-- the step of a command whose piece isn't put
+abbrev pub step_after : Bool → Step
+step_after true = steps.Next
+step_after false = steps.TurnsUsed
 
 -- ---- the mark of the transaction
 
@@ -101,7 +151,13 @@ pub record StaysMarked (holds : Mark → Type 0) (mark : Mark) (holds_new : Mark
   pub count : count_new ≡ mark.depth + 1
   pub inside : (outer : Mark) → holds outer → IsOutside mark outer → IsOutside new outer
 
--- the same, or it has lost its mark
+-- the transaction has a mark of that depth, the deepest
+pub record HasMark (holds : Mark → Type 0) (count depth : ℕ) (mark : Mark) : Type 0 where
+  pub held : holds mark
+  pub depth_is : mark.depth ≡ depth
+  pub counted : count ≡ depth + 1
+
+-- it stays marked, or it has lost its mark
 abbrev pub Marked : {A : Type 0} → (Mark → Type 0) → Mark → (Mark → Type 0) → ℕ → Mark → Result A AllocError → Type 0
 Marked holds mark holds_new count_new new (Ok step) = StaysMarked holds mark holds_new count_new new
 Marked holds mark holds_new count_new new (Err e) = count_new ≡ mark.depth

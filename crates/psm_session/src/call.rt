@@ -1,5 +1,5 @@
 //! CALL (ISO/IEC 9075-4:1996, call statement).
-ghost use Rattle.std.specs.Prelude.{◌≡◌, ◌<◌, ◌+◌, All, IfOk, IsSome, IsTrue, List, None, Some};
+ghost use Rattle.std.specs.Prelude.{◌≡◌, ◌<◌, All, IfOk, IsSome, IsTrue, List, None, Some};
 ghost use Rattle.psm_cond.specs.WellFormed.{is_numbered};
 ghost use Rattle.psm_table.specs.Table.{Contents};
 ghost use Rattle.psm_store.specs.Marks.{AnyMark, Keeps};
@@ -9,93 +9,35 @@ ghost use Rattle.psm_code.specs.MachineInvariant.{AreKept};
 ghost use Rattle.psm_unwind.specs.Marks.{most_open};
 ghost use Rattle.psm_unwind.specs.View.{end_of};
 ghost use Rattle.psm_machine.specs.Running.{Takes};
-ghost use Rattle.psm_session.specs.Put.{sunk_of};
-ghost use Rattle.psm_session.specs.Steps.{EndsIn, Does, Makes, goes_after, standing, turns_left};
+ghost use Rattle.psm_session.specs.Steps.{Makes, goes_after, standing, turns_left};
 ghost use Rattle.psm_session.specs.declared.command.ScriptCommand.TheVariants as commands;
 
 use crate::piece::piece_of_call;
-use crate::step::{Made, Step, close, put};
+use crate::step::CommandEnd;
 use psm_code::{RawCode, RawRoutine};
-use psm_io::Sink;
 use psm_machine::run;
 use psm_store::Store;
 use psm_unwind::Ending;
 use psm_value::Datum;
 use std::alloc::{AllocError, Global};
 
-/// Runs a procedure with the values for its IN and INOUT parameters, and puts its piece. Where its turns ran out, or memory did, the
-/// tables are as before.
-pub(crate) fn call<S: Store, K: Sink>(
+/// Runs a procedure with the values for its IN and INOUT parameters, and gives its piece. Where its turns ran out, the tables are as
+/// before.
+pub(crate) fn call<S: Store>(
     alloc: Global,
     code: &RawCode,
     number: u64,
     routine: u32,
     values: &[Datum],
     store: &mut S,
-    out: &mut K,
     turns: &mut u64,
-) -> Step
-    requires well_formed_code { first_fault code.now ≡ None }
-    requires numbered { All (λ r. IsTrue (is_numbered r.handlers)) code.now.routines }
-    requires takes { Takes code.now routine values.now }
-    requires kept { AreKept code.now.tables (S.tables store.old) }
-    requires few { S.marks store.old + 1 < most_open }
-    ensures comes { (committed : List Contents) → EndsIn code.now number (standing (S.tables store.old) turns.old committed) (commands.Call routine values.now) (sunk_of K.written K.faults out.old out.new) (standing (S.tables store.new) turns.new committed) result }
-    ensures kept { AreKept code.now.tables (S.tables store.new) }
-    ensures marks { S.marks store.new ≡ S.marks store.old }
-    ensures keeps { Keeps AnyMark (S.holds store.old) (S.at store.old) (S.holds store.new) (S.at store.new) }
-{
-    let Ok(mark) = store.mark(alloc) else {
-        return Step::Memory;
-    };
-    let step = play(alloc, code, number, routine, values, store, out, turns);
-    close(step, mark, store);
-    step
-}
-
-// The same, but for the tables where memory runs out.
-fn play<S: Store, K: Sink>(
-    alloc: Global,
-    code: &RawCode,
-    number: u64,
-    routine: u32,
-    values: &[Datum],
-    store: &mut S,
-    out: &mut K,
-    turns: &mut u64,
-) -> Step
+) -> Result<CommandEnd, AllocError>
     requires well_formed_code { first_fault code.now ≡ None }
     requires numbered { All (λ r. IsTrue (is_numbered r.handlers)) code.now.routines }
     requires takes { Takes code.now routine values.now }
     requires kept { AreKept code.now.tables (S.tables store.old) }
     requires few { S.marks store.old < most_open }
-    ensures does { (committed : List Contents) → Does code.now number (standing (S.tables store.old) turns.old committed) (commands.Call routine values.now) (sunk_of K.written K.faults out.old out.new) (standing (S.tables store.new) turns.new committed) result }
-    ensures kept { AreKept code.now.tables (S.tables store.new) }
-    ensures marks { S.marks store.new ≡ S.marks store.old }
-    ensures keeps { Keeps AnyMark (S.holds store.old) (S.at store.old) (S.holds store.new) (S.at store.new) }
-{
-    match ran(alloc, code, number, routine, values, store, turns) {
-        Ok(made) => put(&made, out),
-        Err(_) => Step::Memory,
-    }
-}
-
-// Runs the procedure, and makes its piece.
-fn ran<S: Store>(
-    alloc: Global,
-    code: &RawCode,
-    number: u64,
-    routine: u32,
-    values: &[Datum],
-    store: &mut S,
-    turns: &mut u64,
-) -> Result<Made, AllocError>
-    requires well_formed_code { first_fault code.now ≡ None }
-    requires numbered { All (λ r. IsTrue (is_numbered r.handlers)) code.now.routines }
-    requires takes { Takes code.now routine values.now }
-    requires kept { AreKept code.now.tables (S.tables store.old) }
-    requires few { S.marks store.old < most_open }
-    ensures made { IfOk result (λ m. (committed : List Contents) → Makes code.now number (standing (S.tables store.old) turns.old committed) (commands.Call routine values.now) m.goes_on m.piece.items (standing (S.tables store.new) turns.new committed)) }
+    ensures made { IfOk result (λ e. (committed : List Contents) → Makes code.now number (standing (S.tables store.old) turns.old committed) (commands.Call routine values.now) e.goes_on e.piece.items (standing (S.tables store.new) turns.new committed)) }
     ensures kept { AreKept code.now.tables (S.tables store.new) }
     ensures marks { S.marks store.new ≡ S.marks store.old }
     ensures keeps { Keeps AnyMark (S.holds store.old) (S.at store.old) (S.holds store.new) (S.at store.new) }
@@ -105,7 +47,7 @@ fn ran<S: Store>(
     let piece = piece_of_call(alloc, number, routine_of(code, routine), &finished.ending)?;
     let goes_on = goes_on(&finished.ending);
     *turns = turns_left(goes_on, finished.turns);
-    Ok(Made { piece, goes_on })
+    Ok(CommandEnd { piece, goes_on })
 }
 
 // A routine of the code by its number.

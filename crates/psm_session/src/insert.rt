@@ -1,86 +1,22 @@
 //! INSERT of given rows (ISO/IEC 9075:1992, 13.8).
-ghost use Rattle.std.specs.Prelude.{◌≡◌, ◌<◌, ◌+◌, ℕ, true, IfOk, IsSome, List, None, Some, slice_get};
+ghost use Rattle.std.specs.Prelude.{◌≡◌, ◌<◌, ℕ, true, IfOk, IsSome, List, None, Some, slice_get};
 ghost use Rattle.psm_table.specs.Table.{Contents};
 ghost use Rattle.psm_store.specs.Marks.{AnyMark, Keeps};
 ghost use Rattle.psm_code.specs.RoutineRules.{first_fault};
 ghost use Rattle.psm_code.specs.MachineInvariant.{AreKept};
 ghost use Rattle.psm_unwind.specs.Marks.{most_open};
-ghost use Rattle.psm_session.specs.Put.{sunk_of};
-ghost use Rattle.psm_session.specs.Steps.{EndsIn, Does, Makes, standing};
+ghost use Rattle.psm_session.specs.Steps.{Makes, standing};
 ghost use Rattle.psm_session.specs.declared.command.ScriptCommand.TheVariants as commands;
 
 use crate::piece::piece_of;
-use crate::step::{Made, Step, close, put};
 use psm_code::{CodeTable, RawCode};
 use psm_cond::DataFault;
-use psm_io::Sink;
 use psm_machine::put_rows;
 use psm_store::{Row, Store};
 use std::alloc::{AllocError, Global};
 
-/// Puts rows of values for some columns into a table of the code, and puts the piece of that. Where memory runs out, the tables are as
-/// before.
-pub(crate) fn insert<S: Store, K: Sink>(
-    alloc: Global,
-    code: &RawCode,
-    number: u64,
-    table: u32,
-    columns: &[u32],
-    rows: &[Row],
-    store: &mut S,
-    out: &mut K,
-) -> Step
-    requires well_formed_code { first_fault code.now ≡ None }
-    requires there { IsSome (slice_get code.now.tables table) }
-    requires kept { AreKept code.now.tables (S.tables store.old) }
-    requires few { S.marks store.old + 1 < most_open }
-    ensures comes { (turns : ℕ) (committed : List Contents) → EndsIn code.now number (standing (S.tables store.old) turns committed) (commands.Insert table columns.now rows.now) (sunk_of K.written K.faults out.old out.new) (standing (S.tables store.new) turns committed) result }
-    ensures kept { AreKept code.now.tables (S.tables store.new) }
-    ensures marks { S.marks store.new ≡ S.marks store.old }
-    ensures keeps { Keeps AnyMark (S.holds store.old) (S.at store.old) (S.holds store.new) (S.at store.new) }
-{
-    let Ok(mark) = store.mark(alloc) else {
-        return Step::Memory;
-    };
-    let step = fill(alloc, code, number, table, columns, rows, store, out);
-    close(step, mark, store);
-    step
-}
-
-// The same, but for the tables where memory runs out.
-fn fill<S: Store, K: Sink>(
-    alloc: Global,
-    code: &RawCode,
-    number: u64,
-    table: u32,
-    columns: &[u32],
-    rows: &[Row],
-    store: &mut S,
-    out: &mut K,
-) -> Step
-    requires well_formed_code { first_fault code.now ≡ None }
-    requires there { IsSome (slice_get code.now.tables table) }
-    requires kept { AreKept code.now.tables (S.tables store.old) }
-    requires few { S.marks store.old < most_open }
-    ensures does { (turns : ℕ) (committed : List Contents) → Does code.now number (standing (S.tables store.old) turns committed) (commands.Insert table columns.now rows.now) (sunk_of K.written K.faults out.old out.new) (standing (S.tables store.new) turns committed) result }
-    ensures kept { AreKept code.now.tables (S.tables store.new) }
-    ensures marks { S.marks store.new ≡ S.marks store.old }
-    ensures keeps { Keeps AnyMark (S.holds store.old) (S.at store.old) (S.holds store.new) (S.at store.new) }
-{
-    match filled(alloc, code, number, table, columns, rows, store) {
-        Ok(piece) => put(
-            &Made {
-                piece,
-                goes_on: true,
-            },
-            out,
-        ),
-        Err(_) => Step::Memory,
-    }
-}
-
-// Puts the rows into the table, and makes the piece.
-fn filled<S: Store>(
+/// Puts rows of values for some columns into a table of the code, and gives the piece of that.
+pub(crate) fn insert<S: Store>(
     alloc: Global,
     code: &RawCode,
     number: u64,

@@ -1,4 +1,5 @@
-//! Runs a script over code and the tables of a store, command after command, and puts the piece of text of each into a sink.
+//! Runs a script over code and the tables of a store, command after command, and puts the piece of text of each into a sink, or gives
+//! that of the last.
 #![tactic(auto)]
 
 mod call;
@@ -9,8 +10,12 @@ mod piece;
 mod script;
 mod select;
 mod selecting;
+mod silent;
 mod step;
 mod transaction;
+mod work;
 
 pub use command::{ScriptCode, ScriptCommand};
 pub use script::{ScriptEnd, run_script};
+pub use silent::{SilentEnd, run_silently};
+pub use step::CommandEnd;

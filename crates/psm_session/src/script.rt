@@ -1,20 +1,19 @@
 //! The run of a script.
-ghost use Rattle.std.specs.Prelude.{◌≡◌, ◌+◌, ◌<◌, None, All, IfOk, IfSome, IsTrue};
+ghost use Rattle.std.specs.Prelude.{◌≡◌, ◌+◌, ◌<◌, None, All, IfOk, IfSome, IsTrue, List};
 ghost use Rattle.psm_cond.specs.WellFormed.{is_numbered};
+ghost use Rattle.psm_table.specs.Table.{Contents};
 ghost use Rattle.psm_store.specs.Marks.{AnyMark, IsOutside, Keeps};
 ghost use Rattle.psm_code.specs.RoutineRules.{first_fault};
 ghost use Rattle.psm_code.specs.MachineInvariant.{AreKept};
 ghost use Rattle.psm_unwind.specs.Marks.{most_open};
 ghost use Rattle.psm_session.specs.Ends.{Ends, FitsCommand, beginning};
 ghost use Rattle.psm_session.specs.Put.{sunk_of};
-ghost use Rattle.psm_session.specs.Steps.{Comes, IsOutsideOr, Marked, MarkedOr, marks_without, standing};
+ghost use Rattle.psm_session.specs.Steps.{Closes, Comes, Does, IsOutsideOr, Marked, MarkedOr, marks_without, standing};
 
-use crate::call::call;
 use crate::command::{ScriptCode, ScriptCommand};
-use crate::insert::insert;
-use crate::select::select;
-use crate::step::Step;
-use crate::transaction::{commit, roll_back};
+use crate::step::{Step, close, put};
+use crate::transaction::settle;
+use crate::work::work;
 use psm_code::RawCode;
 use psm_io::Sink;
 use psm_store::{Mark, Store};
@@ -135,7 +134,7 @@ fn run_commands<S: Store, K: Sink>(
     (ScriptEnd::Done, Some(transaction))
 }
 
-// Runs one command. Out of memory for a new mark of the transaction is an error.
+// Does one command, puts its piece, and settles the transaction. Out of memory for a new mark of the transaction is an error.
 fn run_command<S: Store, K: Sink>(
     alloc: Global,
     code: &RawCode,
@@ -160,33 +159,60 @@ fn run_command<S: Store, K: Sink>(
     ensures marked { Marked (S.holds store.old) mark.old (S.holds store.new) (S.marks store.new) mark.new result }
     ensures keeps { Keeps (IsOutside mark.old) (S.holds store.old) (S.at store.old) (S.holds store.new) (S.at store.new) }
 {
-    match command {
-        ScriptCommand::Call { routine, values } => Ok(call(
-            alloc,
-            code,
-            number,
-            *routine,
-            values.items(),
-            store,
-            out,
-            turns,
-        )),
-        ScriptCommand::Insert {
-            table,
-            columns,
-            rows,
-        } => Ok(insert(
-            alloc,
-            code,
-            number,
-            *table,
-            columns.items(),
-            rows.items(),
-            store,
-            out,
-        )),
-        ScriptCommand::Select(query) => Ok(select(alloc, number, query, store, out)),
-        ScriptCommand::Commit => commit(alloc, number, mark, store, out),
-        ScriptCommand::Rollback => Ok(roll_back(alloc, number, *mark, store, out)),
+    let step = show(alloc, code, number, command, store, out, turns);
+    settle(alloc, step, command, mark, store)
+}
+
+// Does a command under a mark of its own, and puts its piece. Where memory runs out, the tables are as before.
+fn show<S: Store, K: Sink>(
+    alloc: Global,
+    code: &RawCode,
+    number: u64,
+    command: &ScriptCommand,
+    store: &mut S,
+    out: &mut K,
+    turns: &mut u64,
+) -> Step
+    requires well_formed_code { first_fault code.now ≡ None }
+    requires numbered { All (λ r. IsTrue (is_numbered r.handlers)) code.now.routines }
+    requires fits { FitsCommand code.now command.now }
+    requires kept { AreKept code.now.tables (S.tables store.old) }
+    requires few { S.marks store.old + 1 < most_open }
+    ensures shows { (committed : List Contents) → Closes code.now number (standing (S.tables store.old) turns.old committed) command.now (sunk_of K.written K.faults out.old out.new) (standing (S.tables store.new) turns.new committed) result }
+    ensures kept { AreKept code.now.tables (S.tables store.new) }
+    ensures marks { S.marks store.new ≡ S.marks store.old }
+    ensures keeps { Keeps AnyMark (S.holds store.old) (S.at store.old) (S.holds store.new) (S.at store.new) }
+{
+    let Ok(mark) = store.mark(alloc) else {
+        return Step::Memory;
+    };
+    let step = work_and_put(alloc, code, number, command, store, out, turns);
+    close(step, mark, store);
+    step
+}
+
+// The same, but for the tables where memory runs out.
+fn work_and_put<S: Store, K: Sink>(
+    alloc: Global,
+    code: &RawCode,
+    number: u64,
+    command: &ScriptCommand,
+    store: &mut S,
+    out: &mut K,
+    turns: &mut u64,
+) -> Step
+    requires well_formed_code { first_fault code.now ≡ None }
+    requires numbered { All (λ r. IsTrue (is_numbered r.handlers)) code.now.routines }
+    requires fits { FitsCommand code.now command.now }
+    requires kept { AreKept code.now.tables (S.tables store.old) }
+    requires few { S.marks store.old < most_open }
+    ensures does { (committed : List Contents) → Does code.now number (standing (S.tables store.old) turns.old committed) command.now (sunk_of K.written K.faults out.old out.new) (standing (S.tables store.new) turns.new committed) result }
+    ensures kept { AreKept code.now.tables (S.tables store.new) }
+    ensures marks { S.marks store.new ≡ S.marks store.old }
+    ensures keeps { Keeps AnyMark (S.holds store.old) (S.at store.old) (S.holds store.new) (S.at store.new) }
+{
+    match work(alloc, code, number, command, store, turns) {
+        Ok(end) => put(&end, out),
+        Err(_) => Step::Memory,
     }
 }

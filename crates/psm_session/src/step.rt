@@ -20,20 +20,20 @@ pub enum Step {
     Memory,
 }
 
-/// The piece of a command, and whether the next command is due after it.
+/// What a command did: the piece of text that says so, and whether the next command is due after it. If none is, the turns ran out.
 #[derive(Debug, Drop)]
-pub struct Made {
+pub struct CommandEnd {
     pub piece: Vec<u8>,
     pub goes_on: bool,
 }
 
 /// Puts a piece.
-pub(crate) fn put<K: Sink>(made: &Made, out: &mut K) -> Step
-    ensures { Puts made.now.goes_on made.now.piece.items (sunk_of K.written K.faults out.old out.new) result }
+pub(crate) fn put<K: Sink>(end: &CommandEnd, out: &mut K) -> Step
+    ensures { Puts end.now.goes_on end.now.piece.items (sunk_of K.written K.faults out.old out.new) result }
 {
-    match out.put(&made.piece) {
+    match out.put(&end.piece) {
         Ok(()) => {
-            if made.goes_on {
+            if end.goes_on {
                 Step::Next
             } else {
                 Step::TurnsUsed

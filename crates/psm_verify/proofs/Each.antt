@@ -17,7 +17,7 @@ rest_of xs at a l e =
     let n : suc at ≡ at + 1 = omega arith in
     drop-cons xs at a l ∙ ap (λ x. x ∷ drop (suc at) xs) (sym e) ∙ ap (λ k. a ∷ drop k xs) n
 
-before_next : {A : Type 0} (xs : List A) (at : ℕ) (a : A) → at < length xs → a ≡ get_or xs at a → take at xs ++ a ∷ [] ≡ take (at + 1) xs
+pub before_next : {A : Type 0} (xs : List A) (at : ℕ) (a : A) → at < length xs → a ≡ get_or xs at a → take at xs ++ a ∷ [] ≡ take (at + 1) xs
 before_next xs at a l e = ap (λ y. take at xs ++ y ∷ []) e ∙ sym (take_more xs at a l)
 
 pub after_next : {A B : Type 0} (f : List A → A → List B) (xs : List A) (at : ℕ) (a : A) → at < length xs → a ≡ get_or xs at a

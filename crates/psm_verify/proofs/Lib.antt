@@ -1,5 +1,6 @@
 pub mod Callings
 pub mod Contexts
+pub mod Earlier
 pub mod Each
 pub mod Ending
 pub mod KnownLetters
@@ -11,4 +12,3 @@ pub mod Rows
 pub mod Slots
 pub mod Splits
 pub mod Stable
-pub mod Texts

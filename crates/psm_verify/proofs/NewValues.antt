@@ -1,72 +1,98 @@
--- Values of handlers that are new.
-use Rattle.std.proofs.Common.{◌≡◌, ℕ, ◌+◌, ◌<◌, Bool, true, false, ◌&&◌, ◌||◌, not, nat_eq, List, [], ◌∷◌, ◌++◌, length, get_or, drop, take, refl, ap, sym, ◌∙◌, Some}
-use Rattle.std.specs.Prelude.{reverse, slice_get, if◌then◌else◌}
-use Rattle.std.proofs.lemmas.List.{reverse-append, take_more}
+-- Values of handlers that are new in their block.
+use Rattle.std.proofs.Common.{◌≡◌, ℕ, Bool, true, false, ◌&&◌, ◌||◌, not, nat_eq, List, [], ◌∷◌, ◌++◌, map, refl, ap, sym, ◌∙◌}
+use Rattle.std.specs.Prelude.{if◌then◌else◌}
+use Rattle.std.specs.List.{flat_map}
+use Rattle.std.proofs.lemmas.Bool.{eq-eqb}
 use Rattle.psm_cond.specs.declared.handlers.ConditionValue.{ConditionValue}
 use Rattle.psm_cond.specs.declared.handlers.Handler.{Handler}
 use Rattle.psm_code.specs.RoutineRules.{are_new, is_same_value, is_value_among, values_in, values_of}
-use Rattle.psm_code.specs.Rules.{where_there}
-use Rattle.psm_verify.specs.NewAt.{new_at}
-use Rattle.psm_verify.proofs.Each.{rest_of}
-use Rattle.psm_verify.proofs.Placing.{is_at}
-use Rattle.std.proofs.lemmas.Option.{get_or_from_slice_get}
+use Rattle.psm_keys.specs.Fresh.{is_new}
+use Rattle.psm_keys.specs.Handled.{are_all_new, handled_by, is_same_handled}
+use Rattle.psm_verify.specs.Earlier.{are_new_values}
+
+abbrev Pairs : Type 0
+Pairs = List (ℕ × ConditionValue)
+
+-- the values of a block
+abbrev values_at : ℕ → Pairs → List ConditionValue
+values_at k [] = []
+values_at k (p ∷ ps) = if nat_eq p.0 k then p.1 ∷ values_at k ps else values_at k ps
 
 or-assoc : (a b c : Bool) → (a || (b || c)) ≡ ((a || b) || c)
 or-assoc true b c = refl
 or-assoc false b c = refl
 
-or-last : (a b : Bool) → (a || b) ≡ (b || a)
+or-last : (a b : Bool) → (a || (b || false)) ≡ (b || a)
 or-last true true = refl
 or-last true false = refl
 or-last false true = refl
 or-last false false = refl
 
+not-or : (a b : Bool) → not (a || b) ≡ (not a && not b)
+not-or true b = refl
+not-or false b = refl
+
 among-append : (v : ConditionValue) (us ws : List ConditionValue) → is_value_among v (us ++ ws) ≡ (is_value_among v us || is_value_among v ws)
 among-append v [] ws = refl
 among-append v (a ∷ us) ws = ap (λ b. is_same_value v a || b) (among-append v us ws) ∙ or-assoc (is_same_value v a) (is_value_among v us) (is_value_among v ws)
 
--- ---- the handlers of a block
-
-pub handled_next : (v : ConditionValue) (k : ℕ) (h : Handler) (hs : List Handler)
-    → is_value_among v (values_in k (h ∷ hs)) ≡ ((nat_eq h.context k && is_value_among v (values_of h)) || is_value_among v (values_in k hs))
-handled_next v k h hs = by (nat_eq h.context k) where
-  by : (t : Bool) → is_value_among v (if t then values_of h ++ values_in k hs else values_in k hs) ≡ ((t && is_value_among v (values_of h)) || is_value_among v (values_in k hs))
-  by true = among-append v (values_of h) (values_in k hs)
+new_among : (k : ℕ) (v : ConditionValue) (ps : Pairs) → is_new is_same_handled (k, v) ps ≡ not (is_value_among v (values_at k ps))
+new_among k v [] = refl
+new_among k v (p ∷ ps) = ap (λ b. not (nat_eq p.0 k && is_same_value v p.1) && b) (new_among k v ps) ∙ by (nat_eq p.0 k) where
+  by : (t : Bool) → (not (t && is_same_value v p.1) && not (is_value_among v (values_at k ps))) ≡ not (is_value_among v (if t then p.1 ∷ values_at k ps else values_at k ps))
+  by true = sym (not-or (is_same_value v p.1) (is_value_among v (values_at k ps)))
   by false = refl
 
--- ---- the values of a handler, one after another
+-- ---- the values of handlers
 
-among-reverse : (v : ConditionValue) (us : List ConditionValue) → is_value_among v (reverse us) ≡ is_value_among v us
-among-reverse v [] = refl
-among-reverse v (a ∷ us) =
-    ap (is_value_among v) (reverse-append (a ∷ []) us) ∙ among-append v (reverse us) (a ∷ [])
-    ∙ or-last (is_value_among v (reverse us)) (is_value_among v (a ∷ []))
-    ∙ ap (λ b. b || is_value_among v (reverse us)) (alone (is_same_value v a)) ∙ ap (λ b. is_same_value v a || b) (among-reverse v us) where
-      alone : (b : Bool) → (b || false) ≡ b
-      alone true = refl
-      alone false = refl
+if-append : (b : Bool) (us ws : List ConditionValue) → ((if b then us else []) ++ ws) ≡ (if b then us ++ ws else ws)
+if-append true us ws = refl
+if-append false us ws = refl
 
-module _ (vs before : List ConditionValue) (at : ℕ) (v : ConditionValue) where
-  longer : at < length vs → v ≡ get_or vs at v → v ∷ (reverse (take at vs) ++ before) ≡ reverse (take (at + 1) vs) ++ before
-  longer l e = sym (ap (λ xs. reverse xs ++ before) (take_more vs at v l ∙ ap (λ x. take at vs ++ x ∷ []) (sym e)) ∙ ap (λ xs. xs ++ before) (reverse-append (take at vs) (v ∷ [])))
+values-append : (k : ℕ) (ps qs : Pairs) → values_at k (ps ++ qs) ≡ values_at k ps ++ values_at k qs
+values-append k [] qs = refl
+values-append k (p ∷ ps) qs = by (nat_eq p.0 k) (values-append k ps qs) where
+  by : (t : Bool) → values_at k (ps ++ qs) ≡ values_at k ps ++ values_at k qs
+      → (if t then p.1 ∷ values_at k (ps ++ qs) else values_at k (ps ++ qs)) ≡ (if t then p.1 ∷ values_at k ps else values_at k ps) ++ values_at k qs
+  by true e = ap (λ l. p.1 ∷ l) e
+  by false e = e
 
-  pub new_next : at < length vs → v ≡ get_or vs at v
-      → are_new (reverse (take at vs) ++ before) (drop at vs) ≡ (not (is_value_among v (take at vs) || is_value_among v before) && are_new (reverse (take (at + 1) vs) ++ before) (drop (at + 1) vs))
-  new_next l e =
-      ap (are_new (reverse (take at vs) ++ before)) (rest_of vs at v l e)
-      ∙ ap (λ b. not b && are_new (v ∷ (reverse (take at vs) ++ before)) (drop (at + 1) vs)) (among-append v (reverse (take at vs)) before ∙ ap (λ b. b || is_value_among v before) (among-reverse v (take at vs)))
-      ∙ ap (λ ws. not (is_value_among v (take at vs) || is_value_among v before) && are_new ws (drop (at + 1) vs)) (longer l e)
+values-of : (k c : ℕ) (vs : List ConditionValue) → values_at k (map (λ v. (c, v)) vs) ≡ (if nat_eq c k then vs else [])
+values-of k c vs = by (nat_eq c k) refl vs where
+  by : (t : Bool) → nat_eq c k ≡ t → (vs : List ConditionValue) → values_at k (map (λ v. (c, v)) vs) ≡ (if t then vs else [])
+  by true e [] = refl
+  by true e (v ∷ vs) = ap (λ b. if b then v ∷ values_at k (map (λ v. (c, v)) vs) else values_at k (map (λ v. (c, v)) vs)) e ∙ ap (λ l. v ∷ l) (by true e vs)
+  by false e [] = refl
+  by false e (v ∷ vs) = ap (λ b. if b then v ∷ values_at k (map (λ v. (c, v)) vs) else values_at k (map (λ v. (c, v)) vs)) e ∙ by false e vs
 
-pub new_step : (vs before : List ConditionValue) (at : ℕ) → at < length vs
-    → are_new (reverse (take at vs) ++ before) (drop at vs) ≡ (new_at vs before at && are_new (reverse (take (at + 1) vs) ++ before) (drop (at + 1) vs))
-new_step vs before at l =
-    let v : ConditionValue = (is_at vs at l).0 in
-    let e : slice_get vs at ≡ Some v = (is_at vs at l).1 in
-    new_next vs before at v l (sym (get_or_from_slice_get vs at v v e))
-    ∙ ap (λ o. where_there o (λ w. not (is_value_among w (take at vs) || is_value_among w before)) && are_new (reverse (take (at + 1) vs) ++ before) (drop (at + 1) vs)) (sym e)
+values-handled : (k : ℕ) (hs : List Handler) → values_at k (flat_map handled_by hs) ≡ values_in k hs
+values-handled k [] = refl
+values-handled k (h ∷ hs) =
+    values-append k (handled_by h) (flat_map handled_by hs)
+    ∙ ap (λ l. l ++ values_at k (flat_map handled_by hs)) (values-of k h.context (values_of h))
+    ∙ ap (λ l. (if nat_eq h.context k then values_of h else []) ++ l) (values-handled k hs)
+    ∙ if-append (nat_eq h.context k) (values_of h) (values_in k hs)
 
-pub new_wrong : (vs before : List ConditionValue) (at : ℕ) (b : Bool) → at < length vs → b ≡ new_at vs before at → b ≡ false → false ≡ are_new (reverse (take at vs) ++ before) (drop at vs)
-new_wrong vs before at b l h g = sym (new_step vs before at l ∙ ap (λ w. w && are_new (reverse (take (at + 1) vs) ++ before) (drop (at + 1) vs)) (sym h ∙ g))
+-- ---- those of one handler, one after another
 
-pub new_right : (vs before : List ConditionValue) (at : ℕ) (b : Bool) → at < length vs → b ≡ new_at vs before at → b ≡ true → are_new (reverse (take at vs) ++ before) (drop at vs) ≡ are_new (reverse (take (at + 1) vs) ++ before) (drop (at + 1) vs)
-new_right vs before at b l h g = new_step vs before at l ∙ ap (λ w. w && are_new (reverse (take (at + 1) vs) ++ before) (drop (at + 1) vs)) (sym h ∙ g)
+-- a list has the values of a block among those that were added
+abbrev Holds : ℕ → List ConditionValue → Pairs → Type 0
+Holds k us ps = (w : ConditionValue) → is_value_among w us ≡ is_value_among w (values_at k ps)
+
+same-number : (k : ℕ) → nat_eq k k ≡ true
+same-number k = eq-eqb k k refl
+
+holds-more : (k : ℕ) (v : ConditionValue) (us : List ConditionValue) (ps : Pairs) → Holds k us ps → Holds k (v ∷ us) (ps ++ (k, v) ∷ [])
+holds-more k v us ps h w =
+    ap (λ b. is_same_value w v || b) (h w) ∙ sym (
+    ap (is_value_among w) (values-append k ps ((k, v) ∷ []) ∙ ap (λ b. values_at k ps ++ (if b then v ∷ [] else [])) (same-number k))
+    ∙ among-append w (values_at k ps) (v ∷ []) ∙ or-last (is_value_among w (values_at k ps)) (is_same_value w v))
+
+all-new : (k : ℕ) (us vs : List ConditionValue) (ps : Pairs) → Holds k us ps → are_all_new ps (map (λ v. (k, v)) vs) ≡ are_new us vs
+all-new k us [] ps h = refl
+all-new k us (v ∷ vs) ps h =
+    ap (λ b. b && are_all_new (ps ++ (k, v) ∷ []) (map (λ v. (k, v)) vs)) (new_among k v ps ∙ ap not (sym (h v)))
+    ∙ ap (λ b. not (is_value_among v us) && b) (all-new k (v ∷ us) vs (ps ++ (k, v) ∷ []) (holds-more k v us ps h))
+
+pub new_values : (before : List Handler) (h : Handler) → are_new_values before h ≡ are_new (values_in h.context before) (values_of h)
+new_values before h = all-new h.context (values_in h.context before) (values_of h) (flat_map handled_by before) (λ w. ap (is_value_among w) (sym (values-handled h.context before)))

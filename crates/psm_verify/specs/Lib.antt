@@ -1,8 +1,8 @@
 pub mod Called
 pub mod Checked
+pub mod Earlier
 pub mod Listed
 pub mod Moves
-pub mod NewAt
 pub mod Placed
 pub mod VerifyContext
 pub mod Stated

@@ -1,41 +1,50 @@
 //! The handlers of a routine (ISO/IEC 9075-4:1996, handler declaration).
 ghost use Rattle.psm_code.specs.declared.rule.CodeRule.TheVariants.{Definition};
-ghost use Rattle.std.specs.Prelude.{◌≡◌, ◌&&◌, ◌||◌, [], ◌∷◌, not, slice_get, IfOk};
+ghost use Rattle.std.specs.Prelude.{◌≡◌, ◌&&◌, [], ◌∷◌, slice_get, IfOk};
 ghost use Rattle.std.specs.List.{list_all};
 ghost use Rattle.psm_code.specs.Parts as parts;
 ghost use Rattle.psm_code.specs.Rules as rules;
 ghost use Rattle.psm_code.specs.RoutineRules as routines;
 ghost use Rattle.psm_verify.specs.Checked.{Finds, checked, item_at};
-ghost use Rattle.psm_verify.specs.NewAt.{new_at};
+ghost use Rattle.psm_verify.specs.Earlier.{are_new_values, at_place};
 
 use crate::fault::Stop;
 use crate::handlers::{is_condition, line_there};
 use crate::listing::passed;
 use crate::numbers::is_there;
-use crate::same::are_same_states;
 use psm_code::{CodeRule, RawRoutine};
 use psm_cond::{ConditionValue, ContextKind, Declared, Handler, HandlerKind};
+use psm_keys::HandledSet;
 use psm_list::OneOrMore;
 use psm_verify_line::{is_action_of, is_bare};
 use std::alloc::{AllocError, Global};
 
-/// The handlers of a routine. Their values are compared with those of all handlers before them in the same block.
+/// The handlers of a routine.
 pub(crate) fn handlers(alloc: Global, line: u64, routine: &RawRoutine) -> Result<u64, Stop>
     ensures { Finds (checked line (rules.each_after (routines.handler_fault routine.now) [] routine.now.handlers.handlers)) result }
 {
+    let mut handled = HandledSet::new(alloc);
     let mut line = line;
     for at in 0..routine.handlers.handlers().len() {
-        line = handler_at(alloc, line, routine, at)?;
+        let are_new = handled.add_handler(&routine.handlers.handlers()[at])?;
+        line = handler_at(alloc, line, routine, at, are_new)?;
     }
     Ok(line)
 }
 
-fn handler_at(alloc: Global, line: u64, routine: &RawRoutine, at: usize) -> Result<u64, Stop>
+fn handler_at(
+    alloc: Global,
+    line: u64,
+    routine: &RawRoutine,
+    at: usize,
+    are_new: bool,
+) -> Result<u64, Stop>
+    requires { are_new ≡ at_place are_new_values routine.now.handlers.handlers at }
     ensures { Finds (checked line (item_at (routines.handler_fault routine.now) routine.now.handlers.handlers at)) result }
 {
     let handlers = routine.handlers.handlers();
     match handlers.get(at) {
-        Some(handler) => handler_line(alloc, line, routine, &handlers[..at], handler),
+        Some(handler) => handler_line(alloc, line, routine, are_new, &handlers[..at], handler),
         None => Ok(line),
     }
 }
@@ -44,20 +53,27 @@ fn handler_line(
     alloc: Global,
     line: u64,
     routine: &RawRoutine,
+    are_new: bool,
     before: &[Handler],
     handler: &Handler,
 ) -> Result<u64, Stop>
+    requires { are_new ≡ are_new_values before.now handler.now }
     ensures { Finds (checked line (routines.handler_fault routine.now before.now handler.now)) result }
 {
-    passed(line, handler_fault(alloc, routine, before, handler)?)
+    passed(
+        line,
+        handler_fault(alloc, routine, are_new, before, handler)?,
+    )
 }
 
 fn handler_fault(
     alloc: Global,
     routine: &RawRoutine,
+    are_new: bool,
     before: &[Handler],
     handler: &Handler,
 ) -> Result<Option<CodeRule>, AllocError>
+    requires { are_new ≡ are_new_values before.now handler.now }
     ensures { IfOk result (λ fault. routines.handler_fault routine.now before.now handler.now ≡ fault ∷ []) }
 {
     if !context_there(routine, handler.context) || !values_there(routine, &handler.values) {
@@ -69,16 +85,20 @@ fn handler_fault(
     if !begins_action(alloc, routine, before.len(), handler.pc)? {
         return Ok(Some(CodeRule::Context));
     }
-    Ok(definition_fault(routine, before, handler))
+    Ok(definition_fault(routine, are_new, before, handler))
 }
 
-fn definition_fault(routine: &RawRoutine, before: &[Handler], handler: &Handler) -> Option<CodeRule>
+#[tactic(auto, using(crate::proofs::NewValues::new_values))]
+fn definition_fault(
+    routine: &RawRoutine,
+    are_new: bool,
+    before: &[Handler],
+    handler: &Handler,
+) -> Option<CodeRule>
+    requires { are_new ≡ are_new_values before.now handler.now }
     ensures { result ≡ rules.unless (routines.may_undo routine.now handler.now && (list_all (routines.is_value_well_formed routine.now) (routines.values_of handler.now) && routines.are_new (routines.values_in handler.now.context before.now) (routines.values_of handler.now))) Definition }
 {
-    if may_undo(routine, handler)
-        && are_values_right(routine, &handler.values)
-        && are_new(before, handler.context, &handler.values)
-    {
+    if may_undo(routine, handler) && are_values_right(routine, &handler.values) && are_new {
         None
     } else {
         Some(CodeRule::Definition)
@@ -190,105 +210,5 @@ fn is_named(routine: &RawRoutine, number: u32) -> bool
     match routine.handlers.declared().get(number as usize) {
         Some(Declared::OfState(_)) => false,
         _ => true,
-    }
-}
-
-// Whether no value stands among those of the handlers before it in the block, or before it in its own handler.
-fn are_new(before: &[Handler], block: u32, values: &OneOrMore<ConditionValue>) -> bool
-    ensures { result ≡ routines.are_new (routines.values_in block before.now) (values.now.first ∷ values.now.rest) }
-{
-    !is_handled(before, block, &values.first)
-        && are_others_new(before, block, &values.first, values.rest.items())
-}
-
-fn are_others_new(
-    before: &[Handler],
-    block: u32,
-    first: &ConditionValue,
-    others: &[ConditionValue],
-) -> bool
-    ensures { result ≡ routines.are_new (first.now ∷ routines.values_in block before.now) others.now }
-{
-    for at in 0..others.len() {
-        if !is_new_at(before, block, first, others, at) {
-            return false;
-        }
-    }
-    true
-}
-
-fn is_new_at(
-    before: &[Handler],
-    block: u32,
-    first: &ConditionValue,
-    others: &[ConditionValue],
-    at: usize,
-) -> bool
-    ensures { result ≡ new_at others.now (first.now ∷ routines.values_in block before.now) at }
-{
-    match others.get(at) {
-        Some(value) => is_new(before, block, first, &others[..at], value),
-        None => true,
-    }
-}
-
-fn is_new(
-    before: &[Handler],
-    block: u32,
-    first: &ConditionValue,
-    own: &[ConditionValue],
-    value: &ConditionValue,
-) -> bool
-    ensures { result ≡ not (routines.is_value_among value.now own.now || (routines.is_same_value value.now first.now || routines.is_value_among value.now (routines.values_in block before.now))) }
-{
-    !(is_among(value, own) || is_same_value(value, first) || is_handled(before, block, value))
-}
-
-// Whether a handler of the block has the value.
-#[tactic(auto, using(crate::proofs::NewValues::handled_next))]
-fn is_handled(handlers: &[Handler], block: u32, value: &ConditionValue) -> bool
-    ensures { result ≡ routines.is_value_among value.now (routines.values_in block handlers.now) }
-{
-    let mut rest = handlers;
-    while let Some((handler, others)) = rest.split_first() {
-        if handler.context == block && has_value(handler, value) {
-            return true;
-        }
-        rest = others;
-    }
-    false
-}
-
-fn has_value(handler: &Handler, value: &ConditionValue) -> bool
-    ensures { result ≡ routines.is_value_among value.now (routines.values_of handler.now) }
-{
-    is_same_value(value, &handler.values.first) || is_among(value, handler.values.rest.items())
-}
-
-fn is_among(value: &ConditionValue, values: &[ConditionValue]) -> bool
-    ensures { result ≡ routines.is_value_among value.now values.now }
-{
-    let mut rest = values;
-    while let Some((first, others)) = rest.split_first() {
-        if is_same_value(value, first) {
-            return true;
-        }
-        rest = others;
-    }
-    false
-}
-
-fn is_same_value(value: &ConditionValue, other: &ConditionValue) -> bool
-    ensures { result ≡ routines.is_same_value value.now other.now }
-{
-    match (value, other) {
-        (ConditionValue::Named(number), ConditionValue::Named(place)) => number == place,
-        (ConditionValue::State(state), ConditionValue::State(same)) => {
-            are_same_states(*state, *same)
-        }
-        (ConditionValue::SqlException, ConditionValue::SqlException) => true,
-        (ConditionValue::SqlWarning, ConditionValue::SqlWarning) => true,
-        (ConditionValue::NotFound, ConditionValue::NotFound) => true,
-        _ => false,
     }
 }

@@ -18,9 +18,9 @@ mod parts;
 mod placed;
 mod plans;
 mod routines;
-mod same;
 mod stating;
 mod tables;
+mod types;
 mod verify;
 mod verify_context;
 

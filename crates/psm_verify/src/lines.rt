@@ -6,7 +6,7 @@ ghost use Rattle.psm_code.specs.Rules as rules;
 ghost use Rattle.psm_code.specs.RoutineRules as routines;
 
 use crate::numbers::is_there;
-use crate::same::is_type;
+use crate::types::is_type;
 use crate::verify_context::VerifyContext;
 use psm_code::{Instruction, RawCode};
 use psm_exprcode::Op;

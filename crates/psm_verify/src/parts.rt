@@ -5,6 +5,7 @@ ghost use Rattle.psm_code.specs.PlanRules as plans;
 ghost use Rattle.psm_code.specs.Rules as rules;
 ghost use Rattle.psm_code.specs.RoutineRules as routines;
 ghost use Rattle.psm_verify.specs.Checked.{Finds, checked};
+ghost use Rattle.psm_verify.specs.Earlier.{is_new_routine};
 ghost use Rattle.psm_verify.specs.Listed.{first_faults, part_faults};
 
 use crate::fault::Stop;
@@ -20,10 +21,17 @@ use std::alloc::Global;
 impl<'a> VerifyContext<'a> {
     /// The line of the routine, and those of its parameters, variables, queries, cursors, plans, declared conditions, contexts and
     /// handlers.
-    pub(crate) fn parts(&self, alloc: Global, line: u64, before: &[RawRoutine]) -> Result<u64, Stop>
+    pub(crate) fn parts(
+        &self,
+        alloc: Global,
+        line: u64,
+        is_apart: bool,
+        before: &[RawRoutine],
+    ) -> Result<u64, Stop>
+        requires { is_apart ≡ is_new_routine before.now self.now.routine.now }
         ensures { Finds (checked line (part_faults self.now.code.now before.now self.now.routine.now)) result }
     {
-        let line = self.first_parts(alloc, line, before)?;
+        let line = self.first_parts(alloc, line, is_apart, before)?;
         let line = self.plans(alloc, line)?;
         let line = conditions(line, self.routine)?;
         let line = contexts(line, self.routine)?;
@@ -31,11 +39,18 @@ impl<'a> VerifyContext<'a> {
     }
 
     // Those before the plans.
-    fn first_parts(&self, alloc: Global, line: u64, before: &[RawRoutine]) -> Result<u64, Stop>
+    fn first_parts(
+        &self,
+        alloc: Global,
+        line: u64,
+        is_apart: bool,
+        before: &[RawRoutine],
+    ) -> Result<u64, Stop>
+        requires { is_apart ≡ is_new_routine before.now self.now.routine.now }
         ensures { Finds (checked line (first_faults self.now.code.now before.now self.now.routine.now)) result }
     {
-        let line = passed(line, routine_fault(before, self.routine))?;
-        let line = parameters(line, self.routine)?;
+        let line = passed(line, routine_fault(is_apart, before, self.routine))?;
+        let line = parameters(alloc, line, self.routine)?;
         let line = variables(line, self.routine)?;
         let line = self.queries(alloc, line)?;
         cursors(line, self.routine)

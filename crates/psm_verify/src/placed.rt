@@ -12,7 +12,7 @@ ghost use Rattle.psm_verify.specs.Placed.{end_at, end_over, fault_at, follows_fo
 
 use crate::fault::Stop;
 use crate::listing::passed;
-use crate::same::is_type;
+use crate::types::is_type;
 use psm_code::CodeRule;
 use psm_exprcode::{Entry, Letter, Letters, Op, RawExpr};
 use psm_verify_line::{are_same, are_stated, is_known, left};

@@ -1,28 +1,30 @@
 //! Tables (ISO/IEC 9075:1992, 11.3, 11.4, 11.7 and 11.9).
-ghost use Rattle.std.specs.Prelude.{◌≡◌, [], ◌∷◌, map, not};
+ghost use Rattle.std.specs.Prelude.{◌≡◌, [], ◌∷◌, map};
 ghost use Rattle.std.specs.List.{flat_map, list_all};
 ghost use Rattle.psm_exprcode.specs.Kinds.{is_letter};
 ghost use Rattle.psm_exprcode.specs.declared.op.Letter.TheVariants.{B};
 ghost use Rattle.psm_value.specs.SqlType.{IsType};
 ghost use Rattle.psm_value.specs.Stored.{stored};
 ghost use Rattle.psm_code.specs.Instructions.{column_letters};
-ghost use Rattle.psm_code.specs.Rules.{each_after, is_same};
+ghost use Rattle.psm_code.specs.Rules.{each_after};
 ghost use Rattle.psm_code.specs.TableRules as rules;
 ghost use Rattle.psm_verify.specs.Checked.{Finds, checked, item_at};
+ghost use Rattle.psm_verify.specs.Earlier.{at_place, is_new_column, is_new_table};
 
 use crate::expressions::{Due, expression};
 use crate::fault::Stop;
 use crate::listing::passed;
 use crate::numbers::{are_distinct, are_there};
-use crate::same::{are_same_names, is_type};
+use crate::types::is_type;
 use psm_code::{CodeRule, CodeTable};
 use psm_exprcode::{ExprCode, Letter};
+use psm_keys::NameSet;
 use psm_list::List;
 use psm_table::{Column, TableDef};
 use psm_value::{Datum, SqlType, is_stored, storing_is_stable};
 use std::alloc::Global;
 
-/// The tables, the letters of whose columns are known. Names are compared with all before them.
+/// The tables, the letters of whose columns are known.
 pub(crate) fn tables(
     alloc: Global,
     line: u64,
@@ -32,9 +34,11 @@ pub(crate) fn tables(
     requires { letters.now ≡ map column_letters tables.now }
     ensures { Finds (checked line (each_after rules.table_faults [] tables.now)) result }
 {
+    let mut names = NameSet::new(alloc);
     let mut line = line;
     for at in 0..tables.len() {
-        line = table_at(alloc, line, tables, letters, at)?;
+        let is_new = names.add(&tables[at].definition.name)?;
+        line = table_at(alloc, line, tables, letters, at, is_new)?;
     }
     Ok(line)
 }
@@ -46,13 +50,15 @@ fn table_at(
     tables: &[CodeTable],
     letters: &[List<Letter>],
     at: usize,
+    is_new: bool,
 ) -> Result<u64, Stop>
-    requires { letters.now ≡ map column_letters tables.now }
+    requires letters { letters.now ≡ map column_letters tables.now }
+    requires new { is_new ≡ at_place is_new_table tables.now at }
     ensures { Finds (checked line (item_at rules.table_faults tables.now at)) result }
 {
     match (tables.get(at), letters.get(at)) {
         (Some(table), Some(letters)) => {
-            table_lines(alloc, line, &tables[..at], table, letters.items())
+            table_lines(alloc, line, is_new, &tables[..at], table, letters.items())
         }
         _ => Ok(line),
     }
@@ -62,66 +68,58 @@ fn table_at(
 fn table_lines(
     alloc: Global,
     line: u64,
+    is_new: bool,
     before: &[CodeTable],
     table: &CodeTable,
     letters: &[Letter],
 ) -> Result<u64, Stop>
-    requires { letters.now ≡ column_letters table.now }
+    requires letters { letters.now ≡ column_letters table.now }
+    requires new { is_new ≡ is_new_table before.now table.now }
     ensures { Finds (checked line (rules.table_faults before.now table.now)) result }
 {
-    let line = passed(line, name_fault(before, table))?;
-    let line = columns(line, &table.definition)?;
+    let line = passed(line, name_fault(is_new, before, table))?;
+    let line = columns(alloc, line, &table.definition)?;
     let line = keys(line, &table.definition)?;
     checks(alloc, line, letters, table)
 }
 
-fn name_fault(before: &[CodeTable], table: &CodeTable) -> Option<CodeRule>
+#[tactic(auto, using(crate::proofs::Earlier::new_table))]
+fn name_fault(is_new: bool, before: &[CodeTable], table: &CodeTable) -> Option<CodeRule>
+    requires { is_new ≡ is_new_table before.now table.now }
     ensures { result ≡ rules.name_fault before.now table.now }
 {
-    if is_new_table(before, table) {
+    if is_new {
         None
     } else {
         Some(CodeRule::Definition)
     }
 }
 
-fn is_new_table(before: &[CodeTable], table: &CodeTable) -> bool
-    ensures { result ≡ list_all (λ u. not (is_same u.definition.name table.now.definition.name)) before.now }
-{
-    before.iter().all(|other| !are_same_names(&other.definition.name, &table.definition.name))
-}
-
-#[tactic(auto, using(crate::proofs::Each::after_next, crate::proofs::LinesInOrder::going_on, crate::proofs::LinesInOrder::stopped))]
-fn columns(line: u64, def: &TableDef) -> Result<u64, Stop>
+fn columns(alloc: Global, line: u64, def: &TableDef) -> Result<u64, Stop>
     ensures { Finds (checked line (each_after rules.column_fault [] def.now.columns)) result }
 {
     let columns = def.columns.items();
+    let mut names = NameSet::new(alloc);
     let mut line = line;
-    for (at, column) in columns.iter().enumerate() {
-        line = passed(line, column_fault(&columns[..at], column))?;
+    for at in 0..columns.len() {
+        let is_new = names.add(&columns[at].name)?;
+        line = passed(line, column_fault(is_new, &columns[..at], &columns[at]))?;
     }
     Ok(line)
 }
 
-#[tactic(auto, using(psm_exprcode::proofs::Types::type_within))]
-fn column_fault(before: &[Column], column: &Column) -> Option<CodeRule>
+#[tactic(auto, using(psm_exprcode::proofs::Types::type_within, crate::proofs::Earlier::new_column))]
+fn column_fault(is_new: bool, before: &[Column], column: &Column) -> Option<CodeRule>
+    requires { is_new ≡ is_new_column before.now column.now }
     ensures { rules.column_fault before.now column.now ≡ result ∷ [] }
 {
     if !is_type(column.kind) {
         Some(CodeRule::Range)
-    } else if is_new_column(before, column) && is_as_stored(column.kind, &column.default) {
+    } else if is_new && is_as_stored(column.kind, &column.default) {
         None
     } else {
         Some(CodeRule::Definition)
     }
-}
-
-fn is_new_column(before: &[Column], column: &Column) -> bool
-    ensures { result ≡ list_all (λ d. not (is_same d.name column.now.name)) before.now }
-{
-    before
-        .iter()
-        .all(|other| !are_same_names(&other.name, &column.name))
 }
 
 #[tactic(auto, using(crate::proofs::Stable::stored_is))]

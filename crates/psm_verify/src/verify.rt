@@ -5,6 +5,7 @@ ghost use Rattle.psm_code.specs.Rules.{each_after};
 ghost use Rattle.psm_code.specs.RoutineRules.{code_faults, routine_faults};
 ghost use Rattle.psm_verify.specs.Called.{call_of};
 ghost use Rattle.psm_verify.specs.Checked.{Finds, checked, item_at};
+ghost use Rattle.psm_verify.specs.Earlier.{at_place, is_new_routine};
 ghost use Rattle.psm_verify.specs.VerifyContext.{letters_with};
 ghost use Rattle.psm_verify.specs.Verified.{Verifies};
 ghost use Rattle.psm_code.specs.TableRules.{table_faults};
@@ -17,15 +18,15 @@ use crate::tables::tables;
 use crate::verify_context::{VerifyContext, item_letters, letters_of_tables, letters_of_variables};
 use psm_code::{RawCode, RawRoutine};
 use psm_exprcode::{Letter, Query};
+use psm_keys::SignatureSet;
 use psm_list::List;
 use std::alloc::{AllocError, Global};
 
 /// The code as code that keeps its rules, or the first line of its listing that breaks one, and which: a line that breaks several is
 /// told by the rule that comes first in [`psm_code::CodeRule`]. Out of memory is the one other answer.
 ///
-/// It reads the listing a few times at most, but for these. What may not stand twice is compared with all that stands before it: names
-/// of tables, of columns and of parameters, routines, columns in lists and in SETs, and the values of handlers in their routine. And an
-/// instruction that changes rows looks at the columns of its plan.
+/// It reads the listing a few times at most, but for these. Columns in lists and in SETs are compared with all before them. And an
+/// instruction that changes rows looks at the columns of its plan. What else may not stand twice is found by maps.
 pub fn verified(alloc: Global, code: RawCode) -> Result<Result<Code, CodeFault>, AllocError>
     ensures { IfOk result (λ answer. Verifies code answer) }
 {
@@ -65,9 +66,11 @@ fn routines(
     requires calls { calls.now ≡ map call_of code.now.routines }
     ensures { Finds (checked line (each_after (routine_faults code.now) [] code.now.routines)) result }
 {
+    let mut signatures = SignatureSet::new(alloc);
     let mut line = line;
     for at in 0..code.routines.items().len() {
-        line = routine_at(alloc, line, code, letters, calls, at)?;
+        let is_apart = signatures.add(&code.routines.items()[at])?;
+        line = routine_at(alloc, line, code, letters, calls, at, is_apart)?;
     }
     Ok(line)
 }
@@ -79,15 +82,26 @@ fn routine_at(
     letters: &[List<Letter>],
     calls: &[Call],
     at: usize,
+    is_apart: bool,
 ) -> Result<u64, Stop>
     requires letters { letters.now ≡ map column_letters code.now.tables }
     requires calls { calls.now ≡ map call_of code.now.routines }
+    requires apart { is_apart ≡ at_place is_new_routine code.now.routines at }
     ensures { Finds (checked line (item_at (routine_faults code.now) code.now.routines at)) result }
 {
     let routines = code.routines.items();
     match routines.get(at) {
         Some(routine) => {
-            routine_lines(alloc, line, code, letters, calls, &routines[..at], routine)
+            routine_lines(
+                alloc,
+                line,
+                code,
+                letters,
+                calls,
+                is_apart,
+                &routines[..at],
+                routine,
+            )
         }
         None => Ok(line),
     }
@@ -99,11 +113,13 @@ fn routine_lines(
     code: &RawCode,
     letters: &[List<Letter>],
     calls: &[Call],
+    is_apart: bool,
     before: &[RawRoutine],
     routine: &RawRoutine,
 ) -> Result<u64, Stop>
     requires letters { letters.now ≡ map column_letters code.now.tables }
     requires calls { calls.now ≡ map call_of code.now.routines }
+    requires apart { is_apart ≡ is_new_routine before.now routine.now }
     ensures { Finds (checked line (routine_faults code.now before.now routine.now)) result }
 {
     let variables = letters_of_variables(alloc, routine)?;
@@ -121,15 +137,22 @@ fn routine_lines(
         items: items.as_slice(),
         calls,
     };
-    verify_context.routine(alloc, line, before)
+    verify_context.routine(alloc, line, is_apart, before)
 }
 
 impl<'a> VerifyContext<'a> {
     // The parts of the routine, and its lines.
-    fn routine(&self, alloc: Global, line: u64, before: &[RawRoutine]) -> Result<u64, Stop>
+    fn routine(
+        &self,
+        alloc: Global,
+        line: u64,
+        is_apart: bool,
+        before: &[RawRoutine],
+    ) -> Result<u64, Stop>
+        requires { is_apart ≡ is_new_routine before.now self.now.routine.now }
         ensures { Finds (checked line (routine_faults self.now.code.now before.now self.now.routine.now)) result }
     {
-        let line = self.parts(alloc, line, before)?;
+        let line = self.parts(alloc, line, is_apart, before)?;
         self.lines(alloc, line)
     }
 }

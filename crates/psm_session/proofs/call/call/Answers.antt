@@ -1,10 +1,14 @@
-use Rattle.psm_session.specs.Put.{sunk_of}
-use Rattle.psm_session.specs.declared.command.ScriptCommand.TheVariants as commands
-use Rattle.psm_session.proofs.CommandResults.{closed_at}
+use Rattle.std.proofs.Common.{List, subst}
+use Rattle.psm_value.specs.declared.datum.Datum.{Datum}
+use Rattle.psm_machine.specs.Running.{RunsTo}
+use Rattle.psm_session.proofs.Calls.{call_makes}
 use Rattle.psm_session.proofs.call.call.Goals as goal
 
-pub returns-clause-comes : goal.returns-clause-comes
-returns-clause-comes g c = λ committed.
-    closed_at c.args.code.now c.args.number (commands.Call c.args.routine c.args.values.now) (sunk_of g.K.Sink.written g.K.Sink.faults c.args.out.now c.play-step.new.out)
-    (g.S.Store.tables c.args.store.now) (g.S.Store.tables c.mark.new.self) (g.S.Store.at c.mark.new.self c.in-Ok.mark) (g.S.Store.at c.play-step.new.store c.in-Ok.mark) (g.S.Store.tables c.play-step.new.store) (g.S.Store.tables c.close.new.store)
-    c.args.turns.now c.play-step.new.turns committed c.play-step.result c.mark.ensures.tables c.in-Ok.ensures.mark.stands (c.play-step.ensures.keeps c.in-Ok.mark c.in-Ok.ensures.mark.held tt).1 (c.play-step.ensures.does committed) c.close.ensures.tables
+pub returns-clause-made : goal.returns-clause-made
+returns-clause-made g c = λ committed.
+    let old = g.S.Store.tables c.args.store.now in
+    let now = g.S.Store.tables c.run.new.store in
+    let finished = c.in_ok-finished.finished in
+    let ran = subst (λ (values : List Datum). RunsTo c.args.code.now c.args.routine values old c.args.turns.now finished now) c.in_ok-arguments.ensures c.in_ok-finished.ensures.due in
+    call_makes c.args.code.now c.args.number c.args.routine c.args.values.now old c.args.turns.now committed c.routine_of.result.now c.routine_of.ensures
+    finished now c.goes_on-goes_on.result c.in_ok-piece.piece.items c.turns_left.result ran c.in_ok-finished.ensures.ends c.in_ok-piece.ensures c.goes_on-goes_on.ensures c.turns_left.ensures

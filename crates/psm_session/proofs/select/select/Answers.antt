@@ -1,6 +1,8 @@
-use Rattle.psm_session.proofs.CommandResults.{select_comes}
+use Rattle.psm_session.proofs.CommandResults.{select_made}
+use Rattle.psm_session.proofs.Inserts.{if_ok_map}
 use Rattle.psm_session.proofs.select.select.Goals as goal
 
-pub returns-in-Ok : goal.returns-in-Ok
-returns-in-Ok g c = λ code turns committed.
-    select_comes code c.args.number (g.S.Store.tables c.args.store.now) turns committed c.args.query.now c.in-Ok.piece.items _ c.put.result c.requires.exists c.in-Ok.ensures c.put.ensures
+pub returns : goal.returns
+returns g c =
+    if_ok_map _ _ c.piece_of_query.result (λ piece h code turns committed.
+    select_made code c.args.number (g.S.Store.tables c.args.store.now) turns committed c.args.query.now piece.items c.requires.exists h) c.piece_of_query.ensures

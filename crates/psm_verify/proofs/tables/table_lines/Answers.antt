@@ -28,4 +28,4 @@ returns c =
     let passed_1 : checked c.args.line (name_fault c.args.before.now c.args.table.now ∷ []) ≡ Ok c.in_ok-line.line = (ap (λ f. checked c.args.line (f ∷ [])) (sym c.name_fault.ensures) ∙ c.in_ok-line.ensures) in
     let passed_2 : checked c.args.line ((name_fault c.args.before.now c.args.table.now ∷ []) ++ (each_after column_fault [] c.args.table.now.definition.columns)) ≡ Ok c.in_ok-line-2.line = going_on (name_fault c.args.before.now c.args.table.now ∷ []) (each_after column_fault [] c.args.table.now.definition.columns) c.args.line c.in_ok-line.line passed_1 ∙ c.in_ok-line-2.ensures in
     let passed_3 : checked c.args.line (((name_fault c.args.before.now c.args.table.now ∷ []) ++ (each_after column_fault [] c.args.table.now.definition.columns)) ++ (key_fault c.args.table.now.definition ∷ map (unique_fault c.args.table.now.definition) c.args.table.now.definition.unique)) ≡ Ok c.in_ok-line-3.line = going_on ((name_fault c.args.before.now c.args.table.now ∷ []) ++ (each_after column_fault [] c.args.table.now.definition.columns)) (key_fault c.args.table.now.definition ∷ map (unique_fault c.args.table.now.definition) c.args.table.now.definition.unique) c.args.line c.in_ok-line-2.line passed_2 ∙ c.in_ok-line-3.ensures in
-    go (((name_fault c.args.before.now c.args.table.now ∷ []) ++ (each_after column_fault [] c.args.table.now.definition.columns)) ++ (key_fault c.args.table.now.definition ∷ map (unique_fault c.args.table.now.definition) c.args.table.now.definition.unique)) (flat_map (expr_faults (column_letters c.args.table.now) [] (is_letter B)) c.args.table.now.checks) c.args.line c.checks.result passed_3 (subst (λ ls. Finds (checked c.in_ok-line-3.line (flat_map (expr_faults ls [] (is_letter B)) c.args.table.now.checks)) c.checks.result) c.requires c.checks.ensures)
+    go (((name_fault c.args.before.now c.args.table.now ∷ []) ++ (each_after column_fault [] c.args.table.now.definition.columns)) ++ (key_fault c.args.table.now.definition ∷ map (unique_fault c.args.table.now.definition) c.args.table.now.definition.unique)) (flat_map (expr_faults (column_letters c.args.table.now) [] (is_letter B)) c.args.table.now.checks) c.args.line c.checks.result passed_3 (subst (λ ls. Finds (checked c.in_ok-line-3.line (flat_map (expr_faults ls [] (is_letter B)) c.args.table.now.checks)) c.checks.result) c.requires.letters c.checks.ensures)

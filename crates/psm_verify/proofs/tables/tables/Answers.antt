@@ -1,10 +1,30 @@
-use Rattle.std.proofs.Common.{rules, arith}
+use Rattle.std.proofs.Common.{◌≡◌, Some, ap, rules, arith, sym, ◌∙◌}
+use Rattle.std.specs.Prelude.{slice_get}
+use Rattle.psm_code.specs.Rules.{is_same}
 use Rattle.psm_code.specs.TableRules.{table_faults}
-use Rattle.psm_verify.proofs.Each.{after_go, after_stop}
+use Rattle.psm_keys.specs.Fresh.{is_new, with_new}
+use Rattle.psm_verify.proofs.Each.{after_stop}
+use Rattle.psm_verify.proofs.Earlier.{got, new_there, step, table_passed}
 use Rattle.psm_verify.proofs.tables.tables.Goals as goal
 
+pub table_at-requires-clause-new : goal.table_at-requires-clause-new
+table_at-requires-clause-new c =
+    let xs = c.args.tables.now in
+    let at = c.loop-at.at in
+    let x = c.index-tables-at.result in
+    let here : slice_get xs at ≡ Some x = got xs at x (omega arith) c.index-tables-at.is in
+    new_there xs at x here is_same (λ t. t.definition.name) c.in_ok-is_new.is_new c.loop-at.names c.loop-at.invariant.1
+    (c.in_ok-is_new.ensures.answer ∙ ap (λ t. is_new is_same t.definition.name c.loop-at.names) (sym c.index-tables-at.is))
+
 pub returns-in_err-line : goal.returns-in_err-line
-returns-in_err-line c = after_stop (table_faults) c.args.tables.now c.loop-at.at c.args.line c.loop-at.line (search rules) (omega arith) c.loop-at.invariant c.in_err-line.ensures
+returns-in_err-line c = after_stop table_faults c.args.tables.now c.loop-at.at c.args.line c.loop-at.line (search rules) (omega arith) c.loop-at.invariant.0 c.in_err-line.ensures
 
 pub loop-at-preserved : goal.loop-at-preserved
-loop-at-preserved c = after_go (table_faults) c.args.tables.now c.loop-at.at c.args.line c.loop-at.line (omega arith) c.loop-at.invariant c.in_ok-line.ensures
+loop-at-preserved c =
+    let xs = c.args.tables.now in
+    let at = c.loop-at.at in
+    let x = c.index-tables-at.result in
+    let here : slice_get xs at ≡ Some x = got xs at x (omega arith) c.index-tables-at.is in
+    step table_faults is_same (λ t. t.definition.name) table_passed xs at c.args.line c.loop-at.line c.in_ok-line.line x c.in_ok-is_new.is_new c.loop-at.names c.add.new.self here c.loop-at.invariant
+    (c.in_ok-is_new.ensures.answer ∙ ap (λ t. is_new is_same t.definition.name c.loop-at.names) (sym c.index-tables-at.is))
+    (c.in_ok-is_new.ensures.after ∙ ap (λ t. with_new c.in_ok-is_new.is_new t.definition.name c.loop-at.names) (sym c.index-tables-at.is)) c.in_ok-line.ensures

@@ -1,0 +1,5 @@
+pub mod Added
+pub mod Apart
+pub mod Told
+pub mod Turned
+pub mod Values

@@ -1,0 +1,11 @@
+//! Sets of what may not stand twice in a listing: names, routines, and the condition values of handlers. Each is seen as the list of
+//! what was added so far, and tells whether one more is among them, through a map.
+#![tactic(auto)]
+
+mod handled_values;
+mod names;
+mod signatures;
+
+pub use handled_values::HandledSet;
+pub use names::NameSet;
+pub use signatures::SignatureSet;

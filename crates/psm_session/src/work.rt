@@ -1,0 +1,76 @@
+//! One command of a script: what it does to the tables, and its piece.
+ghost use Rattle.std.specs.Prelude.{◌≡◌, ◌<◌, None, All, IfOk, IsTrue, List};
+ghost use Rattle.psm_cond.specs.WellFormed.{is_numbered};
+ghost use Rattle.psm_table.specs.Table.{Contents};
+ghost use Rattle.psm_store.specs.Marks.{AnyMark, Keeps};
+ghost use Rattle.psm_code.specs.RoutineRules.{first_fault};
+ghost use Rattle.psm_code.specs.MachineInvariant.{AreKept};
+ghost use Rattle.psm_unwind.specs.Marks.{most_open};
+ghost use Rattle.psm_session.specs.Ends.{FitsCommand};
+ghost use Rattle.psm_session.specs.Steps.{GoesOn, Makes, settled, standing};
+
+use crate::call::call;
+use crate::command::ScriptCommand;
+use crate::insert::insert;
+use crate::piece::piece_of;
+use crate::select::select;
+use crate::step::CommandEnd;
+use psm_code::RawCode;
+use psm_store::Store;
+use std::alloc::{AllocError, Global};
+
+/// Does a command, and gives its piece. What COMMIT and ROLLBACK do to the transaction is left to `settle`, since their piece is put
+/// before.
+pub(crate) fn work<S: Store>(
+    alloc: Global,
+    code: &RawCode,
+    number: u64,
+    command: &ScriptCommand,
+    store: &mut S,
+    turns: &mut u64,
+) -> Result<CommandEnd, AllocError>
+    requires well_formed_code { first_fault code.now ≡ None }
+    requires numbered { All (λ r. IsTrue (is_numbered r.handlers)) code.now.routines }
+    requires fits { FitsCommand code.now command.now }
+    requires kept { AreKept code.now.tables (S.tables store.old) }
+    requires few { S.marks store.old < most_open }
+    ensures made { IfOk result (λ e. (committed : List Contents) → Makes code.now number (standing (S.tables store.old) turns.old committed) command.now e.goes_on e.piece.items (settled command.now (standing (S.tables store.new) turns.new committed))) }
+    ensures kept { AreKept code.now.tables (S.tables store.new) }
+    ensures marks { S.marks store.new ≡ S.marks store.old }
+    ensures keeps { Keeps AnyMark (S.holds store.old) (S.at store.old) (S.holds store.new) (S.at store.new) }
+{
+    match command {
+        ScriptCommand::Call { routine, values } => {
+            call(alloc, code, number, *routine, values.items(), store, turns)
+        }
+        ScriptCommand::Insert {
+            table,
+            columns,
+            rows,
+        } => going_on(insert(
+            alloc,
+            code,
+            number,
+            *table,
+            columns.items(),
+            rows.items(),
+            store,
+        )),
+        ScriptCommand::Select(query) => going_on(select(alloc, number, query, store)),
+        ScriptCommand::Commit => going_on(piece_of(alloc, number, "COMMIT", "", None)),
+        ScriptCommand::Rollback => going_on(piece_of(alloc, number, "ROLLBACK", "", None)),
+    }
+}
+
+// A command with that piece, after which the next one is due.
+fn going_on(piece: Result<Vec<u8>, AllocError>) -> Result<CommandEnd, AllocError>
+    ensures { GoesOn piece result }
+{
+    match piece {
+        Ok(piece) => Ok(CommandEnd {
+            piece,
+            goes_on: true,
+        }),
+        Err(error) => Err(error),
+    }
+}
