@@ -7,8 +7,8 @@ over it. A block `text listing` is what the module compiles to. A block `text ob
 over it by `exec`. A block `text command` is a call of `psm` without files. In the tutorial each block is of these, or `sh` or `yaml`.
 
 Each example with a module and a script is run twice: by `run`, and by `exec` over what `compile` prints, which has to give the same
-bytes and the same status. So are the cases of run_rows, whose own stored run says what they print. PSM_PROGRAM names the program; else `rt try` builds one without a proof. The examples of each page, and those
-of the folders, are told of as they are run.
+bytes and the same status. So are the cases of run_rows, whose own stored run says what they print. PSM_PROGRAM names the program; else
+`rt try` builds one without a proof. The examples of each page, and those of the folders, are told of as they are run.
 """
 import collections
 import os
@@ -30,6 +30,7 @@ PAGES = (
     "docs/formats.md",
     "docs/machine.md",
     "README.md",
+    ".ci/objects.md",
 )
 TUTORIAL = PAGES[0]
 CAUSES = ".ci/causes.txt"
