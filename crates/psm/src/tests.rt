@@ -125,6 +125,10 @@ fn other_words_show_the_usage(rt: HostRuntime) -> Result<(), Fail> {
         "exec M",
         "exec M S T",
         "exec M S --turns 05",
+        "gen",
+        "gen 200001",
+        "gen 07",
+        "gen 7 M",
         "--help",
         "--version",
         "run M S --turns",
@@ -141,7 +145,7 @@ fn other_words_show_the_usage(rt: HostRuntime) -> Result<(), Fail> {
         assert_eq!(rt; answer, Status::Usage, "at {given}");
         assert_eq!(rt;
             text.as_str(),
-            "usage: psm run M S [--turns N] | psm compile M | psm exec O S [--turns N]\n",
+            "usage: psm run M S [--turns N] | psm compile M | psm exec O S [--turns N] | psm gen N\n",
             "at {given}"
         );
     }
