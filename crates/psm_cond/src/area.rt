@@ -79,6 +79,15 @@ impl Area {
         Ok(())
     }
 
+    /// Makes it the entries of a condition with that number of rows, as where the action of a handler ends (ISO/IEC 9075-4:1996). It
+    /// takes no memory.
+    pub fn put_back(&mut self, condition: Boxed<Condition>, rows: u32)
+        ensures { self.new ≡ record { entries = condition; rows = rows } }
+    {
+        self.held = Held::Raised(condition);
+        self.rows = rows;
+    }
+
     /// An item of the statement.
     pub fn statement_item(&self, alloc: Global, item: StatementItem) -> Result<Datum, AllocError>
         ensures { IfOk result (λ d. d ≡ statement_item (length (entries_of self.now.entries)) self.now.entries.more self.now.rows item) }

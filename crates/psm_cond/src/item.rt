@@ -8,6 +8,14 @@ use crate::entry::{Entry, ascii_text};
 use psm_value::{Datum, Dec};
 use std::alloc::{AllocError, Global};
 
+/// Which diagnostics area GET DIAGNOSTICS reads: the current one, or the one with which the handler was activated whose action runs
+/// (STACKED, ISO/IEC 9075-4:1996).
+#[derive(Clone, Copy, Debug, PartialEq, Eq)]
+pub enum DiagnosticsArea {
+    Current,
+    Stacked,
+}
+
 /// An item of the statement (ISO/IEC 9075:1992, 18.1).
 #[derive(Clone, Copy, Debug, PartialEq, Eq)]
 pub enum StatementItem {

@@ -21,5 +21,5 @@ pub use fault::{AreaFault, DataFault};
 pub use handlers::{
     Block, ConditionValue, Context, ContextKind, Declared, Handler, HandlerKind, HandlerTable,
 };
-pub use item::{ConditionItem, StatementItem};
+pub use item::{ConditionItem, DiagnosticsArea, StatementItem};
 pub use laws::{choice_is_innermost, choice_is_most_specific, scopes_go_outward};

@@ -9,6 +9,7 @@ message_of state = if pointwise nat_eq state (codes "00000") then codes "success
     else if pointwise nat_eq state (codes "01004") then codes "string data, right truncation"
     else if pointwise nat_eq state (codes "02000") then codes "no data"
     else if pointwise nat_eq state (codes "0K000") then codes "resignal when handler not active"
+    else if pointwise nat_eq state (codes "0Z002") then codes "stacked diagnostics accessed without active handler"
     else if pointwise nat_eq state (codes "20000") then codes "case not found for case statement"
     else if pointwise nat_eq state (codes "21000") then codes "cardinality violation"
     else if pointwise nat_eq state (codes "22001") then codes "string data, right truncation"

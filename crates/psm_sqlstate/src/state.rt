@@ -61,6 +61,12 @@ impl SqlState {
         align: [],
     };
 
+    /// Stacked diagnostics accessed without active handler.
+    pub const NO_STACKED_DIAGNOSTICS: SqlState = SqlState {
+        bytes: *b"0Z002",
+        align: [],
+    };
+
     /// Case not found for case statement.
     pub const CASE_NOT_FOUND: SqlState = SqlState {
         bytes: *b"20000",
@@ -228,6 +234,7 @@ fn message(text: &str) -> &'static str
         "01004" => "string data, right truncation",
         "02000" => "no data",
         "0K000" => "resignal when handler not active",
+        "0Z002" => "stacked diagnostics accessed without active handler",
         "20000" => "case not found for case statement",
         "21000" => "cardinality violation",
         "22001" => "string data, right truncation",
