@@ -4,6 +4,8 @@ use Rattle.std.specs.List.{flat_map}
 use Rattle.std.specs.Prelude.{ℕ, Bool, true, false, List, [], ◌∷◌, codes, map, replicate, reverse, slice_get, Option, Some, None, option_map, if◌then◌else◌}
 use Rattle.psm_cond.specs.declared.item.ConditionItem.{ConditionItem}
 use Rattle.psm_cond.specs.declared.item.ConditionItem.TheVariants as of_condition
+use Rattle.psm_cond.specs.declared.item.DiagnosticsArea.{DiagnosticsArea}
+use Rattle.psm_cond.specs.declared.item.DiagnosticsArea.TheVariants.{Current, Stacked}
 use Rattle.psm_cond.specs.declared.item.StatementItem.{StatementItem}
 use Rattle.psm_cond.specs.declared.item.StatementItem.TheVariants as of_statement
 use Rattle.psm_exprcode.specs.declared.aggregate.SetFunction.{SetFunction}
@@ -142,6 +144,15 @@ condition_letter of_condition.MessageLength = N
 condition_letter of_condition.TableName = T
 condition_letter of_condition.CursorName = T
 
+-- an item of the current or of the stacked diagnostics area
+abbrev pub statement_mnemonic : DiagnosticsArea → List ℕ
+statement_mnemonic Current = codes "GETS"
+statement_mnemonic Stacked = codes "SGETS"
+
+abbrev pub condition_mnemonic : DiagnosticsArea → List ℕ
+condition_mnemonic Current = codes "GETC"
+condition_mnemonic Stacked = codes "SGETC"
+
 -- ---- the table
 
 -- one that never goes on at the line that follows
@@ -218,8 +229,8 @@ instruction_effect code r instruction.Resignal k x = Some (plain (codes "RESIG")
 instruction_effect code r (instruction.ResignalCondition n) k x = Some (plain (codes "RESIGC") [] [])
 instruction_effect code r (instruction.ResignalMessage n) k x = Some (plain (codes "RESIGM") (T ∷ []) [])
 instruction_effect code r instruction.NoCase k x = Some (last (codes "NOCASE") [])
-instruction_effect code r (instruction.StatementItem i) k x = Some (plain (codes "GETS") [] (statement_letter i ∷ []))
-instruction_effect code r (instruction.ConditionItem i) k x = Some (plain (codes "GETC") (N ∷ []) (condition_letter i ∷ []))
+instruction_effect code r (instruction.StatementItem area i) k x = Some (plain (statement_mnemonic area) [] (statement_letter i ∷ []))
+instruction_effect code r (instruction.ConditionItem area i) k x = Some (plain (condition_mnemonic area) (N ∷ []) (condition_letter i ∷ []))
 
 -- ---- what may raise a condition
 

@@ -4,6 +4,7 @@ use Rattle.psm_sqlstate.specs.declared.state.SqlState.{SqlState}
 use Rattle.psm_value.specs.declared.datum.Datum.{Datum}
 use Rattle.psm_value.specs.Fetched.{fetched}
 use Rattle.psm_value.specs.Stored.{stored}
+use Rattle.psm_cond.specs.Area.{Diagnostics}
 use Rattle.psm_cond.specs.declared.handlers.Handler.{Handler}
 use Rattle.psm_cond.specs.declared.handlers.HandlerKind.{HandlerKind}
 use Rattle.psm_cond.specs.declared.handlers.HandlerKind.TheVariants.{Continue, Exit, Undo}
@@ -24,7 +25,7 @@ use Rattle.psm_code.specs.Plans.{plan}
 use Rattle.psm_code.specs.Querying.{close, exists, fetch, next, «open», scalar, select_row}
 use Rattle.psm_code.specs.Raising.{block_left, raised}
 use Rattle.psm_code.specs.Signalling.{item_of_condition, item_of_statement, resignal, resignal_condition, resignal_message, signal, signal_message}
-use Rattle.psm_code.specs.State.{Frame, InBlock, InAction, Machine, End, Stuck, Stepped, More, Over, at_line, cleared, warning, with_running, with_variable}
+use Rattle.psm_code.specs.State.{Frame, InBlock, InAction, Machine, End, Stuck, Stepped, More, Over, at_line, cleared, put_back, warning, with_running, with_variable}
 use Rattle.psm_code.specs.Steps.{Act, Given, Got, Raises, Ends, got, raises, ends, change, left_with, of_state, pop, present, put_values, read, tried, turn, ◌>>=◌, ◌>>◌}
 
 -- ---- where the run goes on
@@ -132,19 +133,19 @@ line_after r h Undo resume = do
   b ← present (block_at r h.context)
   got b.exit
 
-abbrev pub act_ended : RawRoutine → ℕ → Option ℕ → List Frame → Act Successor
-act_ended r n resume frames = do
+abbrev pub act_ended : RawRoutine → ℕ → Option ℕ → Diagnostics → List Frame → Act Successor
+act_ended r n resume area frames = do
   h ← present (handler_at r n)
   line ← line_after r h h.kind resume
-  change (λ m. cleared (with_frames frames m))
+  change (λ m. put_back area (with_frames frames m))
   got (at line)
 
 abbrev pub action_ended : RawRoutine → ℕ → List Frame → Act Successor
 action_ended r n [] = ends Stuck
 action_ended r n (InBlock k found ∷ frames) = ends Stuck
-action_ended r n (InAction l resume area ∷ frames) = if nat_eq n l then act_ended r n resume frames else ends Stuck
+action_ended r n (InAction l resume area ∷ frames) = if nat_eq n l then act_ended r n resume area frames else ends Stuck
 
--- an action that ends leaves success in the area
+-- after an action the area is again what it was when the handler was activated
 abbrev pub end_action : RawRoutine → ℕ → Act Successor
 end_action r n = do
   frames ← read (λ m. m.running.frames)
@@ -204,8 +205,8 @@ done code r instruction.Resignal = then_fall_through resignal
 done code r (instruction.ResignalCondition n) = then_fall_through (resignal_condition r n)
 done code r (instruction.ResignalMessage n) = then_fall_through (resignal_message r n)
 done code r instruction.NoCase = raises (of_state (codes "20000"))
-done code r (instruction.StatementItem i) = then_fall_through (item_of_statement i)
-done code r (instruction.ConditionItem i) = then_fall_through (item_of_condition i)
+done code r (instruction.StatementItem area i) = then_fall_through (item_of_statement area i)
+done code r (instruction.ConditionItem area i) = then_fall_through (item_of_condition area i)
 
 -- ---- rows
 

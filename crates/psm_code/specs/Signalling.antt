@@ -5,6 +5,7 @@ use Rattle.std.specs.declared.cmp.Ordering.{Ordering}
 use Rattle.psm_value.specs.declared.datum.Datum.{Datum}
 use Rattle.psm_value.specs.declared.datum.Datum.TheVariants.{Null, Num, Text}
 use Rattle.psm_value.specs.Order.{compared}
+use Rattle.psm_cond.specs.Area.{Diagnostics}
 use Rattle.psm_cond.specs.Condition.{Entries, alone, «following» as in_front}
 use Rattle.psm_cond.specs.Entry.{entry_of, name_text}
 use Rattle.psm_cond.specs.Item.{entries_of, entry_item, statement_item, whole}
@@ -12,6 +13,8 @@ use Rattle.psm_cond.specs.declared.entry.Entry.{Entry}
 use Rattle.psm_cond.specs.declared.handlers.Declared.{Declared}
 use Rattle.psm_cond.specs.declared.handlers.Declared.TheVariants.{OfState, Named}
 use Rattle.psm_cond.specs.declared.item.ConditionItem.{ConditionItem}
+use Rattle.psm_cond.specs.declared.item.DiagnosticsArea.{DiagnosticsArea}
+use Rattle.psm_cond.specs.declared.item.DiagnosticsArea.TheVariants.{Current, Stacked}
 use Rattle.psm_cond.specs.declared.item.StatementItem.{StatementItem}
 use Rattle.psm_code.specs.declared.code.RawRoutine.{RawRoutine}
 use Rattle.psm_code.specs.State.{Frame, InBlock, InAction, Stuck}
@@ -87,11 +90,27 @@ resignal_message r n = do
   with_it ← with_message e
   resignal_with with_it
 
--- ---- GET DIAGNOSTICS, which leaves the area as it is
+-- ---- GET DIAGNOSTICS, which leaves the areas as they are
 
-abbrev pub item_of_statement : StatementItem → Act (Unit {0})
-item_of_statement i = do
-  a ← read (λ m. m.area)
+-- the area with which the handler was activated whose action is the innermost that runs
+abbrev pub activating_area : List Frame → Act Diagnostics
+activating_area [] = raises (of_state (codes "0Z002"))
+activating_area (InBlock k found ∷ frames) = activating_area frames
+activating_area (InAction n resume area ∷ frames) = got area
+
+abbrev pub stacked_area : Act Diagnostics
+stacked_area = do
+  frames ← read (λ m. m.running.frames)
+  activating_area frames
+
+-- the area that is read
+abbrev pub area_read : DiagnosticsArea → Act Diagnostics
+area_read Current = read (λ m. m.area)
+area_read Stacked = stacked_area
+
+abbrev pub item_of_statement : DiagnosticsArea → StatementItem → Act (Unit {0})
+item_of_statement area i = do
+  a ← area_read area
   put_value (statement_item (length (entries_of a.entries)) a.entries.more a.rows i)
 
 abbrev pub equal : Option Ordering → Bool
@@ -107,9 +126,9 @@ abbrev pub numbered : Option (ℕ × Entry) → Act (ℕ × Entry)
 numbered None = raises (of_state (codes "35000"))
 numbered (Some e) = got e
 
-abbrev pub item_of_condition : ConditionItem → Act (Unit {0})
-item_of_condition i = do
-  a ← read (λ m. m.area)
+abbrev pub item_of_condition : DiagnosticsArea → ConditionItem → Act (Unit {0})
+item_of_condition area i = do
+  a ← area_read area
   d ← pop
   e ← numbered (entry_numbered 1 (entries_of a.entries) d)
   put_value (entry_item e.0 e.1 i)

@@ -59,6 +59,10 @@ cleared m = record m { area = clear; pending = None }
 abbrev pub holding : Entries → Machine → Machine
 holding c m = record m { area = record m.area { entries = c }; pending = None }
 
+-- the area is another one, and no warning is pending
+abbrev pub put_back : Diagnostics → Machine → Machine
+put_back area m = record m { area = area; pending = None }
+
 abbrev pub with_variable : ℕ → Datum → Machine → Machine
 with_variable slot d m = with_running (λ a. record a { variables = slice_set a.variables slot d }) m
 

@@ -1,6 +1,6 @@
 //! The instructions of routines.
 
-use psm_cond::{ConditionItem, StatementItem};
+use psm_cond::{ConditionItem, DiagnosticsArea, StatementItem};
 use psm_exprcode::Op;
 
 /// What a line of a routine does. A number of a line is its place in the routine, from 0; tables and routines are numbered in the
@@ -63,8 +63,8 @@ pub enum Instruction {
     ResignalMessage(u32),
     /// Raises that no WHEN of a CASE statement without ELSE holds.
     NoCase,
-    /// An item of the diagnostics area about the statement.
-    StatementItem(StatementItem),
-    /// An item of the diagnostics area about the condition of a number.
-    ConditionItem(ConditionItem),
+    /// An item of a diagnostics area about the statement. Where no action runs there is no stacked area, which raises a condition.
+    StatementItem(DiagnosticsArea, StatementItem),
+    /// An item of a diagnostics area about the condition of a number.
+    ConditionItem(DiagnosticsArea, ConditionItem),
 }

@@ -1,13 +1,14 @@
 -- What happens where a condition is raised (ISO/IEC 9075-4:1996): the choice of a handler, and what the handler does.
 use Rattle.std.specs.Prelude.{ℕ, List, [], ◌∷◌, map, Option, Some, None, if◌then◌else◌}
 use Rattle.psm_sqlstate.specs.Kind.{kind_of}
+use Rattle.psm_cond.specs.Area.{Diagnostics}
 use Rattle.psm_cond.specs.Choice.{chosen, highest, is_exception, rank}
 use Rattle.psm_cond.specs.Condition.{Entries}
 use Rattle.psm_cond.specs.declared.entry.Entry.{Entry}
 use Rattle.psm_cond.specs.declared.handlers.HandlerKind.{HandlerKind}
 use Rattle.psm_cond.specs.declared.handlers.HandlerKind.TheVariants.{Continue, Exit, Undo}
 use Rattle.psm_resolved.specs.declared.statement.ResolvedHandler.{ResolvedHandler, out-ResolvedHandler}
-use Rattle.psm_meaning.specs.State.{Scope, EvalContext, cleared, holding}
+use Rattle.psm_meaning.specs.State.{Scope, EvalContext, holding, put_back}
 use Rattle.psm_meaning.specs.Acts.{Given, Got, Raises, Ends, Outcome, Normal, Raised, Away, Stopped, Do, Act, Deed, ends_as, following, changing, at_turn}
 
 -- ---- the choice
@@ -33,14 +34,19 @@ choice e scopes = chosen (candidate_rank e) (candidates scopes)
 
 -- ---- actions
 
--- an action that ends normally leaves success in the area
-abbrev pub after_action : Outcome → Deed
-after_action Normal = changing cleared (ends_as Normal)
-after_action o = ends_as o
+-- after an action that ends normally the area is again what it was when the handler was activated
+abbrev pub after_action : Diagnostics → Outcome → Deed
+after_action area Normal = changing (put_back area) (ends_as Normal)
+after_action area o = ends_as o
+
+-- the action of a handler at a place, which is activated with an area
+abbrev pub action_over : EvalContext → ResolvedHandler → Diagnostics → Deed
+action_over eval_context h area =
+  following (λ m st. m.done (Do (out-ResolvedHandler h).action) (record eval_context { acting = area ∷ eval_context.acting }) st) (after_action area)
 
 -- the action of a handler at a place, for the condition that is in the area
 abbrev pub action : EvalContext → ResolvedHandler → Deed
-action eval_context h = following (λ m st. m.done (Do (out-ResolvedHandler h).action) (record eval_context { acting = st.area ∷ eval_context.acting }) st) after_action
+action eval_context h m st = action_over eval_context h st.area m st
 
 -- ---- raising
 

@@ -10,6 +10,8 @@ use Rattle.psm_cond.specs.Condition.{Entries, alone, «following» as in_front}
 use Rattle.psm_cond.specs.Entry.{entry_of, name_text}
 use Rattle.psm_cond.specs.Item.{entries_of, entry_item, statement_item, whole}
 use Rattle.psm_cond.specs.declared.entry.Entry.{Entry}
+use Rattle.psm_cond.specs.declared.item.DiagnosticsArea.{DiagnosticsArea}
+use Rattle.psm_cond.specs.declared.item.DiagnosticsArea.TheVariants.{Current, Stacked}
 use Rattle.psm_resolved.specs.declared.expr.ResolvedExpr.{ResolvedExpr}
 use Rattle.psm_resolved.specs.declared.statement.ResolvedCondition.{ResolvedCondition}
 use Rattle.psm_resolved.specs.declared.statement.ResolvedCondition.TheVariants.{State, Own}
@@ -75,7 +77,17 @@ resignal eval_context (Some s) = do
   c ← activating eval_context.acting
   raises (in_front e c)
 
--- ---- GET DIAGNOSTICS, which leaves the area as it is
+-- ---- GET DIAGNOSTICS, which leaves the areas as they are
+
+-- the area with which the handler was activated whose action is the innermost that runs
+abbrev pub stacked_area : List Diagnostics → Act Diagnostics
+stacked_area [] = raises (of_state (codes "0Z002"))
+stacked_area (a ∷ outer) = got a
+
+-- the area that is read
+abbrev pub area_read : EvalContext → DiagnosticsArea → Act Diagnostics
+area_read eval_context Current = read (λ st. st.area)
+area_read eval_context Stacked = stacked_area eval_context.acting
 
 -- items go into their variables in order
 abbrev pub assign_items : {I : Type 0} → EvalContext → (I → Datum) → List (ℕ × I) → Act (Unit {0})
@@ -102,11 +114,11 @@ number_given (Constant n) = got (Num n)
 number_given (Variable slot) = variable slot
 
 abbrev pub get_diagnostics : EvalContext → ResolvedDiagnostics → Act (Unit {0})
-get_diagnostics eval_context (Statement items) = do
-  a ← read (λ st. st.area)
+get_diagnostics eval_context (Statement area items) = do
+  a ← area_read eval_context area
   assign_items eval_context (statement_item (length (entries_of a.entries)) a.entries.more a.rows) items
-get_diagnostics eval_context (Condition number items) = do
-  a ← read (λ st. st.area)
+get_diagnostics eval_context (Condition area number items) = do
+  a ← area_read eval_context area
   d ← number_given number
   e ← numbered (entry_numbered 1 (entries_of a.entries) d)
   assign_items eval_context (entry_item e.0 e.1) items

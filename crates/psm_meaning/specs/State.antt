@@ -29,6 +29,10 @@ cleared st = record st { area = clear }
 abbrev pub holding : Entries → State → State
 holding c st = record st { area = record st.area { entries = c } }
 
+-- the area is another one
+abbrev pub put_back : Diagnostics → State → State
+put_back area st = record st { area = area }
+
 abbrev pub with_variable : ℕ → Datum → State → State
 with_variable slot d st = record st { variables = slice_set st.variables slot d }
 

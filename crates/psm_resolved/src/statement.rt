@@ -3,7 +3,7 @@
 //! their declarations. A statement that LEAVE or ITERATE can name is known by its level: the number of frames around it.
 
 use crate::expr::{ResolvedExpr, ResolvedQuery};
-use psm_cond::{ConditionItem, ConditionValue, HandlerKind, StatementItem};
+use psm_cond::{ConditionItem, ConditionValue, DiagnosticsArea, HandlerKind, StatementItem};
 use psm_list::{Boxed, List};
 use psm_num::Dec;
 use psm_sqlstate::SqlState;
@@ -133,13 +133,15 @@ pub enum ResolvedNumber {
     Variable(u32),
 }
 
-/// What GET DIAGNOSTICS gets: items with the slots that they go into.
+/// What GET DIAGNOSTICS gets, and of which diagnostics area: items with the slots that they go into.
 #[derive(Debug, Drop)]
 pub enum ResolvedDiagnostics {
     Statement {
+        area: DiagnosticsArea,
         items: List<(u32, StatementItem)>,
     },
     Condition {
+        area: DiagnosticsArea,
         number: ResolvedNumber,
         items: List<(u32, ConditionItem)>,
     },
