@@ -334,7 +334,10 @@ impl ConditionNumber {
 /// Which diagnostics area GET DIAGNOSTICS looks at.
 #[derive(Clone, Copy, Debug, PartialEq, Eq)]
 pub enum DiagnosticsArea {
+    /// The one that every statement but GET DIAGNOSTICS clears first: what no word means too.
     Current,
+    /// The one that the handler whose action runs was activated with.
+    Stacked,
 }
 
 /// What GET DIAGNOSTICS gets.
