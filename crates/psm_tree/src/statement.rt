@@ -334,9 +334,9 @@ impl ConditionNumber {
 /// Which diagnostics area GET DIAGNOSTICS looks at.
 #[derive(Clone, Copy, Debug, PartialEq, Eq)]
 pub enum DiagnosticsArea {
-    /// The one that every statement but GET DIAGNOSTICS clears first: what no word means too.
+    /// That of the last statement, which GET DIAGNOSTICS without CURRENT or STACKED reads too.
     Current,
-    /// The one that the handler whose action runs was activated with.
+    /// The one with which the handler was activated whose action runs (ISO/IEC 9075-4:1996).
     Stacked,
 }
 
