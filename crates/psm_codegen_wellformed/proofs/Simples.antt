@@ -1,6 +1,6 @@
 -- Parts of simple statements that are written are well-formed.
 use Rattle.std.proofs.Common.{◌≡◌, ◌++◌, ℕ, true, List, [], ◌∷◌, drop, length, replicate, Option, Some, None, option_map, ap, refl, sym, subst, ◌∙◌}
-use Rattle.std.specs.Prelude.{codes, reverse, slice_get}
+use Rattle.std.specs.Prelude.{reverse, slice_get}
 use Rattle.std.specs.List.{flat_map}
 use Rattle.std.proofs.lemmas.Bool.{false≢true}
 use Rattle.std.proofs.lemmas.List.{append_assoc, reverse-append}
