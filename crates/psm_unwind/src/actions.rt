@@ -13,7 +13,7 @@ use std::alloc::{AllocError, Global};
 
 /// Ends the action whose frame is the innermost one: the diagnostics area is again what it was when the handler was activated, and no
 /// warning is pending. It takes no memory.
-pub fn end_action(run: &mut Run)
+pub fn leave_action(run: &mut Run)
     requires { is_action (reverse run.old.running.frames.items) ≡ true }
     ensures due { (tables : List Contents) (at : MarkValue → List Contents) → after_action (frames_of at (reverse run.old.running.frames.items)) (machine_of tables at run.old) ≡ machine_of tables at run.new }
     ensures marks { open_marks run.new ≡ open_marks run.old }

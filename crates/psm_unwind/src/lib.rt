@@ -10,7 +10,7 @@ mod raising;
 mod run;
 mod turns;
 
-pub use actions::{activating, end_action, stacked_condition_item, stacked_statement_item};
+pub use actions::{activating, leave_action, stacked_condition_item, stacked_statement_item};
 pub use ending::{Ending, Outcome};
 pub use leaving::{leave_frame, leave_until};
 pub use parts::{block_at, handler_at, routine_at};
