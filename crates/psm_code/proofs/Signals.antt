@@ -21,7 +21,7 @@ use Rattle.psm_code.specs.declared.code.RawCode.{RawCode}
 use Rattle.psm_code.specs.declared.code.RawRoutine.{RawRoutine}
 use Rattle.psm_code.specs.declared.lines.CodeLine.{CodeLine}
 use Rattle.psm_code.specs.Instructions.{condition_letter, may_raise, statement_letter}
-use Rattle.psm_code.specs.Signalling.{activating, activating_area, area_read, declared, entry_numbered, handling, item_of_condition, item_of_statement, message_text, numbered, resignal, resignal_condition, resignal_message, resignal_with, signal, signal_message, stacked_area, with_message}
+use Rattle.psm_code.specs.Signalling.{activating, activating_area, area_read, declared, entry_numbered, handling, item_of_condition, item_of_statement, message_text, numbered, resignal, resignal_condition, resignal_message, resignal_with, signal, signal_message, with_message}
 use Rattle.psm_code.specs.State.{Frame, InBlock, InAction, Machine}
 use Rattle.psm_code.specs.Steps.{put, put_value, read}
 use Rattle.psm_code.proofs.Acts.{Does, Has, and_then, pop_does, present_does}
