@@ -28,7 +28,7 @@ use Rattle.psm_code.specs.RoutineRules.{first_fault}
 use Rattle.psm_code.specs.Run.{act_ended, action_ended, fall_through, end_action, enter, exit, exited, finding, line_after, then_fall_through, with_frames, Successor}
 use Rattle.psm_code.specs.Rules.{is_some, there}
 use Rattle.psm_code.specs.MachineInvariant.{AreKept, Ends, Finds, IsEntered, Stand, StaysWellFormed}
-use Rattle.psm_code.specs.State.{Frame, InBlock, InAction, Stuck, Machine, cleared}
+use Rattle.psm_code.specs.State.{Frame, InBlock, InAction, Stuck, Machine, put_back}
 use Rattle.psm_code.specs.Steps.{change, ends, read}
 use Rattle.psm_code.proofs.Acts.{Does, Has, and_then, present_does}
 use Rattle.psm_code.proofs.Faults.{line_well_formed, WellFormedRoutineCode}
@@ -161,15 +161,15 @@ module _ (code : RawCode) (well_formed_code : first_fault code ≡ None) (r : Ra
   ends_well_formed n [] m a f h = let none : false ≡ true = ap (λ k. rules.is_action_context n (context_at r.handlers k)) (sym f) ∙ a in absurd (cc)
   ends_well_formed n (InBlock j found ∷ frames) m a f h = absurd (not_both n f.0.block (context_at r.handlers c) a f.0.there)
   ends_well_formed n (InAction j resumes area ∷ frames) m a f h = by (nat_eq n j) refl where
-    by : (t : Bool) → nat_eq n j ≡ t → Does code r (with code well_formed_code r g c resume s (instruction.EndAction n)) MachineInvariant_successor (if t then act_ended r n resumes frames else ends Stuck) m
+    by : (t : Bool) → nat_eq n j ≡ t → Does code r (with code well_formed_code r g c resume s (instruction.EndAction n)) MachineInvariant_successor (if t then act_ended r n resumes area frames else ends Stuck) m
     by false d = let same : nat_eq n j ≡ true = eq-eqb n j (same_action n j (context_at r.handlers c) a f.same) in absurd (cc)
     by true d =
         let l = with code well_formed_code r g c resume s (instruction.EndAction n) in
         let there : handler_at r n ≡ Some f.handler = ap (handler_at r) (eqb-true n j d) ∙ f.there in
         and_then code r l (λ y k. (y ≡ f.handler) × Has code r l [] k) _ _ _ m (present_does code r l _ (handler_at r n) f.handler m there (refl, h)) (λ y k q.
         and_then code r l _ _ _ _ k (subst (λ (y : Handler). Does code r l (λ at k. After n frames at × Has code r l [] k) (line_after r y y.kind resumes) k) (sym q.0) (after_does l n f.handler f.handler.kind resumes frames k there f.ends q.1)) (λ at k z.
-        let next : Has code r l [] (cleared k) = record { body = z.1.body; operands = z.1.operands } in
-        record { evaluates = machine_invariant_at code well_formed_code r g l at [] z.0.context frames (cleared k) next z.0.stand z.0.next }))
+        let next : Has code r l [] (put_back area k) = record { body = z.1.body; operands = z.1.operands } in
+        record { evaluates = machine_invariant_at code well_formed_code r g l at [] z.0.context frames (put_back area k) next z.0.stand z.0.next }))
 
   pub end_action_kept : (n : ℕ) → Kept code well_formed_code r g c resume s (instruction.EndAction n)
   end_action_kept n m h =

@@ -59,8 +59,8 @@ module _ (code : RawCode) (well_formed_code : first_fault code ≡ None) where
   kept r g c resume s (instruction.ResignalCondition n) = resignal_condition_kept code well_formed_code r g c resume s n
   kept r g c resume s (instruction.ResignalMessage n) = resignal_message_kept code well_formed_code r g c resume s n
   kept r g c resume s instruction.NoCase = no_case_kept code well_formed_code r g c resume s
-  kept r g c resume s (instruction.StatementItem i) = statement_kept code well_formed_code r g c resume s i
-  kept r g c resume s (instruction.ConditionItem i) = condition_kept code well_formed_code r g c resume s i
+  kept r g c resume s (instruction.StatementItem area i) = statement_kept code well_formed_code r g c resume s area i
+  kept r g c resume s (instruction.ConditionItem area i) = condition_kept code well_formed_code r g c resume s area i
 
   -- a machine that meets the invariant has what holds at its line
   has_all : (m : Machine) (h : MachineInvariant code m) → Has code h.running.routine h.running.line (reverse h.running.line.stack) m

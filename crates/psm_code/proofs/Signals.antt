@@ -8,6 +8,8 @@ use Rattle.psm_cond.specs.declared.entry.Entry.{Entry}
 use Rattle.psm_cond.specs.declared.handlers.Declared.{Declared}
 use Rattle.psm_cond.specs.declared.item.ConditionItem.{ConditionItem}
 use Rattle.psm_cond.specs.declared.item.ConditionItem.TheVariants as of_condition
+use Rattle.psm_cond.specs.declared.item.DiagnosticsArea.{DiagnosticsArea}
+use Rattle.psm_cond.specs.declared.item.DiagnosticsArea.TheVariants.{Current, Stacked}
 use Rattle.psm_cond.specs.declared.item.StatementItem.{StatementItem}
 use Rattle.psm_cond.specs.declared.item.StatementItem.TheVariants as of_statement
 use Rattle.psm_exprcode.specs.declared.op.Letter.{Letter}
@@ -19,7 +21,7 @@ use Rattle.psm_code.specs.declared.code.RawCode.{RawCode}
 use Rattle.psm_code.specs.declared.code.RawRoutine.{RawRoutine}
 use Rattle.psm_code.specs.declared.lines.CodeLine.{CodeLine}
 use Rattle.psm_code.specs.Instructions.{condition_letter, may_raise, statement_letter}
-use Rattle.psm_code.specs.Signalling.{activating, declared, entry_numbered, handling, item_of_condition, item_of_statement, message_text, numbered, resignal, resignal_condition, resignal_message, resignal_with, signal, signal_message, with_message}
+use Rattle.psm_code.specs.Signalling.{activating, activating_area, area_read, declared, entry_numbered, handling, item_of_condition, item_of_statement, message_text, numbered, resignal, resignal_condition, resignal_message, resignal_with, signal, signal_message, with_message}
 use Rattle.psm_code.specs.State.{Frame, InBlock, InAction, Machine}
 use Rattle.psm_code.specs.Steps.{put, put_value, read}
 use Rattle.psm_code.proofs.Acts.{Does, Has, and_then, pop_does, present_does}
@@ -48,19 +50,28 @@ module _ (code : RawCode) (r : RawRoutine) (l : CodeLine) where
   condition_letters n e of_condition.TableName = refl
   condition_letters n e of_condition.CursorName = refl
 
-  pub statement_does : (i : StatementItem) (s : List Letter) (m : Machine) → Has code r l s m → Does code r l (λ u n. Has code r l (statement_letter i ∷ s) n) (item_of_statement i) m
-  statement_does i s m h =
-      and_then code r l (λ a n. Has code r l s n) _ (read (λ m. m.area)) _ m (record { evaluates = h }) (λ a n f.
-      put_value_does (statement_item (length (entries_of a.entries)) a.entries.more a.rows i) (statement_letter i) s n (statement_letters (length (entries_of a.entries)) a.entries.more a.rows i) f)
-
   module _ (may : may_raise l.instruction ≡ true) where
+    activating_area_does : (frames : List Frame) (s : List Letter) (m : Machine) → Has code r l s m → Does code r l (λ a n. Has code r l s n) (activating_area frames) m
+    activating_area_does [] s m h = record { evaluates = (may, h.body) }
+    activating_area_does (InBlock k found ∷ frames) s m h = activating_area_does frames s m h
+    activating_area_does (InAction n resume area ∷ frames) s m h = record { evaluates = h }
+
+    area_does : (area : DiagnosticsArea) (s : List Letter) (m : Machine) → Has code r l s m → Does code r l (λ a n. Has code r l s n) (area_read area) m
+    area_does Current s m h = record { evaluates = h }
+    area_does Stacked s m h = and_then code r l (λ frames n. Has code r l s n) _ (read (λ m. m.running.frames)) activating_area m (record { evaluates = h }) (λ frames n f. activating_area_does frames s n f)
+
+    pub statement_does : (area : DiagnosticsArea) (i : StatementItem) (s : List Letter) (m : Machine) → Has code r l s m → Does code r l (λ u n. Has code r l (statement_letter i ∷ s) n) (item_of_statement area i) m
+    statement_does area i s m h =
+        and_then code r l (λ a n. Has code r l s n) _ (area_read area) _ m (area_does area s m h) (λ a n f.
+        put_value_does (statement_item (length (entries_of a.entries)) a.entries.more a.rows i) (statement_letter i) s n (statement_letters (length (entries_of a.entries)) a.entries.more a.rows i) f)
+
     numbered_does : (o : Option (ℕ × Entry)) (s : List Letter) (m : Machine) → Has code r l s m → Does code r l (λ e n. Has code r l s n) (numbered o) m
     numbered_does None s m h = record { evaluates = (may, h.body) }
     numbered_does (Some e) s m h = record { evaluates = h }
 
-    pub condition_does : (i : ConditionItem) (s : List Letter) (m : Machine) → Has code r l (N ∷ s) m → Does code r l (λ u n. Has code r l (condition_letter i ∷ s) n) (item_of_condition i) m
-    condition_does i s m h =
-        and_then code r l (λ a n. Has code r l (N ∷ s) n) _ (read (λ m. m.area)) _ m (record { evaluates = h }) (λ a n f.
+    pub condition_does : (area : DiagnosticsArea) (i : ConditionItem) (s : List Letter) (m : Machine) → Has code r l (N ∷ s) m → Does code r l (λ u n. Has code r l (condition_letter i ∷ s) n) (item_of_condition area i) m
+    condition_does area i s m h =
+        and_then code r l (λ a n. Has code r l (N ∷ s) n) _ (area_read area) _ m (area_does area (N ∷ s) m h) (λ a n f.
         and_then code r l _ _ _ _ _ (pop_does code r l N s n refl f) (λ d n f.
         and_then code r l _ _ _ _ _ (numbered_does (entry_numbered 1 (entries_of a.entries) d) s n f.1) (λ e n f.
         put_value_does (entry_item e.0 e.1 i) (condition_letter i) s n (condition_letters e.0 e.1 i) f)))

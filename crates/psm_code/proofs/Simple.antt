@@ -2,6 +2,7 @@
 use Rattle.std.proofs.Common.{◌≡◌, inl, inr, ℕ, zero, suc, List, [], ◌∷◌, refl, ap, eqb-true, Option, None}
 use Rattle.std.specs.Prelude.{codes, option_map, reverse, slice_get}
 use Rattle.psm_cond.specs.declared.item.ConditionItem.{ConditionItem}
+use Rattle.psm_cond.specs.declared.item.DiagnosticsArea.{DiagnosticsArea}
 use Rattle.psm_cond.specs.declared.item.StatementItem.{StatementItem}
 use Rattle.psm_exprcode.specs.declared.op.Letter.{Letter}
 use Rattle.psm_exprcode.specs.declared.op.Letter.TheVariants.{N, T}
@@ -12,7 +13,7 @@ use Rattle.psm_code.specs.declared.code.RawRoutine.{RawRoutine}
 use Rattle.psm_code.specs.declared.instruction.Instruction.{Instruction}
 use Rattle.psm_code.specs.declared.instruction.Instruction.TheVariants as instruction
 use Rattle.psm_code.specs.declared.lines.CodeLine.{CodeLine}
-use Rattle.psm_code.specs.Instructions.{condition_letter, statement_letter, taking_from}
+use Rattle.psm_code.specs.Instructions.{condition_letter, condition_mnemonic, statement_letter, statement_mnemonic, taking_from}
 use Rattle.psm_code.specs.Parts.{slots_of}
 use Rattle.psm_code.specs.RoutineRules.{first_fault}
 use Rattle.psm_code.specs.Run.{done, retrieve, settled, store, warn}
@@ -111,14 +112,14 @@ module _ (code : RawCode) (well_formed_code : first_fault code ≡ None) (r : Ra
       let x = there_some (slice_get r.handlers.declared n) (well_formed_here (instruction.ResignalMessage n) m h).named in
       goes_straight code well_formed_code r g l (resignal_message r n) m (plain (codes "RESIGM") (T ∷ []) []) [] (λ k x. refl) refl refl (bears code well_formed_code r g l m h.body (λ e. e)) h (λ rest f. resignal_message_does code r l refl n x.0 rest rest m x.1 f)
 
-  pub statement_kept : (i : StatementItem) → Kept (instruction.StatementItem i)
-  statement_kept i m h =
-      let l = with (instruction.StatementItem i) in
-      goes_straight code well_formed_code r g l (item_of_statement i) m (plain (codes "GETS") [] (statement_letter i ∷ [])) (statement_letter i ∷ []) (λ k x. refl) refl refl (bears code well_formed_code r g l m h.body (λ e. e)) h
-      (λ rest f. statement_does code r l i rest m f)
+  pub statement_kept : (area : DiagnosticsArea) (i : StatementItem) → Kept (instruction.StatementItem area i)
+  statement_kept area i m h =
+      let l = with (instruction.StatementItem area i) in
+      goes_straight code well_formed_code r g l (item_of_statement area i) m (plain (statement_mnemonic area) [] (statement_letter i ∷ [])) (statement_letter i ∷ []) (λ k x. refl) refl refl (bears code well_formed_code r g l m h.body (λ e. e)) h
+      (λ rest f. statement_does code r l refl area i rest m f)
 
-  pub condition_kept : (i : ConditionItem) → Kept (instruction.ConditionItem i)
-  condition_kept i m h =
-      let l = with (instruction.ConditionItem i) in
-      goes_straight code well_formed_code r g l (item_of_condition i) m (plain (codes "GETC") (N ∷ []) (condition_letter i ∷ [])) (condition_letter i ∷ []) (λ k x. refl) refl refl (bears code well_formed_code r g l m h.body (λ e. e)) h
-      (λ rest f. condition_does code r l refl i rest m f)
+  pub condition_kept : (area : DiagnosticsArea) (i : ConditionItem) → Kept (instruction.ConditionItem area i)
+  condition_kept area i m h =
+      let l = with (instruction.ConditionItem area i) in
+      goes_straight code well_formed_code r g l (item_of_condition area i) m (plain (condition_mnemonic area) (N ∷ []) (condition_letter i ∷ [])) (condition_letter i ∷ []) (λ k x. refl) refl refl (bears code well_formed_code r g l m h.body (λ e. e)) h
+      (λ rest f. condition_does code r l refl area i rest m f)

@@ -7,6 +7,7 @@ use Rattle.psm_value.specs.declared.datum.Datum.{Datum}
 use Rattle.psm_value.specs.declared.sqltype.SqlType.{SqlType}
 use Rattle.psm_value.specs.Fetched.{fetched}
 use Rattle.psm_value.specs.Stored.{stored}
+use Rattle.psm_cond.specs.Area.{Diagnostics}
 use Rattle.psm_cond.specs.declared.handlers.Block.{Block}
 use Rattle.psm_cond.specs.declared.handlers.Handler.{Handler}
 use Rattle.psm_cond.specs.declared.handlers.HandlerKind.{HandlerKind}
@@ -43,7 +44,7 @@ use Rattle.psm_code.specs.Steps.{Act, Given, Got, Raises, Ends, change, ends, go
 use Rattle.psm_code.proofs.Faults.{Clean, WellFormedRoutineCode, clean_head, clean_tail, line_well_formed, routine_well_formed}
 use Rattle.psm_code.proofs.Ending.{over_stays}
 use Rattle.psm_code.proofs.NeverStuck.{step_well_formed, starts}
-use Rattle.psm_termination.specs.Measure.{Falls, Shape, actions, by_depth, by_lines, by_turns, depth, lines, steps_at_most, running, shape}
+use Rattle.psm_termination.specs.Measure.{Shape, actions, by_depth, by_turns, depth, steps_at_most, running, shape}
 use Rattle.psm_termination.proofs.Fewer.{fewer_steps}
 use Rattle.psm_termination.proofs.Falling.{DoneFalls, FallsTo, fall_through_falls, ends_falls, falls_through, goes_to, got_falls, like, raised_here, raises_falls, then_falls, turns_of}
 use Rattle.psm_termination.proofs.Jumps.{GoesWithin, goes_within}
@@ -213,8 +214,8 @@ module _ (code : RawCode) (s : Shape) (r : RawRoutine) (l : CodeLine) (there : r
     by false = turns_of e
 
   -- an action that ends
-  ended_falls : (n : ℕ) (resume : Option ℕ) (frames : List Frame) → suc (actions frames) ≡ actions s.frames → Done (act_ended r n resume frames)
-  ended_falls n resume frames q =
+  ended_falls : (n : ℕ) (resume : Option ℕ) (area : Diagnostics) (frames : List Frame) → suc (actions frames) ≡ actions s.frames → Done (act_ended r n resume area frames)
+  ended_falls n resume area frames q =
       then_falls code s r l there line_there calm resumes (present_keeps (handler_at r n)) (λ h.
       then_falls code s r l there line_there calm resumes (after_keeps r h h.kind resume) (λ line.
       record { falls = λ m e. by_depth (turns_of e) (let callers : running m.callers ≡ running s.callers = ap (λ (t : Shape). running t.callers) e in omega (arith, q, callers)) }))
@@ -223,8 +224,8 @@ module _ (code : RawCode) (s : Shape) (r : RawRoutine) (l : CodeLine) (there : r
   action_falls n [] m q e = turns_of e
   action_falls n (InBlock k found ∷ frames) m q e = turns_of e
   action_falls n (InAction j resume area ∷ frames) m q e = by (nat_eq n j) where
-    by : (b : Bool) → (let came = (if b then act_ended r n resume frames else ends Stuck) m in FallsTo code s (settled code came.given came.machine))
-    by true = (ended_falls n resume frames (sym (ap actions q) ∙ ap (λ (t : Shape). actions t.frames) e)).falls m e
+    by : (b : Bool) → (let came = (if b then act_ended r n resume area frames else ends Stuck) m in FallsTo code s (settled code came.given came.machine))
+    by true = (ended_falls n resume area frames (sym (ap actions q) ∙ ap (λ (t : Shape). actions t.frames) e)).falls m e
     by false = turns_of e
 
   -- calls
@@ -275,8 +276,8 @@ module _ (code : RawCode) (s : Shape) (r : RawRoutine) (l : CodeLine) (there : r
   done_falls (instruction.ResignalCondition n) t u = on_fall_through (resignal_condition r n) (resignal_condition_keeps r n)
   done_falls (instruction.ResignalMessage n) t u = on_fall_through (resignal_message r n) (resignal_message_keeps r n)
   done_falls instruction.NoCase t u = raises_falls code s r l there line_there calm resumes (of_state (codes "20000"))
-  done_falls (instruction.StatementItem i) t u = on_fall_through (item_of_statement i) (statement_item_keeps i)
-  done_falls (instruction.ConditionItem i) t u = on_fall_through (item_of_condition i) (condition_item_keeps i)
+  done_falls (instruction.StatementItem area i) t u = on_fall_through (item_of_statement area i) (statement_item_keeps area i)
+  done_falls (instruction.ConditionItem area i) t u = on_fall_through (item_of_condition area i) (condition_item_keeps area i)
 
 -- ---- the rules of the line
 

@@ -4,9 +4,11 @@ use Rattle.psm_sqlstate.specs.declared.state.SqlState.{SqlState}
 use Rattle.psm_value.specs.declared.datum.Datum.{Datum}
 use Rattle.psm_value.specs.declared.datum.Datum.TheVariants.{Null, Num, Text}
 use Rattle.psm_cond.specs.Condition.{Entries, alone, «following» as in_front}
-use Rattle.psm_cond.specs.Item.{entries_of, entry_item}
+use Rattle.psm_cond.specs.Item.{entries_of, entry_item, statement_item}
 use Rattle.psm_cond.specs.declared.entry.Entry.{Entry}
 use Rattle.psm_cond.specs.declared.item.ConditionItem.{ConditionItem}
+use Rattle.psm_cond.specs.declared.item.DiagnosticsArea.{DiagnosticsArea}
+use Rattle.psm_cond.specs.declared.item.DiagnosticsArea.TheVariants.{Current, Stacked}
 use Rattle.psm_cond.specs.declared.item.StatementItem.{StatementItem}
 use Rattle.psm_exprcode.specs.Comparison.{truth_of}
 use Rattle.psm_exprcode.specs.declared.items.Items.{Items}
@@ -297,6 +299,11 @@ activating_keeps [] = raises_keeps
 activating_keeps (InBlock k found ∷ frames) = activating_keeps frames
 activating_keeps (InAction n resume area ∷ frames) = got_keeps
 
+activating_area_keeps : (frames : List Frame) → KeepsShape (signals.activating_area frames)
+activating_area_keeps [] = raises_keeps
+activating_area_keeps (InBlock k found ∷ frames) = activating_area_keeps frames
+activating_area_keeps (InAction n resume area ∷ frames) = got_keeps
+
 handling_keeps : KeepsShape signals.handling
 handling_keeps = then_keeps (read_keeps (λ m. m.running.frames)) activating_keeps
 
@@ -326,11 +333,15 @@ module _ (r : RawRoutine) where
   pub resignal_message_keeps : (n : ℕ) → KeepsShape (signals.resignal_message r n)
   resignal_message_keeps n = then_keeps (condition_keeps n) (λ e. then_keeps (message_keeps e) resignal_with_keeps)
 
-pub statement_item_keeps : (i : StatementItem) → KeepsShape (signals.item_of_statement i)
-statement_item_keeps i = record { keeps = λ m. refl }
+area_keeps : (area : DiagnosticsArea) → KeepsShape (signals.area_read area)
+area_keeps Current = read_keeps (λ m. m.area)
+area_keeps Stacked = then_keeps (read_keeps (λ m. m.running.frames)) activating_area_keeps
 
-pub condition_item_keeps : (i : ConditionItem) → KeepsShape (signals.item_of_condition i)
-condition_item_keeps i =
-    then_keeps (read_keeps (λ m. m.area)) (λ a.
+pub statement_item_keeps : (area : DiagnosticsArea) (i : StatementItem) → KeepsShape (signals.item_of_statement area i)
+statement_item_keeps area i = then_keeps (area_keeps area) (λ a. put_keeps (Value (statement_item (length (entries_of a.entries)) a.entries.more a.rows i)))
+
+pub condition_item_keeps : (area : DiagnosticsArea) (i : ConditionItem) → KeepsShape (signals.item_of_condition area i)
+condition_item_keeps area i =
+    then_keeps (area_keeps area) (λ a.
     then_keeps pop_keeps (λ d.
     then_keeps (numbered_keeps (signals.entry_numbered 1 (entries_of a.entries) d)) (λ e. put_keeps (Value (entry_item e.0 e.1 i)))))
