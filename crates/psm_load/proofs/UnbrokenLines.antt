@@ -15,6 +15,7 @@ use Rattle.psm_cond.specs.declared.handlers.HandlerKind.{HandlerKind}
 use Rattle.psm_cond.specs.declared.handlers.HandlerKind.TheVariants.{Continue, Exit, Undo}
 use Rattle.psm_cond.specs.declared.item.ConditionItem.{ConditionItem}
 use Rattle.psm_cond.specs.declared.item.ConditionItem.TheVariants as of_condition
+use Rattle.psm_cond.specs.declared.item.DiagnosticsArea.TheVariants.{Current, Stacked}
 use Rattle.psm_cond.specs.declared.item.StatementItem.{StatementItem}
 use Rattle.psm_cond.specs.declared.item.StatementItem.TheVariants as of_statement
 use Rattle.psm_table.specs.declared.definition.Column.{Column}
@@ -221,6 +222,10 @@ handler_is_line h v = line_of_words (codes "HANDLER") (number h.context ∷ hand
 
 instruction_unbroken : (i : Instruction) → Unbroken (mnemonic i)
 instruction_unbroken (instruction.Operation o) = mnemonic_unbroken o
+instruction_unbroken (instruction.StatementItem Current i) = refl
+instruction_unbroken (instruction.StatementItem Stacked i) = refl
+instruction_unbroken (instruction.ConditionItem Current i) = refl
+instruction_unbroken (instruction.ConditionItem Stacked i) = refl
 instruction_unbroken i = refl
 
 statement_item_unbroken : (i : StatementItem) → Unbroken (statement_item_word i)
@@ -252,8 +257,8 @@ details_unbroken (instruction.Signal n) v = (unbroken_number n v, tt)
 details_unbroken (instruction.SignalMessage n) v = (unbroken_number n v, tt)
 details_unbroken (instruction.ResignalCondition n) v = (unbroken_number n v, tt)
 details_unbroken (instruction.ResignalMessage n) v = (unbroken_number n v, tt)
-details_unbroken (instruction.StatementItem i) v = (statement_item_unbroken i, tt)
-details_unbroken (instruction.ConditionItem i) v = (condition_item_unbroken i, tt)
+details_unbroken (instruction.StatementItem area i) v = (statement_item_unbroken i, tt)
+details_unbroken (instruction.ConditionItem area i) v = (condition_item_unbroken i, tt)
 details_unbroken i v = tt
 
 resume_unbroken : (o : Option ℕ) → IfThere IsIndex o → Unbroken (resume_word o)
@@ -337,6 +342,6 @@ routine_are_lines r v =
 
 pub code_are_lines : (code : RawCode) → IsListed code → EachIs IsLine (lines_of code)
 code_are_lines code v = (
-  line_of_words (codes "PSM") (codes "1" ∷ count code.tables ∷ count code.routines ∷ []) refl (refl, (unbroken_number (length code.tables) v.counts.0, (unbroken_number (length code.routines) v.counts.1, tt))),
+  line_of_words (codes "PSM") (codes "2" ∷ count code.tables ∷ count code.routines ∷ []) refl (refl, (unbroken_number (length code.tables) v.counts.0, (unbroken_number (length code.routines) v.counts.1, tt))),
   each_both (flat_map table_lines code.tables) (flat_map routine_lines code.routines) (each_flat table_lines table_are_lines code.tables v.tables) (each_flat routine_lines routine_are_lines code.routines v.routines),
 )

@@ -85,7 +85,7 @@ there =
     made_alone instruction.Operation op.Between &
     made_alone instruction.Operation op.NullIf &
     (λ s. refl) & (λ s. refl) & (λ s. refl) & (λ s. refl) & (λ s. refl) & (λ s. refl) & (λ s. refl) & (λ s. refl) & (λ s. refl) & (λ s. refl) &
-    (λ s. refl) & (λ s. refl) & (λ s. refl) & (λ s. refl) &
+    (λ s. refl) & (λ s. refl) & (λ s. refl) & (λ s. refl) & (λ s. refl) & (λ s. refl) &
     made_made instruction.Operation op.Variable (last (word index_at)) &
     made_made instruction.Operation op.Column (last (word index_at)) &
     made_made instruction.Operation op.In (last (word index_at)) &
@@ -101,7 +101,7 @@ unfolding grouped_instructions textless_instructions followed_instructions detai
 back =
     refl & refl & refl & refl & refl & refl & refl & refl & refl & refl & refl & refl & refl & refl & refl & refl & refl & refl & refl & refl & refl & refl & refl & refl &
     refl & refl & refl & refl & refl & refl & refl & refl & refl & refl & refl & refl & refl & refl & refl & refl & refl & refl & refl & refl & refl & refl & refl & refl &
-    refl & refl & refl & refl & refl & refl & refl & refl & refl & refl & refl & refl & refl & refl & refl & refl & refl & refl & refl & refl &
+    refl & refl & refl & refl & refl & refl & refl & refl & refl & refl & refl & refl & refl & refl & refl & refl & refl & refl & refl & refl & refl & refl &
     tt
 
 pub grouped : (w s : List ℕ) → said instructions w s ≡ said grouped_instructions w s
@@ -196,7 +196,7 @@ pub textless_followed : (w s : List ℕ) → None ≡ chosen alone_instructions 
 unfolding textless_instructions
 textless_followed w s e = none_alone alone_instructions followed_instructions w s (sym e)
 
--- the first six mnemonics are those of instructions that are followed by something else than a number
+-- the first mnemonics are those of instructions that are followed by something else than a number
 pub followed_numbered : (w s : List ℕ) → EachIs (λ e. w ≡ e.0 → ⊥) detailed_instructions → said followed_instructions w s ≡ (last (word index_at) s >>= λ n. option_map (λ make. make n) (chosen numbered_instructions w))
 unfolding followed_instructions
 followed_numbered w s h =

@@ -4,6 +4,7 @@ use Rattle.std.specs.Prelude.{codes, if◌then◌else◌, nat_eq}
 use Rattle.std.specs.Cmp.Lexicographic.{pointwise}
 use Rattle.psm_cond.specs.declared.item.ConditionItem.{ConditionItem}
 use Rattle.psm_cond.specs.declared.item.ConditionItem.TheVariants as of_condition
+use Rattle.psm_cond.specs.declared.item.DiagnosticsArea.TheVariants.{Current, Stacked}
 use Rattle.psm_cond.specs.declared.item.StatementItem.{StatementItem}
 use Rattle.psm_cond.specs.declared.item.StatementItem.TheVariants as of_statement
 use Rattle.psm_exprcode.specs.declared.op.Letter.{Letter}
@@ -133,8 +134,10 @@ instruction_solid instruction.Resignal = refl
 instruction_solid (instruction.ResignalCondition n) = refl
 instruction_solid (instruction.ResignalMessage n) = refl
 instruction_solid instruction.NoCase = refl
-instruction_solid (instruction.StatementItem i) = refl
-instruction_solid (instruction.ConditionItem i) = refl
+instruction_solid (instruction.StatementItem Current i) = refl
+instruction_solid (instruction.StatementItem Stacked i) = refl
+instruction_solid (instruction.ConditionItem Current i) = refl
+instruction_solid (instruction.ConditionItem Stacked i) = refl
 
 pub instruction_found : Found mnemonic details IsInstruction instructions
 instruction_found (instruction.Operation o) v =
@@ -167,8 +170,10 @@ instruction_found instruction.Resignal v = (alone instruction.Resignal, refl, re
 instruction_found (instruction.ResignalCondition n) v = (numbered instruction.ResignalCondition, refl, again_made instruction.ResignalCondition n v)
 instruction_found (instruction.ResignalMessage n) v = (numbered instruction.ResignalMessage, refl, again_made instruction.ResignalMessage n v)
 instruction_found instruction.NoCase v = (alone instruction.NoCase, refl, refl)
-instruction_found (instruction.StatementItem i) v = (made instruction.StatementItem (last (word (one_of statement_items))), refl, made_again mnemonic details IsInstruction (λ i. statement_item_word i ∷ []) (λ i. Unit {0}) (last (word (one_of statement_items))) instruction.StatementItem statement_rest i tt)
-instruction_found (instruction.ConditionItem i) v = (made instruction.ConditionItem (last (word (one_of condition_items))), refl, made_again mnemonic details IsInstruction (λ i. condition_item_word i ∷ []) (λ i. Unit {0}) (last (word (one_of condition_items))) instruction.ConditionItem condition_rest i tt)
+instruction_found (instruction.StatementItem Current i) v = (made (instruction.StatementItem Current) (last (word (one_of statement_items))), refl, made_again mnemonic details IsInstruction (λ i. statement_item_word i ∷ []) (λ i. Unit {0}) (last (word (one_of statement_items))) (instruction.StatementItem Current) statement_rest i tt)
+instruction_found (instruction.StatementItem Stacked i) v = (made (instruction.StatementItem Stacked) (last (word (one_of statement_items))), refl, made_again mnemonic details IsInstruction (λ i. statement_item_word i ∷ []) (λ i. Unit {0}) (last (word (one_of statement_items))) (instruction.StatementItem Stacked) statement_rest i tt)
+instruction_found (instruction.ConditionItem Current i) v = (made (instruction.ConditionItem Current) (last (word (one_of condition_items))), refl, made_again mnemonic details IsInstruction (λ i. condition_item_word i ∷ []) (λ i. Unit {0}) (last (word (one_of condition_items))) (instruction.ConditionItem Current) condition_rest i tt)
+instruction_found (instruction.ConditionItem Stacked i) v = (made (instruction.ConditionItem Stacked) (last (word (one_of condition_items))), refl, made_again mnemonic details IsInstruction (λ i. condition_item_word i ∷ []) (λ i. Unit {0}) (last (word (one_of condition_items))) (instruction.ConditionItem Stacked) condition_rest i tt)
 
 control_leads : Leads mnemonic details IsInstruction control
 control_leads =
@@ -199,8 +204,10 @@ control_leads =
     & after_number (mnemonic (instruction.ResignalCondition 0)) instruction.ResignalCondition (λ n. refl) (λ n. refl) (λ n v. v)
     & after_number (mnemonic (instruction.ResignalMessage 0)) instruction.ResignalMessage (λ n. refl) (λ n. refl) (λ n v. v)
     & alone_after mnemonic details IsInstruction (mnemonic instruction.NoCase) instruction.NoCase refl refl tt
-    & made_after mnemonic details IsInstruction (codes "GETS") (λ i. statement_item_word i ∷ []) (λ i. Unit {0}) (last (word (one_of statement_items))) instruction.StatementItem statement_rest (λ i. refl) (λ i. refl) (λ i v. tt)
-    & made_after mnemonic details IsInstruction (codes "GETC") (λ i. condition_item_word i ∷ []) (λ i. Unit {0}) (last (word (one_of condition_items))) instruction.ConditionItem condition_rest (λ i. refl) (λ i. refl) (λ i v. tt)
+    & made_after mnemonic details IsInstruction (codes "GETS") (λ i. statement_item_word i ∷ []) (λ i. Unit {0}) (last (word (one_of statement_items))) (instruction.StatementItem Current) statement_rest (λ i. refl) (λ i. refl) (λ i v. tt)
+    & made_after mnemonic details IsInstruction (codes "GETC") (λ i. condition_item_word i ∷ []) (λ i. Unit {0}) (last (word (one_of condition_items))) (instruction.ConditionItem Current) condition_rest (λ i. refl) (λ i. refl) (λ i v. tt)
+    & made_after mnemonic details IsInstruction (codes "SGETS") (λ i. statement_item_word i ∷ []) (λ i. Unit {0}) (last (word (one_of statement_items))) (instruction.StatementItem Stacked) statement_rest (λ i. refl) (λ i. refl) (λ i v. tt)
+    & made_after mnemonic details IsInstruction (codes "SGETC") (λ i. condition_item_word i ∷ []) (λ i. Unit {0}) (last (word (one_of condition_items))) (instruction.ConditionItem Stacked) condition_rest (λ i. refl) (λ i. refl) (λ i v. tt)
     & tt
 
 pub instruction_rest : Rest (λ i. mnemonic i ∷ details i) IsInstruction (by_word instructions)

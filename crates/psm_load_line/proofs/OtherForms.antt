@@ -54,7 +54,7 @@ two_valued write entries s t f g e = field write (λ b. Unit {0}) (one_of entrie
 -- ---- PSM, COL, KEY, UNI, SET
 
 pub first_written : Written first_head_line AreTwo first_at
-first_written = begin (codes "PSM 1") two_words AreTwo (last (both index index)) two_rest
+first_written = begin (codes "PSM 2") two_words AreTwo (last (both index index)) two_rest
 
 abbrev column_words : List ℕ × (SqlType × (Bool × Datum)) → List (List ℕ)
 column_words x = (quoted x.0 ∷ []) ++ ((type_word x.1.0 ∷ []) ++ ((flag x.1.1.0 ∷ []) ++ (datum_word x.1.1.1 ∷ [])))

@@ -19,9 +19,9 @@ index = word index_at
 
 -- ---- the first line, and tables
 
--- PSM 1 tables routines
+-- PSM 2 tables routines
 abbrev pub first_at : LineReader (ℕ × ℕ)
-first_at = line (codes "PSM 1") (last (both index index))
+first_at = line (codes "PSM 2") (last (both index index))
 
 -- TABLE name columns uniques checks
 abbrev pub TableHead : Type 0

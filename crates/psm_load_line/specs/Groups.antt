@@ -1,5 +1,6 @@
 -- The instructions by what follows their mnemonics: nothing, one number, or something else.
 use Rattle.std.specs.Prelude.{ℕ, List, [], ◌∷◌, ◌++◌, codes, map}
+use Rattle.psm_cond.specs.declared.item.DiagnosticsArea.TheVariants.{Current, Stacked}
 use Rattle.psm_exprcode.specs.declared.op.Letter.{Letter}
 use Rattle.psm_exprcode.specs.declared.op.Op.{Op}
 use Rattle.psm_exprcode.specs.declared.op.Op.TheVariants as op
@@ -106,8 +107,10 @@ detailed_instructions =
     ∷ of_operation (codes "TRIM", made op.Trim (last (word (one_of sides))))
     ∷ of_operation (codes "CAST", made op.Cast (last (word type_at)))
     ∷ (codes "NEXT", made (λ x. instruction.Next x.0 x.1) (last (both (word index_at) (word index_at))))
-    ∷ (codes "GETS", made instruction.StatementItem (last (word (one_of statement_items))))
-    ∷ (codes "GETC", made instruction.ConditionItem (last (word (one_of condition_items))))
+    ∷ (codes "GETS", made (instruction.StatementItem Current) (last (word (one_of statement_items))))
+    ∷ (codes "GETC", made (instruction.ConditionItem Current) (last (word (one_of condition_items))))
+    ∷ (codes "SGETS", made (instruction.StatementItem Stacked) (last (word (one_of statement_items))))
+    ∷ (codes "SGETC", made (instruction.ConditionItem Stacked) (last (word (one_of condition_items))))
     ∷ []
 
 -- ---- all of them

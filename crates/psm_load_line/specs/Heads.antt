@@ -149,7 +149,7 @@ IsCodeLine l = IsIndex l.context × IfThere IsIndex l.resume × IsInstruction l.
 -- ---- the first line, queries, routines and declared conditions
 
 abbrev pub first_head_line : ℕ × ℕ → List ℕ
-first_head_line h = spaced (codes "PSM" ∷ codes "1" ∷ number h.0 ∷ number h.1 ∷ [])
+first_head_line h = spaced (codes "PSM" ∷ codes "2" ∷ number h.0 ∷ number h.1 ∷ [])
 
 abbrev pub query_head_line : QueryHead → List ℕ
 query_head_line h = spaced (codes "QUERY" ∷ number h.0 ∷ direction_word h.1.0 ∷ number h.1.1.0 ∷ flag h.1.1.1 ∷ [])

@@ -2,6 +2,7 @@
 use Rattle.std.specs.Prelude.{ℕ, List, [], ◌∷◌, ◌++◌, codes, map, Option}
 use Rattle.psm_cond.specs.declared.item.ConditionItem.{ConditionItem}
 use Rattle.psm_cond.specs.declared.item.ConditionItem.TheVariants as of_condition
+use Rattle.psm_cond.specs.declared.item.DiagnosticsArea.TheVariants.{Current, Stacked}
 use Rattle.psm_cond.specs.declared.item.StatementItem.{StatementItem}
 use Rattle.psm_cond.specs.declared.item.StatementItem.TheVariants as of_statement
 use Rattle.psm_exprcode.specs.declared.op.Letter.{Letter}
@@ -64,8 +65,10 @@ control =
     ∷ (codes "RESIGC", numbered instruction.ResignalCondition)
     ∷ (codes "RESIGM", numbered instruction.ResignalMessage)
     ∷ (codes "NOCASE", alone instruction.NoCase)
-    ∷ (codes "GETS", made instruction.StatementItem (last (word (one_of statement_items))))
-    ∷ (codes "GETC", made instruction.ConditionItem (last (word (one_of condition_items))))
+    ∷ (codes "GETS", made (instruction.StatementItem Current) (last (word (one_of statement_items))))
+    ∷ (codes "GETC", made (instruction.ConditionItem Current) (last (word (one_of condition_items))))
+    ∷ (codes "SGETS", made (instruction.StatementItem Stacked) (last (word (one_of statement_items))))
+    ∷ (codes "SGETC", made (instruction.ConditionItem Stacked) (last (word (one_of condition_items))))
     ∷ []
 
 abbrev pub of_operation : List ℕ × LineReader Op → List ℕ × LineReader Instruction

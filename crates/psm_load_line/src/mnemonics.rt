@@ -11,6 +11,7 @@ use crate::details::{
 use crate::fault::Unread;
 use crate::front::{text_word, value};
 use psm_code::Instruction;
+use psm_cond::DiagnosticsArea;
 use psm_exprcode::Op;
 use std::alloc::Global;
 
@@ -135,8 +136,16 @@ fn followed(word: &str, rest: &[u8]) -> Option<Instruction>
         "TRIM" => Some(Instruction::Operation(Op::Trim(side(rest)?))),
         "CAST" => Some(Instruction::Operation(Op::Cast(last_kind(rest)?))),
         "NEXT" => next(rest),
-        "GETS" => Some(Instruction::StatementItem(statement_item(rest)?)),
-        "GETC" => Some(Instruction::ConditionItem(condition_item(rest)?)),
+        "GETS" => Some(Instruction::StatementItem(DiagnosticsArea::Current, statement_item(rest)?)),
+        "GETC" => Some(Instruction::ConditionItem(DiagnosticsArea::Current, condition_item(rest)?)),
+        "SGETS" => Some(Instruction::StatementItem(
+            DiagnosticsArea::Stacked,
+            statement_item(rest)?,
+        )),
+        "SGETC" => Some(Instruction::ConditionItem(
+            DiagnosticsArea::Stacked,
+            condition_item(rest)?,
+        )),
         _ => numbered(word, last_index(rest)?),
     }
 }

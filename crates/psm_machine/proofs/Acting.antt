@@ -1,5 +1,6 @@
 -- The condition that activated the innermost running action, as the definition finds it.
 use Rattle.std.proofs.Common.{◌≡◌, ℕ, List, [], ◌∷◌, Option, Some, None, Err, codes, refl, ap, sym, subst, ◌∙◌}
+use Rattle.psm_cond.specs.Area.{Diagnostics}
 use Rattle.psm_cond.specs.Condition.{Entries}
 use Rattle.psm_table.specs.Table.{Contents}
 use Rattle.psm_store.specs.declared.store.Mark.{Mark}
@@ -8,22 +9,23 @@ use Rattle.psm_code.specs.State.{Machine}
 use Rattle.psm_code.specs.Steps.{Came, Got, got, of_state, raises}
 use Rattle.psm_unwind.specs.declared.run.Frame.{Frame}
 use Rattle.psm_unwind.specs.declared.run.Frame.TheVariants.{Block, Action}
+use Rattle.psm_unwind.specs.Actions.{activating_of}
 use Rattle.psm_unwind.specs.View.{frames_of}
 use Rattle.psm_machine.specs.declared.stop.Stop.{Stop}
 use Rattle.psm_machine.specs.declared.stop.Stop.TheVariants as stop
-use Rattle.psm_machine.specs.ActResults.{Evaluates, StopsAt, StopsWith, activating_of}
+use Rattle.psm_machine.specs.ActResults.{Evaluates, StopsAt, StopsWith}
 
-abbrev given_of : Option Entries → Machine → Came Entries
+abbrev given_of : Option Diagnostics → Machine → Came Entries
 given_of None m = raises (of_state (codes "0K000")) m
-given_of (Some c) m = got c m
+given_of (Some a) m = got a.entries m
 
 activating_is : (at : Mark → List Contents) (frames : List Frame) (m : Machine) → activating (frames_of at frames) m ≡ given_of (activating_of frames) m
 activating_is at [] m = refl
 activating_is at (Block k found ∷ frames) m = activating_is at frames m
 activating_is at (Action h resume c rows ∷ frames) m = refl
 
-pub activating_found : (at : Mark → List Contents) (frames : List Frame) (m : Machine) (c : Entries) → activating_of frames ≡ Some c → activating (frames_of at frames) m ≡ record { given = Got c; machine = m }
-activating_found at frames m c e = activating_is at frames m ∙ ap (λ o. given_of o m) e
+pub activating_found : (at : Mark → List Contents) (frames : List Frame) (m : Machine) (a : Diagnostics) → activating_of frames ≡ Some a → activating (frames_of at frames) m ≡ record { given = Got a.entries; machine = m }
+activating_found at frames m a e = activating_is at frames m ∙ ap (λ o. given_of o m) e
 
 -- a condition stops the instruction
 pub raises_with : (A : Type 0) (due : Entries) (m : Machine) (s : Stop) → StopsWith due s → Evaluates {A = A} (raises due m) (Err s) m

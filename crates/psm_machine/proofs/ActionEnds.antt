@@ -1,6 +1,6 @@
 -- Actions that end, whose frame is the innermost one.
-use Rattle.std.proofs.Common.{◌≡◌, ℕ, ◌-◌, Bool, true, false, nat_eq, List, [], ◌∷◌, ◌++◌, length, reverse, take, Option, Some, None, option_to_list, Result, Err, IsErrAnd, if◌then◌else◌, refl, ap, sym, subst, ◌∙◌, arith, append-nil, length-take}
-use Rattle.std.proofs.lemmas.List.{length-reverse, reverse-append}
+use Rattle.std.proofs.Common.{◌≡◌, ℕ, Bool, true, false, nat_eq, List, [], ◌∷◌, Option, Some, None, Result, Err, IsErrAnd, if◌then◌else◌, refl, ap, sym, subst, ◌∙◌}
+use Rattle.psm_cond.specs.Area.{Diagnostics}
 use Rattle.psm_cond.specs.declared.handlers.Handler.{Handler}
 use Rattle.psm_exprcode.specs.declared.operand.Next.{Next}
 use Rattle.psm_table.specs.Table.{Contents}
@@ -10,11 +10,11 @@ use Rattle.psm_code.specs.Parts.{handler_at}
 use Rattle.psm_code.specs.Run.{Successor, act_ended, action_ended, line_after, with_frames}
 use Rattle.psm_code.specs.Run as rows
 use Rattle.psm_code.specs.State as code
-use Rattle.psm_code.specs.State.{cleared}
+use Rattle.psm_code.specs.State.{put_back}
 use Rattle.psm_code.specs.Steps.{Act, Came, Got, ends, go_on}
 use Rattle.psm_unwind.specs.declared.run.Frame.{Frame}
 use Rattle.psm_unwind.specs.declared.run.Frame.TheVariants.{Block, Action}
-use Rattle.psm_unwind.specs.Marks.{marks_in}
+use Rattle.psm_unwind.specs.Actions.{after_action, is_action}
 use Rattle.psm_unwind.specs.View.{frames_of}
 use Rattle.psm_machine.specs.declared.stop.Stop.{Stop}
 use Rattle.psm_machine.specs.declared.stop.Stop.TheVariants as stop
@@ -41,13 +41,13 @@ abbrev or_some : Option ℕ → Option (Option ℕ) → Option ℕ
 or_some d None = d
 or_some d (Some r) = r
 
--- the innermost frame is that of the action, and these are the others
+-- the innermost frame is that of the action, whose handler was activated with this area, and these are the others
 pub record Acts (n : ℕ) (resume : Option ℕ) (frames : List Frame) : Type 0 where
-  pub first : Frame
+  pub area : Diagnostics
   pub rest : List Frame
-  pub is : frames ≡ first ∷ rest
-  pub marks : marks_in frames ≡ marks_in rest
-  pub ended : (r : RawRoutine) (at : Mark → List Contents) (m : code.Machine) → action_ended r n (frames_of at frames) m ≡ act_ended r n resume (frames_of at rest) m
+  pub action : is_action frames ≡ true
+  pub ended : (r : RawRoutine) (at : Mark → List Contents) (m : code.Machine) → action_ended r n (frames_of at frames) m ≡ act_ended r n resume area (frames_of at rest) m
+  pub after : (at : Mark → List Contents) (m : code.Machine) → put_back area (with_frames (frames_of at rest) m) ≡ after_action (frames_of at frames) m
 
 same_one : (n l : ℕ) (resume other : Option ℕ) (b : Bool) → Some resume ≡ (if b then Some other else None) → (b ≡ true) × (other ≡ resume)
 same_one n l resume other true e = (refl, sym (ap (or_some other) e))
@@ -58,14 +58,15 @@ acting_first n resume [] at e = cc
 acting_first n resume (Block k found ∷ frames) at e = cc
 acting_first n resume (Action l other c rows ∷ frames) at e =
     let same = same_one n l resume other (nat_eq n l) e in
+    let area : Diagnostics = record { entries = c; rows = rows } in
     record {
-      first = Action l other c rows;
+      area = area;
       rest = frames;
-      is = refl;
-      marks = refl;
+      action = refl;
       ended = λ r at m.
-          ap (λ b. (if b then act_ended r n other (frames_of at frames) else ends code.Stuck) m) same.0
-          ∙ ap (λ o. act_ended r n o (frames_of at frames) m) same.1;
+          ap (λ b. (if b then act_ended r n other area (frames_of at frames) else ends code.Stuck) m) same.0
+          ∙ ap (λ o. act_ended r n o area (frames_of at frames) m) same.1;
+      after = λ at m. refl;
     }
 
 pub acting : (n : ℕ) (resume : Option ℕ) (frames : List Frame) → ((at : Mark → List Contents) → Some resume ≡ resume_of n (frames_of at frames)) → Acts n resume frames
@@ -75,28 +76,15 @@ no_action : (r : RawRoutine) (n : ℕ) (frames : List code.Frame) (m : code.Mach
 no_action r n [] m e = refl
 no_action r n (code.InBlock k found ∷ frames) m e = refl
 no_action r n (code.InAction l resume area ∷ frames) m e = by (nat_eq n l) e where
-  by : (b : Bool) → None ≡ (if b then Some resume else None) → (if b then act_ended r n resume frames else ends code.Stuck) m ≡ ends code.Stuck m
+  by : (b : Bool) → None ≡ (if b then Some resume else None) → (if b then act_ended r n resume area frames else ends code.Stuck) m ≡ ends code.Stuck m
   by true e = cc
   by false e = refl
 
 pub lacks_action : (r : RawRoutine) (n : ℕ) (m : code.Machine) → None ≡ resume_of n m.running.frames → rows.end_action r n m ≡ ends code.Stuck m
 lacks_action r n m e = no_action r n m.running.frames m e
 
--- ---- it is taken off
+-- ---- it ends
 
-abbrev rest_of : List Frame → List Frame
-rest_of [] = []
-rest_of (f ∷ frames) = frames
-
-pub popped_rest : (xs ys : List Frame) (k : ℕ) (o : Option Frame) (f : Frame) (rest : List Frame) → xs ≡ ys ++ option_to_list o → k ≡ length xs → ys ≡ take (k - 1) xs → reverse xs ≡ f ∷ rest → rest ≡ reverse ys
-popped_rest xs ys k (Some g) f rest e q t h = sym (ap rest_of (sym (ap reverse e ∙ reverse-append ys (g ∷ [])) ∙ h))
-popped_rest xs ys k None f rest e q t h =
-    let same : xs ≡ ys = e ∙ append-nil ys in
-    let long : length xs ≡ length ys = ap length same in
-    let less : length ys ≡ length (take (k - 1) xs) = ap length t in
-    let some : length (reverse xs) ≡ length (f ∷ rest) = ap length h in
-    absurd (omega (arith, q, long, less, some, length-take (k - 1) xs, length-reverse xs))
-
-pub act_is : (r : RawRoutine) (n : ℕ) (resume : Option ℕ) (frames : List code.Frame) (m now : code.Machine) (h : Handler) (line : ℕ) → handler_at r n ≡ Some h →
-    line_after r h h.kind resume m ≡ record { given = Got line; machine = m } → cleared (with_frames frames m) ≡ now → act_ended r n resume frames m ≡ record { given = Got (rows.at line); machine = now }
-act_is r n resume frames m now h line e f g = rw (e, f) (ap (λ (x : code.Machine). record { given = Got (rows.at line); machine = x }) g)
+pub act_is : (r : RawRoutine) (n : ℕ) (resume : Option ℕ) (area : Diagnostics) (frames : List code.Frame) (m now : code.Machine) (h : Handler) (line : ℕ) → handler_at r n ≡ Some h →
+    line_after r h h.kind resume m ≡ record { given = Got line; machine = m } → put_back area (with_frames frames m) ≡ now → act_ended r n resume area frames m ≡ record { given = Got (rows.at line); machine = now }
+act_is r n resume area frames m now h line e f g = rw (e, f) (ap (λ (x : code.Machine). record { given = Got (rows.at line); machine = x }) g)

@@ -1,6 +1,7 @@
 -- Instructions that are done, and where the run goes on after them.
 use Rattle.std.proofs.Common.{◌≡◌, ℕ, false, Result, Ok, Err, IsErrAnd, refl, ap, sym, subst}
 use Rattle.psm_cond.specs.declared.item.ConditionItem.{ConditionItem}
+use Rattle.psm_cond.specs.declared.item.DiagnosticsArea.{DiagnosticsArea}
 use Rattle.psm_cond.specs.declared.item.StatementItem.{StatementItem}
 use Rattle.psm_exprcode.specs.declared.op.Op.{Op}
 use Rattle.psm_exprcode.specs.declared.operand.Next.{Next}
@@ -60,7 +61,7 @@ goes_here came u m e = (
 
 -- ---- the other instructions
 
-pub other_within : (r : RawRoutine) (i : Instruction) (m : Machine) → (i ≡ instruction.Clear → ⊥) → ((n : ℕ) → i ≡ instruction.Store n → ⊥) → ((n : ℕ) → i ≡ instruction.FetchStore n → ⊥) → (i ≡ instruction.Warn → ⊥) → (i ≡ instruction.Turn → ⊥) → (i ≡ instruction.NoReturn → ⊥) → (i ≡ instruction.NoCase → ⊥) → ((x : StatementItem) → i ≡ instruction.StatementItem x → ⊥) → ((x : ConditionItem) → i ≡ instruction.ConditionItem x → ⊥) → within_act r i m ≡ signal_act r i m
+pub other_within : (r : RawRoutine) (i : Instruction) (m : Machine) → (i ≡ instruction.Clear → ⊥) → ((n : ℕ) → i ≡ instruction.Store n → ⊥) → ((n : ℕ) → i ≡ instruction.FetchStore n → ⊥) → (i ≡ instruction.Warn → ⊥) → (i ≡ instruction.Turn → ⊥) → (i ≡ instruction.NoReturn → ⊥) → (i ≡ instruction.NoCase → ⊥) → ((a : DiagnosticsArea) (x : StatementItem) → i ≡ instruction.StatementItem a x → ⊥) → ((a : DiagnosticsArea) (x : ConditionItem) → i ≡ instruction.ConditionItem a x → ⊥) → within_act r i m ≡ signal_act r i m
 other_within r instruction.Clear m n0 n1 n2 n3 n4 n5 n6 n7 n8 = absurd (n0 refl)
 other_within r (instruction.Store slot) m n0 n1 n2 n3 n4 n5 n6 n7 n8 = absurd (n1 slot refl)
 other_within r (instruction.FetchStore slot) m n0 n1 n2 n3 n4 n5 n6 n7 n8 = absurd (n2 slot refl)
@@ -68,8 +69,8 @@ other_within r instruction.Warn m n0 n1 n2 n3 n4 n5 n6 n7 n8 = absurd (n3 refl)
 other_within r instruction.Turn m n0 n1 n2 n3 n4 n5 n6 n7 n8 = absurd (n4 refl)
 other_within r instruction.NoReturn m n0 n1 n2 n3 n4 n5 n6 n7 n8 = absurd (n5 refl)
 other_within r instruction.NoCase m n0 n1 n2 n3 n4 n5 n6 n7 n8 = absurd (n6 refl)
-other_within r (instruction.StatementItem x) m n0 n1 n2 n3 n4 n5 n6 n7 n8 = absurd (n7 x refl)
-other_within r (instruction.ConditionItem x) m n0 n1 n2 n3 n4 n5 n6 n7 n8 = absurd (n8 x refl)
+other_within r (instruction.StatementItem a x) m n0 n1 n2 n3 n4 n5 n6 n7 n8 = absurd (n7 a x refl)
+other_within r (instruction.ConditionItem a x) m n0 n1 n2 n3 n4 n5 n6 n7 n8 = absurd (n8 a x refl)
 other_within r i m n0 n1 n2 n3 n4 n5 n6 n7 n8 = refl
 
 pub other_plain : (r : RawRoutine) (i : Instruction) (m : Machine) → ((n : ℕ) → i ≡ instruction.Enter n → ⊥) → ((n : ℕ) → i ≡ instruction.Exit n → ⊥) → plain_act r i m ≡ within_act r i m

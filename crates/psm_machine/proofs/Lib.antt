@@ -23,3 +23,4 @@ pub mod Spending
 pub mod Standing
 pub mod Starting
 pub mod Staying
+pub mod StackedArea

@@ -13,11 +13,13 @@ use Rattle.psm_cond.specs.declared.entry.Entry.{Entry}
 use Rattle.psm_exprcode.specs.declared.operand.Operand.{Operand}
 use Rattle.psm_exprcode.specs.declared.operand.Operand.TheVariants.{Value, Truth}
 use Rattle.psm_cond.specs.declared.item.ConditionItem.{ConditionItem}
+use Rattle.psm_cond.specs.declared.item.DiagnosticsArea.TheVariants.{Current}
+use Rattle.psm_cond.specs.Area.{Diagnostics}
 use Rattle.psm_cond.specs.Condition.{Entries}
 use Rattle.psm_cond.specs.Item.{IsNumber, entries_of, entry_item, whole}
 use Rattle.psm_code.specs.Signalling.{entry_numbered, equal, item_of_condition, numbered}
 use Rattle.psm_code.specs.State.{Stuck, Machine}
-use Rattle.psm_code.specs.Steps.{Came, Ends, Got, go_on, got, pop, popped, put_value, ◌>>=◌}
+use Rattle.psm_code.specs.Steps.{Act, Came, Ends, Got, go_on, got, pop, popped, put_value, ◌>>=◌}
 use Rattle.psm_machine.specs.declared.stop.Stop.{Stop}
 use Rattle.psm_machine.specs.ActResults.{Evaluates, StopsAt}
 use Rattle.psm_machine.specs.Successors.{item_at}
@@ -115,11 +117,20 @@ popped_area [] m n d e = let f : Ends Stuck ≡ Got d = ap (λ (came : Came Datu
 popped_area (Value x ∷ os) m n d e = ap (λ (came : Came Datum). came.machine.area) e
 popped_area (Truth t ∷ os) m n d e = let f : Ends Stuck ≡ Got d = ap (λ (came : Came Datum). came.given) e in cc
 
+-- an item of an area, once it is known
+abbrev pub item_in : Diagnostics → ConditionItem → Act (Unit {0})
+item_in a i = do
+  d ← pop
+  e ← numbered (entry_numbered 1 (entries_of a.entries) d)
+  put_value (entry_item e.0 e.1 i)
+
 -- the item of the entry is put in the place of its number
-pub item_then : (i : ConditionItem) (m n : Machine) (d : Datum) → pop m ≡ record { given = Got d; machine = n } → item_of_condition i m ≡ ◌>>=◌ (item_at n.area.entries d i) put_value n
-item_then i m n d e =
+pub item_next : (a : Diagnostics) (i : ConditionItem) (m n : Machine) (d : Datum) → pop m ≡ record { given = Got d; machine = n } → item_in a i m ≡ ◌>>=◌ (item_at a.entries d i) put_value n
+item_next a i m n d e =
     ap (λ (came : Came Datum). go_on came.given (λ d. do
-      e ← numbered (entry_numbered 1 (entries_of m.area.entries) d)
+      e ← numbered (entry_numbered 1 (entries_of a.entries) d)
       put_value (entry_item e.0 e.1 i)) came.machine) e
-    ∙ put_after (entry_numbered 1 (entries_of m.area.entries) d) i n
-    ∙ ap (λ (c : Entries). ◌>>=◌ (item_at c d i) put_value n) (ap (λ a. a.entries) (popped_area m.running.operands m n d e))
+    ∙ put_after (entry_numbered 1 (entries_of a.entries) d) i n
+
+pub item_then : (i : ConditionItem) (m n : Machine) (d : Datum) → pop m ≡ record { given = Got d; machine = n } → item_of_condition Current i m ≡ ◌>>=◌ (item_at n.area.entries d i) put_value n
+item_then i m n d e = item_next m.area i m n d e ∙ ap (λ (c : Entries). ◌>>=◌ (item_at c d i) put_value n) (ap (λ a. a.entries) (popped_area m.running.operands m n d e))

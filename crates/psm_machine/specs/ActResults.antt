@@ -1,5 +1,5 @@
 -- What the parts of an instruction end in.
-use Rattle.std.specs.Prelude.{◌≡◌, List, [], ◌∷◌, Option, Some, None, Result, Ok, Err}
+use Rattle.std.specs.Prelude.{◌≡◌, List, Result, Ok, Err}
 use Rattle.psm_sqlstate.specs.declared.state.SqlState.{SqlState}
 use Rattle.psm_value.specs.declared.fault.ValueFault.{ValueFault}
 use Rattle.psm_value.specs.declared.fault.ValueFault.TheVariants as value
@@ -8,8 +8,6 @@ use Rattle.psm_store.specs.declared.store.Mark.{Mark}
 use Rattle.psm_code.specs.State as code
 use Rattle.psm_code.specs.Steps.{Act, Came, Got, Raises, Ends, of_state, tried}
 use Rattle.psm_cond.specs.Condition.{Entries}
-use Rattle.psm_unwind.specs.declared.run.Frame.{Frame}
-use Rattle.psm_unwind.specs.declared.run.Frame.TheVariants.{Block, Action}
 use Rattle.psm_unwind.specs.declared.run.Run.{Run}
 use Rattle.psm_unwind.specs.View.{at_end, machine_of}
 use Rattle.psm_machine.specs.declared.stop.Stop.{Stop}
@@ -54,13 +52,3 @@ Tries due result = (m : code.Machine) → Evaluates (tried due m) result m
 -- an act that changes nothing ends in what is due
 abbrev pub Finds : {A : Type 0} → Act A → Result A Stop → Type 0
 Finds act result = (m : code.Machine) → Evaluates (act m) result m
-
--- ---- the condition that activated the innermost running action
-
-abbrev pub activating_by : Frame → Option Entries → Option Entries
-activating_by (Block k found) other = other
-activating_by (Action h resume c rows) other = Some c
-
-abbrev pub activating_of : List Frame → Option Entries
-activating_of [] = None
-activating_of (f ∷ frames) = activating_by f (activating_of frames)

@@ -4,6 +4,8 @@ use Rattle.std.specs.Result.{result_map_both}
 use Rattle.psm_value.specs.declared.datum.Datum.{Datum}
 use Rattle.psm_cond.specs.declared.handlers.Handler.{Handler}
 use Rattle.psm_cond.specs.declared.item.ConditionItem.{ConditionItem}
+use Rattle.psm_cond.specs.declared.item.DiagnosticsArea.{DiagnosticsArea}
+use Rattle.psm_cond.specs.declared.item.StatementItem.{StatementItem}
 use Rattle.psm_cond.specs.Condition.{Entries}
 use Rattle.psm_cond.specs.Item.{entries_of, entry_item}
 use Rattle.psm_exprcode.specs.declared.op.Op.{Op}
@@ -13,7 +15,7 @@ use Rattle.psm_exprcode.specs.Fits.{Fits}
 use Rattle.psm_table.specs.Table.{Contents}
 use Rattle.psm_store.specs.declared.store.Mark.{Mark}
 use Rattle.psm_code.specs.Run.{Successor, enter, exit, retrieve, store, warn, successor_of}
-use Rattle.psm_code.specs.Signalling.{entry_numbered, item_of_condition, item_of_statement, numbered, resignal, resignal_condition, resignal_message, signal, signal_message}
+use Rattle.psm_code.specs.Signalling.{area_read, entry_numbered, item_of_condition, item_of_statement, numbered, resignal, resignal_condition, resignal_message, signal, signal_message}
 use Rattle.psm_code.specs.State as code
 use Rattle.psm_code.specs.State.{cleared, with_running}
 use Rattle.psm_code.specs.declared.code.RawRoutine.{RawRoutine}
@@ -25,6 +27,7 @@ use Rattle.psm_code.specs.Steps.{Act, Came, Got, Raises, change, ends, got, of_s
 use Rattle.psm_unwind.specs.declared.ending.Outcome.{Outcome}
 use Rattle.psm_unwind.specs.declared.ending.Outcome.TheVariants as outcome
 use Rattle.psm_unwind.specs.declared.run.Run.{Run}
+use Rattle.psm_unwind.specs.Actions.{item_of}
 use Rattle.psm_unwind.specs.Marks.{Around, MarksStand, Stays, open_marks}
 use Rattle.psm_unwind.specs.View.{LeadsTo, machine_of}
 use Rattle.psm_machine.specs.declared.stop.Stop.{Stop}
@@ -101,8 +104,8 @@ within_act r instruction.Warn = warn
 within_act r instruction.Turn = turn
 within_act r instruction.NoReturn = raises (of_state (codes "2F005"))
 within_act r instruction.NoCase = raises (of_state (codes "20000"))
-within_act r (instruction.StatementItem i) = item_of_statement i
-within_act r (instruction.ConditionItem i) = item_of_condition i
+within_act r (instruction.StatementItem area i) = item_of_statement area i
+within_act r (instruction.ConditionItem area i) = item_of_condition area i
 within_act r i = signal_act r i
 
 -- the same, and the blocks
@@ -157,6 +160,12 @@ exit_of r h = do
   got b.exit
 
 -- ---- GET DIAGNOSTICS
+
+-- an item of a diagnostics area about the statement
+abbrev pub statement_item_of : DiagnosticsArea → StatementItem → Act Datum
+statement_item_of area i = do
+  a ← area_read area
+  got (item_of i a)
 
 -- an item of the entry whose number is the value
 abbrev pub item_at : Entries → Datum → ConditionItem → Act Datum

@@ -8,14 +8,13 @@ ghost use Rattle.psm_machine.specs.ActResults.{Finds};
 ghost use Rattle.psm_machine.specs.Successors.{GoesOn, SameMarks, exit_of, resume_of};
 
 use crate::stop::Stop;
-use crate::turns::clear;
 use psm_code::RawRoutine;
 use psm_cond::{Handler, HandlerKind};
 use psm_exprcode::Next;
-use psm_unwind::{Frame, Run, block_at, handler_at};
+use psm_unwind::{Frame, Run, block_at, handler_at, leave_action};
 
 /// Ends the action of a handler, whose frame has to be the innermost one, and tells where the run goes on: after the statement for
-/// CONTINUE, and at the end of the handler's block for EXIT and UNDO. The area is success then.
+/// CONTINUE, and at the end of the handler's block for EXIT and UNDO. The area is again what it was when the handler was activated.
 pub fn end_action(routine: &RawRoutine, run: &mut Run, number: u32) -> Result<Next, Stop>
     ensures due { GoesOn (end_action routine.now number) run.old result run.new }
     ensures marks { SameMarks run.old run.new }
@@ -28,8 +27,7 @@ pub fn end_action(routine: &RawRoutine, run: &mut Run, number: u32) -> Result<Ne
         return Err(Stop::Stuck);
     };
     let line = line_after(routine, handler, resume)?;
-    run.running.frames.pop();
-    clear(run);
+    leave_action(run);
     Ok(Next::Jump(line))
 }
 

@@ -115,8 +115,8 @@ fn within(
         Instruction::Turn => turn(run),
         Instruction::NoReturn => no_return(alloc),
         Instruction::NoCase => no_case(alloc),
-        Instruction::StatementItem(item) => item_of_statement(alloc, run, *item),
-        Instruction::ConditionItem(item) => item_of_condition(alloc, run, *item),
+        Instruction::StatementItem(area, item) => item_of_statement(alloc, run, *area, *item),
+        Instruction::ConditionItem(area, item) => item_of_condition(alloc, run, *area, *item),
         _ => raise_anew(alloc, routine, instruction, run),
     }
 }

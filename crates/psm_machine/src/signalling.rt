@@ -1,11 +1,11 @@
 //! SIGNAL and RESIGNAL (ISO/IEC 9075-4:1996).
-ghost use Rattle.std.specs.Prelude.{◌≡◌, IfOk, reverse, slice_get};
+ghost use Rattle.std.specs.Prelude.{◌≡◌, IfOk, slice_get};
 ghost use Rattle.std.specs.Option.{option_copied};
 ghost use Rattle.std.specs.Str.{chars};
 ghost use Rattle.psm_cond.specs.Entry.{name_text};
 ghost use Rattle.psm_code.specs.Signalling.{declared, entry_for, handling, message_text, resignal, resignal_condition, resignal_message, resignal_with, signal, signal_message, with_message};
 ghost use Rattle.psm_unwind.specs.Marks.{SameFrames};
-ghost use Rattle.psm_machine.specs.ActResults.{Does, Finds, activating_by, activating_of};
+ghost use Rattle.psm_machine.specs.ActResults.{Does, Finds};
 
 use crate::operands::pop;
 use crate::stop::{Stop, stop_at, stop_with};
@@ -13,7 +13,7 @@ use psm_code::RawRoutine;
 use psm_cond::{Condition, Declared, Entry};
 use psm_sqlstate::SqlState;
 use psm_text::{Name, Text};
-use psm_unwind::{Frame, Run};
+use psm_unwind::{Run, activating};
 use psm_value::Datum;
 use std::alloc::{AllocError, Global};
 
@@ -89,27 +89,7 @@ fn handling(alloc: Global, run: &Run) -> Result<Condition, Stop>
 {
     match activating(run.running.frames.as_slice()) {
         None => Err(stop_at(alloc, SqlState::HANDLER_NOT_ACTIVE)),
-        Some(condition) => Ok(condition.copy(alloc)?),
-    }
-}
-
-fn activating(frames: &[Frame]) -> Option<&Condition>
-    ensures { option_copied result ≡ activating_of (reverse frames.now) }
-{
-    let mut innermost = None;
-    for frame in frames {
-        innermost = activating_by(frame, innermost);
-    }
-    innermost
-}
-
-// The condition that activated an action, or else another one.
-fn activating_by<'a>(frame: &'a Frame, other: Option<&'a Condition>) -> Option<&'a Condition>
-    ensures { option_copied result ≡ activating_by frame.now (option_copied other.entry) }
-{
-    match frame {
-        Frame::Action { condition, .. } => Some(condition.get()),
-        Frame::Block { .. } => other,
+        Some((condition, _)) => Ok(condition.copy(alloc)?),
     }
 }
 

@@ -12,6 +12,7 @@ use Rattle.psm_cond.specs.declared.item.StatementItem.TheVariants as of_statemen
 use Rattle.psm_code.specs.declared.instruction.Instruction.{Instruction}
 use Rattle.psm_code.specs.declared.instruction.Instruction.TheVariants as instruction
 use Rattle.psm_code.specs.declared.lines.CodeLine.{CodeLine}
+use Rattle.psm_code.specs.Instructions.{condition_mnemonic, statement_mnemonic}
 use Rattle.psm_words.specs.Words.{number, stack_word}
 use Rattle.psm_object.specs.Expressions.{operation_details, operation_mnemonic}
 use Rattle.psm_object.specs.Words.{spaced}
@@ -59,8 +60,8 @@ mnemonic instruction.Resignal = codes "RESIG"
 mnemonic (instruction.ResignalCondition n) = codes "RESIGC"
 mnemonic (instruction.ResignalMessage n) = codes "RESIGM"
 mnemonic instruction.NoCase = codes "NOCASE"
-mnemonic (instruction.StatementItem i) = codes "GETS"
-mnemonic (instruction.ConditionItem i) = codes "GETC"
+mnemonic (instruction.StatementItem area i) = statement_mnemonic area
+mnemonic (instruction.ConditionItem area i) = condition_mnemonic area
 
 -- what stands after the mnemonic
 abbrev pub details : Instruction → List (List ℕ)
@@ -84,8 +85,8 @@ details (instruction.Signal n) = number n ∷ []
 details (instruction.SignalMessage n) = number n ∷ []
 details (instruction.ResignalCondition n) = number n ∷ []
 details (instruction.ResignalMessage n) = number n ∷ []
-details (instruction.StatementItem i) = statement_item_word i ∷ []
-details (instruction.ConditionItem i) = condition_item_word i ∷ []
+details (instruction.StatementItem area i) = statement_item_word i ∷ []
+details (instruction.ConditionItem area i) = condition_item_word i ∷ []
 details i = []
 
 -- the line at which the run goes on, or `-`

@@ -7,7 +7,7 @@ ghost use Rattle.psm_object.specs.Words.{ended, further, text};
 use crate::expressions::put_operation_details;
 use crate::words::{end_line, put_index, put_word};
 use psm_code::{Instruction, Lines};
-use psm_cond::{ConditionItem, StatementItem};
+use psm_cond::{ConditionItem, DiagnosticsArea, StatementItem};
 use psm_exprcode::Letter;
 use psm_words::{put_number, put_stack};
 use std::alloc::AllocError;
@@ -111,8 +111,10 @@ fn mnemonic(instruction: &Instruction) -> &'static str
         Instruction::ResignalCondition(_) => "RESIGC",
         Instruction::ResignalMessage(_) => "RESIGM",
         Instruction::NoCase => "NOCASE",
-        Instruction::StatementItem(_) => "GETS",
-        Instruction::ConditionItem(_) => "GETC",
+        Instruction::StatementItem(DiagnosticsArea::Current, _) => "GETS",
+        Instruction::StatementItem(DiagnosticsArea::Stacked, _) => "SGETS",
+        Instruction::ConditionItem(DiagnosticsArea::Current, _) => "GETC",
+        Instruction::ConditionItem(DiagnosticsArea::Stacked, _) => "SGETC",
     }
 }
 
@@ -143,8 +145,8 @@ fn put_details(out: &mut Vec<u8>, instruction: &Instruction) -> Result<(), Alloc
             put_index(out, *cursor)?;
             put_index(out, *end)
         }
-        Instruction::StatementItem(item) => put_word(out, statement_item_name(*item)),
-        Instruction::ConditionItem(item) => put_word(out, condition_item_name(*item)),
+        Instruction::StatementItem(_, item) => put_word(out, statement_item_name(*item)),
+        Instruction::ConditionItem(_, item) => put_word(out, condition_item_name(*item)),
         _ => Ok(()),
     }
 }

@@ -40,7 +40,7 @@ use Rattle.psm_code.specs.Run.{applied_as, settled}
 use Rattle.psm_code.specs.Signalling as signals
 use Rattle.psm_code.specs.State.{Stepped}
 use Rattle.psm_code.specs.Steps as steps
-use Rattle.psm_simulation.specs.Agreement.{Acting, Entered, Evaluates, IsReady, Leads, Spot, Standing, areas, frame_of, machine}
+use Rattle.psm_simulation.specs.Agreement.{Acting, Entered, Evaluates, IsReady, Leads, RaisedAt, Spot, Standing, areas, frame_of, machine}
 use Rattle.psm_simulation.specs.Env.{Env, Raising, eval_context_of}
 use Rattle.psm_simulation.specs.Scheme.{ConditionItems, Simple, StatementItems, number_instruction}
 use Rattle.psm_simulation.specs.Simulation.{Evals}
@@ -241,12 +241,12 @@ evals-number {code = code} {r = r} {k = k} {following = following} {spot = spot}
 -- ---- no action runs
 
 -- the line that reads the area raises that there is none
-abbrev NoneRead : RawCode → RawRoutine → ℕ → ℕ → Spot → DiagnosticsArea → (State → Stepped) → (State → Stepped) → Type 0
-NoneRead code r k following spot area from to = (st : State) → IsReady code spot st → area_of area spot.standing st ≡ None → Evaluates code r k following spot (from st) {A = Unit {0}} (λ u. to) (Raises (acts.of_state (codes "0Z002"))) st
+abbrev NoneRead : RawCode → RawRoutine → ℕ → ℕ → Spot → DiagnosticsArea → (State → Stepped) → Type 0
+NoneRead code r k following spot area from = (st : State) → IsReady code spot st → area_of area spot.standing st ≡ None → RaisedAt code r k following spot (from st) (acts.of_state (codes "0Z002")) st × IsReady code spot st
 
-no_area-statement : {code : RawCode} {r : RawRoutine} {k following : ℕ} {spot : Spot} → routine_at code spot.number ≡ Some r → (area : DiagnosticsArea) (i : ℕ × StatementItem) (items : List (ℕ × StatementItem)) {pc end : ℕ} → StatementItems r k following area (i ∷ items) pc end
-    → NoneRead code r k following spot area (at_line spot pc []) (at_line spot end [])
-no_area-statement {code = code} {spot = spot} p area i items {pc = pc} (l, s, more) st ready e = (
+no_area-statement : {code : RawCode} {r : RawRoutine} {k following : ℕ} {spot : Spot} → routine_at code spot.number ≡ Some r → (area : DiagnosticsArea) (i : ℕ × StatementItem) (items : List (ℕ × StatementItem)) {pc : ℕ} (end : ℕ) → StatementItems r k following area (i ∷ items) pc end
+    → NoneRead code r k following spot area (at_line spot pc [])
+no_area-statement {code = code} {spot = spot} p area i items {pc = pc} end (l, s, more) st ready e = (
   record {
     pc = pc;
     operands = [];
@@ -260,9 +260,9 @@ no_area-statement {code = code} {spot = spot} p area i items {pc = pc} (l, s, mo
   ready,
 )
 
-no_area-condition : {code : RawCode} {r : RawRoutine} {k following : ℕ} {spot : Spot} → routine_at code spot.number ≡ Some r → (area : DiagnosticsArea) (d : Datum) (i : ℕ × ConditionItem) (items : List (ℕ × ConditionItem)) {pc end : ℕ} → ConditionItems r k following area i items pc end
-    → NoneRead code r k following spot area (at_line spot pc (Value d ∷ [])) (at_line spot end [])
-no_area-condition {code = code} {spot = spot} p area d i [] {pc = pc} (l, s, last) st ready e = (
+no_area-condition : {code : RawCode} {r : RawRoutine} {k following : ℕ} {spot : Spot} → routine_at code spot.number ≡ Some r → (area : DiagnosticsArea) (d : Datum) (i : ℕ × ConditionItem) (items : List (ℕ × ConditionItem)) {pc : ℕ} (end : ℕ) → ConditionItems r k following area i items pc end
+    → NoneRead code r k following spot area (at_line spot pc (Value d ∷ []))
+no_area-condition {code = code} {spot = spot} p area d i [] {pc = pc} end (l, s, last) st ready e = (
   record {
     pc = pc;
     operands = Value d ∷ [];
@@ -275,7 +275,7 @@ no_area-condition {code = code} {spot = spot} p area d i [] {pc = pc} (l, s, las
   },
   ready,
 )
-no_area-condition {code = code} {r = r} {spot = spot} p area d i (j ∷ items) {pc = pc} (u, l, s, more) st ready e = (
+no_area-condition {code = code} {r = r} {spot = spot} p area d i (j ∷ items) {pc = pc} end (u, l, s, more) st ready e = (
   record {
     pc = suc pc;
     operands = Value d ∷ Value d ∷ [];
@@ -292,14 +292,14 @@ no_area-condition {code = code} {r = r} {spot = spot} p area d i (j ∷ items) {
 
 -- ---- the statement
 
-area-evaluates : (code : RawCode) (r : RawRoutine) (k following : ℕ) (spot : Spot) (m : Meaning) (area : DiagnosticsArea) (go : Diagnostics → Act (Unit {0})) (from to : State → Stepped) → ((a : Diagnostics) → Keeping code r k following spot m area a (go a) from to) → NoneRead code r k following spot area from to
+area-evaluates : (code : RawCode) (r : RawRoutine) (k following : ℕ) (spot : Spot) (m : Meaning) (area : DiagnosticsArea) (go : Diagnostics → Act (Unit {0})) (from to : State → Stepped) → ((a : Diagnostics) → Keeping code r k following spot m area a (go a) from to) → NoneRead code r k following spot area from
     → (st : State) → IsReady code spot st → (x : Option Diagnostics) → area_of area spot.standing st ≡ x
     → Evaluates code r k following spot (from st) (λ u. to) (acts.◌>>=◌ (meant_area x) go m st).given (acts.◌>>=◌ (meant_area x) go m st).state
 area-evaluates code r k following spot m area go from to h none st ready None e = none st ready e
 area-evaluates code r k following spot m area go from to h none st ready (Some a) e = (h a).by st ready e
 
 evals-area : {code : RawCode} {r : RawRoutine} {k following : ℕ} {spot : Spot} {m : Meaning} (routine : ResolvedRoutine) (env : Env) (area : DiagnosticsArea) (go : Diagnostics → Act (Unit {0})) {from to : State → Stepped}
-    → ((a : Diagnostics) → Keeping code r k following spot m area a (go a) from to) → NoneRead code r k following spot area from to
+    → ((a : Diagnostics) → Keeping code r k following spot m area a (go a) from to) → NoneRead code r k following spot area from
     → Evals code r k following spot m (acts.◌>>=◌ (signalling.area_read (eval_context_of routine env (areas spot.standing)) area) go) from (λ u. to)
 evals-area {code = code} {r = r} {k = k} {following = following} {spot = spot} {m = m} routine env area go {from = from} {to = to} h none = record {
   by = λ st ready. subst (λ came. Evaluates code r k following spot (from st) (λ u. to) (acts.go_on came.given go m came.state).given (acts.go_on came.given go m came.state).state) (sym (same-meant area routine env spot.standing m st))
@@ -309,13 +309,13 @@ evals-area {code = code} {r = r} {k = k} {following = following} {spot = spot} {
 pub does-diagnostics : {file : ResolvedFile} {code : RawCode} {routine : ResolvedRoutine} {r : RawRoutine} {m : Meaning} {env : Env} {spot : Spot} → Site file code routine r m env spot → (d : ResolvedDiagnostics) {pc end : ℕ} → Simple file code routine r env end (simples.GetDiagnostics d) pc
     → Does file code routine r m env spot end (simple file (eval_context_of routine env (areas spot.standing)) (simples.GetDiagnostics d)) (at_line spot pc [])
 does-diagnostics site (diagnostics.Statement area []) x = absurd x
-does-diagnostics {routine = routine} {env = env} {spot = spot} site (diagnostics.Statement area (i ∷ items)) x =
+does-diagnostics {routine = routine} {env = env} {spot = spot} site (diagnostics.Statement area (i ∷ items)) {end = end} x =
     let eval_context = eval_context_of routine env (areas spot.standing) in
     does-stated site
-    (evals-area routine env area (λ a. signalling.assign_items eval_context (of_area a) (i ∷ items)) (λ a. keeps-items eval_context site.there site.stands.slots area a (i ∷ items) x) (no_area-statement site.there area i items x))
+    (evals-area routine env area (λ a. signalling.assign_items eval_context (of_area a) (i ∷ items)) (λ a. keeps-items eval_context site.there site.stands.slots area a (i ∷ items) x) (no_area-statement site.there area i items end x))
 does-diagnostics site (diagnostics.Condition area number []) x = absurd x
-does-diagnostics {routine = routine} {env = env} {spot = spot} site (diagnostics.Condition area number (i ∷ items)) (l, x) =
+does-diagnostics {routine = routine} {env = env} {spot = spot} site (diagnostics.Condition area number (i ∷ items)) {end = end} (l, x) =
     let eval_context = eval_context_of routine env (areas spot.standing) in
     let go : Datum → Diagnostics → Act (Unit {0}) = λ d a. acts.◌>>=◌ (signalling.numbered (found a d)) (λ e. signalling.assign_items eval_context (entry_item e.0 e.1) (i ∷ items)) in
     does-stated site (evals-bind (evals-number site.there number l) (λ d.
-    evals-area routine env area (go d) (λ a. keeps-numbered eval_context site.there site.stands.slots area a d (found a d) refl i items x) (no_area-condition site.there area d i items x)))
+    evals-area routine env area (go d) (λ a. keeps-numbered eval_context site.there site.stands.slots area a d (found a d) refl i items x) (no_area-condition site.there area d i items end x)))

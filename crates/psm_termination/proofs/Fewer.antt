@@ -3,7 +3,7 @@ use Rattle.std.proofs.Common.{◌≡◌, ℕ, zero, suc, ◌+◌, ◌*◌, ◌<�
 use Rattle.psm_code.specs.declared.code.RawCode.{RawCode}
 use Rattle.psm_code.specs.declared.code.RawRoutine.{RawRoutine}
 use Rattle.psm_code.specs.Parts.{line_at, routine_at}
-use Rattle.psm_termination.specs.Measure.{Falls, Shape, all_lines, by_depth, by_lines, by_turns, depth, lines, lines_from, lines_in, steps_at_most}
+use Rattle.psm_termination.specs.Measure.{Falls, Shape, all_lines, by_depth, by_lines, by_turns, depth, lines, lines_in, steps_at_most}
 use Rattle.psm_termination.proofs.Falling.{from_most}
 
 -- a digit before others

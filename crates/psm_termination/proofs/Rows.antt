@@ -44,7 +44,7 @@ use Rattle.psm_code.specs.Steps.{Act, Given, Got, Raises, Ends, change, ends, go
 use Rattle.psm_code.proofs.Faults.{Clean, WellFormedRoutineCode, clean_head, clean_tail, line_well_formed, routine_well_formed}
 use Rattle.psm_code.proofs.Ending.{over_stays}
 use Rattle.psm_code.proofs.NeverStuck.{step_well_formed, starts}
-use Rattle.psm_termination.specs.Measure.{Falls, Shape, actions, by_depth, by_lines, by_turns, depth, lines, steps_at_most, running, shape}
+use Rattle.psm_termination.specs.Measure.{Shape, actions, by_depth, by_turns, depth, steps_at_most, running, shape}
 use Rattle.psm_termination.proofs.Fewer.{fewer_steps}
 use Rattle.psm_termination.proofs.Falling.{DoneFalls, FallsTo, fall_through_falls, ends_falls, falls_through, goes_to, got_falls, like, raised_here, raises_falls, then_falls, turns_of}
 use Rattle.psm_termination.proofs.Jumps.{GoesWithin, goes_within}

@@ -2,6 +2,7 @@
 //! ATOMIC block changed is taken back, and the action of a handler begins.
 #![tactic(auto)]
 
+mod actions;
 mod ending;
 mod leaving;
 mod parts;
@@ -9,6 +10,7 @@ mod raising;
 mod run;
 mod turns;
 
+pub use actions::{activating, leave_action, stacked_condition_item, stacked_statement_item};
 pub use ending::{Ending, Outcome};
 pub use leaving::{leave_frame, leave_until};
 pub use parts::{block_at, handler_at, routine_at};

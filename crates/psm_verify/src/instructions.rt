@@ -81,10 +81,10 @@ impl<'a> VerifyContext<'a> {
             Instruction::SignalMessage(_) | Instruction::ResignalMessage(_) => {
                 Some(plain(one(Letter::T), none()))
             }
-            Instruction::StatementItem(item) => {
+            Instruction::StatementItem(_, item) => {
                 Some(plain(none(), one(statement_letter(*item))))
             }
-            Instruction::ConditionItem(item) => {
+            Instruction::ConditionItem(_, item) => {
                 Some(plain(one(Letter::N), one(condition_letter(*item))))
             }
             Instruction::Clear

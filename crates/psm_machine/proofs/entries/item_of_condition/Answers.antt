@@ -1,17 +1,7 @@
-use Rattle.psm_unwind.specs.View.{machine_of}
-use Rattle.psm_machine.proofs.ActSequences.{stopped}
-use Rattle.psm_machine.proofs.Numbering.{item_then}
 use Rattle.psm_machine.proofs.entries.item_of_condition.Goals as goal
 
-pub returns-in_err-number-clause-due : goal.returns-in_err-number-clause-due
-returns-in_err-number-clause-due c = λ tables at. stopped _ _ _ c.in_err-number.field-0.0 c.from_residual.result c.from_residual.ensures.1 (c.in_err-number.ensures.due tables at)
+pub returns-in-Current-clause-due : goal.returns-in-Current-clause-due
+returns-in-Current-clause-due c = λ tables at. rw c.in-Current.is (c.current_item.ensures.due tables at)
 
-pub returns-in_err-value-clause-due : goal.returns-in_err-value-clause-due
-returns-in_err-value-clause-due c = λ tables at.
-    rw (item_then c.args.item (machine_of tables at c.args.run.now) (machine_of tables at c.pop.new.run) c.in_ok-number.number (c.in_ok-number.ensures.due tables at))
-    (stopped _ _ _ c.in_err-value.field-0.0 c.from_residual-in_err-value.result c.from_residual-in_err-value.ensures.1 (c.in_err-value.ensures (machine_of tables at c.pop.new.run)))
-
-pub returns-clause-due : goal.returns-clause-due
-returns-clause-due c = λ tables at.
-    rw (item_then c.args.item (machine_of tables at c.args.run.now) (machine_of tables at c.pop.new.run) c.in_ok-number.number (c.in_ok-number.ensures.due tables at))
-    (rw (c.in_ok-value.ensures (machine_of tables at c.pop.new.run)) (c.put.ensures.due tables at))
+pub returns-in-Stacked-clause-due : goal.returns-in-Stacked-clause-due
+returns-in-Stacked-clause-due c = λ tables at. rw c.in-Stacked.is (c.stacked_item.ensures.due tables at)
