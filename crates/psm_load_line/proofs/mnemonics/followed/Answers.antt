@@ -15,12 +15,12 @@ pub returns-in_err-last_index-in_default : goal.returns-in_err-last_index-in_def
 unfolding detailed_instructions
 returns-in_err-last_index-in_default c =
     let d = c.in_default in
-    let e = followed_numbered c.args.word.now c.args.rest.now (d.not-SCALE & d.not-TRIM & d.not-CAST & d.not-NEXT & d.not-GETS & d.not-GETC & tt) in
+    let e = followed_numbered c.args.word.now c.args.rest.now (d.not-SCALE & d.not-TRIM & d.not-CAST & d.not-NEXT & d.not-GETS & d.not-GETC & d.not-SGETS & d.not-SGETC & tt) in
     c.from_residual-in_err-last_index-in_default.ensures ∙ ap (made_of c.args.word.now) (sym c.in_err-last_index-in_default.was ∙ c.last_index.ensures) ∙ sym e
 
 pub returns-in_ok-last_index-in_default : goal.returns-in_ok-last_index-in_default
 unfolding detailed_instructions
 returns-in_ok-last_index-in_default c =
     let d = c.in_default in
-    let e = followed_numbered c.args.word.now c.args.rest.now (d.not-SCALE & d.not-TRIM & d.not-CAST & d.not-NEXT & d.not-GETS & d.not-GETC & tt) in
+    let e = followed_numbered c.args.word.now c.args.rest.now (d.not-SCALE & d.not-TRIM & d.not-CAST & d.not-NEXT & d.not-GETS & d.not-GETC & d.not-SGETS & d.not-SGETC & tt) in
     c.numbered.ensures ∙ ap (made_of c.args.word.now) (sym c.in_ok-last_index-in_default.was ∙ c.last_index.ensures) ∙ sym e
