@@ -1,5 +1,5 @@
 -- The condition that activated the innermost running action, as the definition finds it.
-use Rattle.std.proofs.Common.{◌≡◌, ℕ, List, [], ◌∷◌, Option, Some, None, Err, codes, refl, ap, sym, subst, ◌∙◌}
+use Rattle.std.proofs.Common.{◌≡◌, ℕ, List, [], ◌∷◌, Option, Some, None, Err, codes, option_map, refl, ap, sym, subst, ◌∙◌}
 use Rattle.psm_cond.specs.Area.{Diagnostics}
 use Rattle.psm_cond.specs.Condition.{Entries}
 use Rattle.psm_table.specs.Table.{Contents}
@@ -24,8 +24,14 @@ activating_is at [] m = refl
 activating_is at (Block k found ∷ frames) m = activating_is at frames m
 activating_is at (Action h resume c rows ∷ frames) m = refl
 
-pub activating_found : (at : Mark → List Contents) (frames : List Frame) (m : Machine) (a : Diagnostics) → activating_of frames ≡ Some a → activating (frames_of at frames) m ≡ record { given = Got a.entries; machine = m }
-activating_found at frames m a e = activating_is at frames m ∙ ap (λ o. given_of o m) e
+pub activating_given : (at : Mark → List Contents) (frames : List Frame) (m : Machine) (c : Entries) → option_map (λ (a : Diagnostics). a.entries) (activating_of frames) ≡ Some c → activating (frames_of at frames) m ≡ record { given = Got c; machine = m }
+activating_given at frames m c e = activating_is at frames m ∙ by (activating_of frames) e where
+  by : (o : Option Diagnostics) → option_map (λ (a : Diagnostics). a.entries) o ≡ Some c → given_of o m ≡ record { given = Got c; machine = m }
+  by None f = cc
+  by (Some a) f = ap (λ (o : Option Entries). or_given o) f where
+    or_given : Option Entries → Came Entries
+    or_given None = got c m
+    or_given (Some x) = got x m
 
 -- a condition stops the instruction
 pub raises_with : (A : Type 0) (due : Entries) (m : Machine) (s : Stop) → StopsWith due s → Evaluates {A = A} (raises due m) (Err s) m

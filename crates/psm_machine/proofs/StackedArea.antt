@@ -1,11 +1,13 @@
 -- GET DIAGNOSTICS, by the area that is read.
-use Rattle.std.proofs.Common.{◌≡◌, true, false, List, [], ◌∷◌, Option, Some, None, Err, codes, option_map, refl, ap, sym, subst, ◌∙◌, reverse}
+use Rattle.std.proofs.Common.{◌≡◌, true, false, List, [], ◌∷◌, Option, Some, None, Ok, Err, codes, option_map, refl, ap, sym, subst, ◌∙◌, reverse}
 use Rattle.psm_value.specs.declared.datum.Datum.{Datum}
 use Rattle.psm_cond.specs.declared.item.ConditionItem.{ConditionItem}
 use Rattle.psm_cond.specs.declared.item.DiagnosticsArea.{DiagnosticsArea}
 use Rattle.psm_cond.specs.declared.item.DiagnosticsArea.TheVariants.{Stacked}
 use Rattle.psm_cond.specs.declared.item.StatementItem.{StatementItem}
+use Rattle.psm_cond.specs.declared.fault.AreaFault.TheVariants as fault
 use Rattle.psm_cond.specs.Area.{Diagnostics}
+use Rattle.psm_cond.specs.Item.{GivesItem, entries_of}
 use Rattle.psm_table.specs.Table.{Contents}
 use Rattle.psm_store.specs.declared.store.Mark.{Mark}
 use Rattle.psm_code.specs.Rules.{there}
@@ -15,13 +17,13 @@ use Rattle.psm_code.specs.Steps.{Act, Came, Given, Got, Raises, Ends, go_on, got
 use Rattle.psm_unwind.specs.declared.run.Frame.{Frame}
 use Rattle.psm_unwind.specs.declared.run.Frame.TheVariants.{Block, Action}
 use Rattle.psm_unwind.specs.declared.run.Run.{Run}
-use Rattle.psm_unwind.specs.Actions.{activating_of, item_of, stacked_in}
+use Rattle.psm_unwind.specs.Actions.{GivesItemOf, activating_of, item_of, stacked_in}
 use Rattle.psm_unwind.specs.View.{frames_of, machine_of}
 use Rattle.psm_machine.specs.declared.stop.Stop.{Stop}
 use Rattle.psm_machine.specs.ActResults.{Evaluates, StopsAt}
-use Rattle.psm_machine.specs.Successors.{statement_item_of}
+use Rattle.psm_machine.specs.Successors.{item_at, statement_item_of}
 use Rattle.psm_machine.proofs.Acting.{raises_comes}
-use Rattle.psm_machine.proofs.Numbering.{item_in}
+use Rattle.psm_machine.proofs.Numbering.{item_found, item_in, item_missing}
 
 -- ---- the stacked area, as the definition finds it
 
@@ -80,3 +82,26 @@ some_there (Some a) e = (a, refl)
 pub none_there : {A : Type 0} (o : Option A) → there o ≡ false → o ≡ None
 none_there None e = refl
 none_there (Some a) e = cc
+
+pub no_item : (i : StatementItem) (o : Option Diagnostics) → option_map (item_of i) o ≡ None → o ≡ None
+no_item i None e = refl
+no_item i (Some a) e = cc
+
+-- ---- the entry of that area with a number
+
+abbrev or_area : Diagnostics → Option Diagnostics → Diagnostics
+or_area d None = d
+or_area d (Some a) = a
+
+found_in : (a : Diagnostics) (d value : Datum) (i : ConditionItem) (m : Machine) → GivesItem (entries_of a.entries) d i (Ok value) → item_at a.entries d i m ≡ record { given = Got value; machine = m }
+found_in a d value i m h = item_found a.entries d value i m h.0 h.1 h.2 h.3 h.4
+
+pub stacked_found : (o : Option Diagnostics) (area : Diagnostics) (d value : Datum) (i : ConditionItem) (m : Machine) → o ≡ Some area → GivesItemOf o d i (Some (Ok value)) → item_at area.entries d i m ≡ record { given = Got value; machine = m }
+stacked_found o area d value i m e (a, f, h) =
+    let same : a ≡ area = ap (or_area area) (sym f ∙ e) in
+    subst (λ (x : Diagnostics). item_at x.entries d i m ≡ record { given = Got value; machine = m }) same (found_in a d value i m h)
+
+pub stacked_missing : (o : Option Diagnostics) (area : Diagnostics) (d : Datum) (i : ConditionItem) (m : Machine) (s : Stop) → o ≡ Some area → GivesItemOf o d i (Some (Err fault.Number)) → StopsAt (codes "35000") s → Evaluates (item_at area.entries d i m) (Err s) m
+stacked_missing o area d i m s e (a, f, h) k =
+    let same : a ≡ area = ap (or_area area) (sym f ∙ e) in
+    subst (λ (x : Diagnostics). Evaluates (item_at x.entries d i m) (Err s) m) same (item_missing a.entries d i m s h k)
