@@ -89,9 +89,9 @@ call_by e known letters s h is inside checker_scope resolver_scope a r n xs (Som
 
 diagnostics_well_formed : (e : TypingContext) (known : Known) (letters : List (List Letter)) (s : places.StatementScope) (checker_scope : CheckerScope) (resolver_scope : ResolverScope) → Agree e checker_scope resolver_scope → (which : DiagnosticsArea) (d : Diagnostics) → diagnostics_fault checker_scope.scopes d ≡ None → WellFormedSimple e known letters s (resolved.GetDiagnostics (diagnostics_of resolver_scope.scopes which d))
 diagnostics_well_formed e known letters s checker_scope resolver_scope a which (diagnostics.Statement items) none = (
-    refl,
-    gotten e checker_scope resolver_scope a (λ i. i.target) (λ i. i.place) (λ i. statement_item_family i.item) (λ i. making.statement_item i.item) statement_letter (λ i. statement_letters i.item) (several items) none,
-  )
+  refl,
+  gotten e checker_scope resolver_scope a (λ i. i.target) (λ i. i.place) (λ i. statement_item_family i.item) (λ i. making.statement_item i.item) statement_letter (λ i. statement_letters i.item) (several items) none,
+)
 diagnostics_well_formed e known letters s checker_scope resolver_scope a which (diagnostics.Condition number items) none =
     let parts = neither (number_fault checker_scope.scopes number) (first_of (map (λ i. item_fault checker_scope.scopes i.target i.place (condition_item_family i.item)) (several items))) none in (
       refl,
