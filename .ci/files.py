@@ -9,7 +9,6 @@ import re
 import subprocess
 import sys
 import tempfile
-import threading
 import time
 
 from cases import rows
@@ -137,15 +136,13 @@ def program():
 
 
 def call(path, folder, *arguments):
-    """Returns the status and the output of the program, and the most memory that it had, in MB."""
-    with subprocess.Popen([path, *arguments], cwd=folder, stdin=subprocess.DEVNULL, stdout=subprocess.PIPE) as it:
-        timer = threading.Timer(SECONDS, it.kill)
-        timer.start()
-        printed = it.stdout.read()
-        _, ended, usage = os.wait4(it.pid, 0)
-        timer.cancel()
-        it.returncode = os.WEXITSTATUS(ended) if os.WIFEXITED(ended) else -os.WTERMSIG(ended)
-    return it.returncode, printed.decode(errors="replace"), usage.ru_maxrss // 1024
+    """Returns the status and the output of the program, and the most memory that it had, in MB (bench/once.py)."""
+    output = f"{folder}/output"
+    words = [sys.executable, "-I", "-S", f"{ROOT}/bench/once.py", output, str(SECONDS), "0", path, *arguments]
+    told = subprocess.run(words, cwd=folder, stdin=subprocess.DEVNULL, stdout=subprocess.PIPE, check=True).stdout.split()
+    with open(output, "rb") as it:
+        printed = it.read().decode(errors="replace")
+    return int(told[0]), printed, int(told[3]) // 1024
 
 
 def put(folder, **files):
