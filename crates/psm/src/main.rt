@@ -4,9 +4,11 @@
 mod top;
 mod words;
 
+use psm_files::Status;
 use psm_io::{FileShelf, StdSink};
-use std::alloc::Global;
+use std::alloc::{AllocError, Global};
 use std::env;
+use std::io::ErrorKind;
 use std::process::ExitCode;
 use std::rt::Env;
 use top::psm;
@@ -16,21 +18,33 @@ mod tests;
 
 fn main(rt: HostRuntime) -> ExitCode {
     let alloc = rt.alloc();
-    let words = words_after_name(&rt, alloc);
-    let mut shelf = FileShelf::new(&rt, alloc);
-    let mut out = StdSink::new(&rt);
-    ExitCode::from(psm(alloc, &words, &mut shelf, &mut out).number())
+    let status = match words_after_name(&rt, alloc) {
+        Err(AllocError) => Status::Memory,
+        Ok(words) => {
+            let mut shelf = FileShelf::new(&rt, alloc);
+            let mut out = StdSink::new(&rt);
+            psm(alloc, &words, &mut shelf, &mut out)
+        }
+    };
+    ExitCode::from(status.number())
 }
 
-// The words after the program's name, or none where they can't be read.
-fn words_after_name(rt: &(impl Env + AllocGlobal), alloc: Global) -> Vec<String> {
+// The words after the program's name, or none where one of them is not UTF-8.
+fn words_after_name(
+    rt: &(impl Env + AllocGlobal),
+    alloc: Global,
+) -> Result<Vec<String>, AllocError> {
     let mut words = Vec::new(alloc);
-    if let Ok(args) = env::args(rt) {
-        for word in args.skip(1) {
-            if words.push(word).is_err() {
-                return Vec::new(alloc);
+    match env::args(rt) {
+        Ok(args) => {
+            for word in args.skip(1) {
+                words.push(word)?;
             }
+            Ok(words)
         }
+        Err(fault) => match fault.kind() {
+            ErrorKind::OutOfMemory => Err(AllocError),
+            _ => Ok(words),
+        },
     }
-    words
 }
