@@ -1,6 +1,6 @@
 -- Tests that raise nothing, and what has to be true where one is true.
 use Rattle.std.proofs.Common.{◌≡◌, ℕ, zero, suc, ◌+◌, ◌-◌, arith, drop, Bool, true, false, ◌&&◌, List, [], ◌∷◌, refl, ap, sym, subst, ◌∙◌, Option, Some, None, Ok, Err, eq-eqb, eqb-true}
-use Rattle.std.specs.Prelude.{slice_get, if◌then◌else◌}
+use Rattle.std.specs.Prelude.{nat_eq, slice_get, if◌then◌else◌}
 use Rattle.psm_num.proofs.Literals.{and_first, and_second}
 use Rattle.psm_value.specs.declared.datum.Datum.{Datum}
 use Rattle.psm_value.specs.declared.truth.Truth as truth_of
@@ -55,14 +55,22 @@ below_true : (x : Operand) (below : List Operand) → all_true (x ∷ below) ≡
 below_true (Value d) below h = h
 below_true (Truth t) below h = and_second (is_certain t) (all_true below) h
 
+not_zero_by : (k : ℕ) (b : Bool) → nat_eq (suc k) 0 ≡ b → b ≡ false
+not_zero_by k true h = absurd (omega (arith, eqb-true (suc k) 0 h))
+not_zero_by k false h = refl
+
+not_zero : (k : ℕ) → nat_eq (suc k) 0 ≡ false
+not_zero k = not_zero_by k (nat_eq (suc k) 0) refl
+
 module _ (o : Op) (os : List Operand) (no : is_and o ≡ false) where
   pub goes_by : (x : Operand) (below : List Operand) → drop (takes o) os ≡ below → (k : ℕ) → all_true (drop k (x ∷ below)) ≡ true → all_true (drop (free_before o k) os) ≡ true
   goes_by x below e zero h =
       let n : free_before o 0 ≡ takes o = ap (λ (b : Bool). if b then 0 else takes o) no in
       ap (λ j. all_true (drop j os)) n ∙ ap all_true e ∙ below_true x below h
   goes_by x below e (suc k) h =
+      let z : free_before o (suc k) ≡ (suc k - 1) + takes o = ap (λ (b : Bool). if b then (if is_and o then 0 else takes o) else (suc k - 1) + takes o) (not_zero k) in
       let n : (suc k - 1) + takes o ≡ k + takes o = omega arith in
-      ap (λ j. all_true (drop j os)) n ∙ ap all_true (sym (both_dropped (takes o) k os) ∙ ap (λ (l : List Operand). drop k l) e) ∙ h
+      ap (λ j. all_true (drop j os)) (z ∙ n) ∙ ap all_true (sym (both_dropped (takes o) k os) ∙ ap (λ (l : List Operand). drop k l) e) ∙ h
 
   pub puts_goes : (a : Applied) → Puts (takes o) os a → Goes o os a
   puts_goes (Went Ahead []) p = absurd p
@@ -136,8 +144,9 @@ both_certain Unknown Unknown r h = cc
 both_goes : (a b : truth_of.Truth) (os : List Operand) (k : ℕ) → all_true (drop k (Truth (both a b) ∷ os)) ≡ true → all_true (drop (free_before op.And k) (Truth b ∷ Truth a ∷ os)) ≡ true
 both_goes a b os zero h = both_certain a b (all_true os) h
 both_goes a b os (suc k) h =
+    let z : free_before op.And (suc k) ≡ (suc k - 1) + 2 = ap (λ (x : Bool). if x then 0 else (suc k - 1) + 2) (not_zero k) in
     let n : (suc k - 1) + 2 ≡ suc (suc k) = omega arith in
-    ap (λ j. all_true (drop j (Truth b ∷ Truth a ∷ os))) n ∙ h
+    ap (λ j. all_true (drop j (Truth b ∷ Truth a ∷ os))) (z ∙ n) ∙ h
 
 and_goes : (os : List Operand) → Goes op.And os (combines both os)
 and_goes [] = tt

@@ -75,7 +75,7 @@ compared_true row vars a b os under new e h t =
     certain_equal a b (and_first (is_certain (equality a b)) (all_true os) (ap all_true same ∙ t))
 
 -- a column that is put is there
-column_put : (row : List Datum) (c : ℕ) (os new : List Operand) (o : Option Datum) → slice_get row c ≡ o → with_named os o ≡ Went Ahead new
+pub column_put : (row : List Datum) (c : ℕ) (os new : List Operand) (o : Option Datum) → slice_get row c ≡ o → with_named os o ≡ Went Ahead new
     → (x : Datum) × (slice_index_or row c Null ≡ x) × (new ≡ Value x ∷ os)
 column_put row c os new (Some x) e h = (x, get_or_from_slice_get row c x Null e, (let same : new ≡ Value x ∷ os = cc in same))
 column_put row c os new None e h = absurd (cc)
@@ -154,7 +154,7 @@ module _ (row vars : List Datum) where
   sought_by c d n l lines os h m rest (Some x) f s = first_equal c d n (l ∷ lines) os h m (f ∙ s)
   sought_by c d n l lines os h m rest None f s = let next = meets_next row vars n l lines os h m in rest next.0 next.2 s
 
-  sought_equal : (c : ℕ) (d : Datum) (n : ℕ) (lines : List Line) (os : List Operand) → are_quiet lines ≡ true → Meets row vars n lines os → sought c vars lines ≡ Some d → Says_equal c d
+  pub sought_equal : (c : ℕ) (d : Datum) (n : ℕ) (lines : List Line) (os : List Operand) → are_quiet lines ≡ true → Meets row vars n lines os → sought c vars lines ≡ Some d → Says_equal c d
   sought_equal c d n [] os h m s = cc
   sought_equal c d n (l ∷ lines) os h m s =
       sought_by c d n l lines os h m (λ new k r. sought_equal c d (suc n) lines new (rest_of l lines h) k r) (sought_here c vars (l ∷ lines)) refl s
@@ -175,13 +175,13 @@ module _ (row vars : List Datum) where
 
   -- ---- tests
 
-  met_truth : (o : Outcome) → truth_in o ≡ Ok True → o ≡ Some (Ok (Truth True))
+  pub met_truth : (o : Outcome) → truth_in o ≡ Ok True → o ≡ Some (Ok (Truth True))
   met_truth (Some (Ok (Value d))) e = cc
   met_truth (Some (Ok (Truth t))) e = let same : t ≡ True = cc in ap (λ (u : truth_value.Truth). Some (Ok (Truth u))) same
   met_truth (Some (Err s)) e = cc
   met_truth None e = cc
 
-  quiet_truth : (o : Outcome) → ((s : List ℕ) → o ≡ Some (Err s) → ⊥) → (t : truth_value.Truth) × (truth_in o ≡ Ok t)
+  pub quiet_truth : (o : Outcome) → ((s : List ℕ) → o ≡ Some (Err s) → ⊥) → (t : truth_value.Truth) × (truth_in o ≡ Ok t)
   quiet_truth (Some (Ok (Value d))) h = (Unknown, refl)
   quiet_truth (Some (Ok (Truth t))) h = (t, refl)
   quiet_truth (Some (Err s)) h = absurd (h s refl)

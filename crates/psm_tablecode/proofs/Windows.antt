@@ -59,6 +59,15 @@ module _ (lines : List Line) (at : ℕ) where
   pub free_none : None ≡ op_at lines at → free (drop at lines) ≡ 0
   free_none e = let p = past_is (line_none (slice_get lines at) e) in ap free p.0
 
+module _ (lines : List Line) (at : ℕ) where
+  pub free_end : at ≡ length lines → 0 ≡ free (drop at lines)
+  free_end e = sym (ap (λ n. free (drop n lines)) e ∙ ap free (drop-length lines))
+
+  pub free_back : (n now : ℕ) (o : Op) → 1 ≤ at → Some o ≡ op_at lines (at - 1) → n ≡ free (drop at lines) → now ≡ free_before o n → now ≡ free (drop (at - 1) lines)
+  free_back n now o h e f g =
+      let p : at ≡ at - 1 + 1 = omega (arith, h) in
+      g ∙ ap (free_before o) (f ∙ ap (λ m. free (drop m lines)) p) ∙ sym (free_some lines (at - 1) o e)
+
 -- three operations, where there are three
 abbrev pub of_ops : ℕ → List Datum → Option Op → Option Op → Option Op → Option Datum
 of_ops c vars None b e = None

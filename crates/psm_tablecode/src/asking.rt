@@ -84,6 +84,7 @@ fn each_sought(
 
 // The first value to which the lines make a column equal where they end with true. The lines are gone through from the
 // last one on, with the number of operands that needn't be true.
+#[tactic(auto, using(crate::proofs::Windows::free_end, crate::proofs::Windows::sought_end, crate::proofs::Windows::sought_back, crate::proofs::Windows::sought_start))]
 fn sought<'a>(column: u32, lines: &'a RawExpr, vars: &'a [Datum]) -> Option<&'a Datum>
     ensures { option_copied result ≡ asked.sought column vars.now lines.now }
 {
@@ -92,8 +93,8 @@ fn sought<'a>(column: u32, lines: &'a RawExpr, vars: &'a [Datum]) -> Option<&'a 
     let mut at = lines.len();
     while at >= 3 {
         found = sought_before(column, lines, at, free, vars, found);
+        free = free_behind(lines, at, free);
         at -= 1;
-        free = free_at(lines, at, free);
     }
     found
 }
@@ -108,23 +109,26 @@ fn sought_before<'a>(
     found: Option<&'a Datum>,
 ) -> Option<&'a Datum>
     requires { 3 ≤ at }
-    ensures { option_copied result ≡ option_or (if nat_eq free 0 then asked.sought_first column vars.now (drop (at - 3) lines.now) else None) (option_copied found) }
+    ensures { option_copied result ≡ option_or (if nat_eq free 0 then asked.sought_first column vars.now (drop (at - 3) lines.now) else None) (option_copied found.entry) }
 {
-    if free == 0 {
-        sought_at(column, lines, at - 3, vars).or(found)
-    } else {
-        found
+    if free != 0 {
+        return found;
+    }
+    match sought_at(column, lines, at - 3, vars) {
+        Some(value) => Some(value),
+        None => found,
     }
 }
 
-// How many operands needn't be true before the line at a place, with those after it.
-fn free_at(lines: &RawExpr, at: usize, free: u128) -> u128
-    requires after { free ≡ asked.free (drop (at + 1) lines.now) }
+// How many operands needn't be true before the line that ends at a place, with those before the lines after it.
+fn free_behind(lines: &RawExpr, at: usize, free: u128) -> u128
+    requires within { 1 ≤ at }
+    requires after { free ≡ asked.free (drop at lines.now) }
     requires room { free < 2 ^ 127 }
-    ensures value { result ≡ asked.free (drop at lines.now) }
+    ensures value { result ≡ asked.free (drop (at - 1) lines.now) }
     ensures bound { result ≤ free + 2 ^ 33 }
 {
-    match lines.op(at) {
+    match lines.op(at - 1) {
         Some(op) => free_before(op, free),
         None => 0,
     }
