@@ -1,6 +1,6 @@
 -- Where a test that raises nothing is true on a row, the key of the row is between the bounds for which it asks; so a walk over the
 -- rows between them takes what a walk over all rows takes.
-use Rattle.std.proofs.Common.{◌≡◌, ℕ, suc, Bool, true, false, ◌&&◌, List, [], ◌∷◌, drop, refl, ap, sym, ◌∙◌, eqb-true, Option, Some, None, Result, Ok, Err}
+use Rattle.std.proofs.Common.{◌≡◌, ℕ, suc, Bool, true, false, ◌&&◌, List, [], ◌∷◌, drop, refl, ap, sym, ◌∙◌, eqb-true, Option, Some, None, Result, Ok}
 use Rattle.std.specs.Prelude.{cond, filter, nat_eq, slice_get, slice_index_or, if◌then◌else◌}
 use Rattle.std.specs.List.{cons_option}
 use Rattle.std.specs.Option.{option_or}
@@ -24,7 +24,7 @@ use Rattle.psm_exprcode.specs.declared.operand.Operand.TheVariants.{Value, Truth
 use Rattle.psm_exprcode.specs.declared.operand.Next.TheVariants.{Ahead}
 use Rattle.psm_exprcode.specs.Applied.{applied, Went}
 use Rattle.psm_exprcode.specs.Comparison.{truth_of}
-use Rattle.psm_exprcode.specs.Evaluated.{evaluated, Outcome}
+use Rattle.psm_exprcode.specs.Evaluated.{evaluated}
 use Rattle.psm_table.specs.Evaluator.{and_then, mapped, test_of}
 use Rattle.psm_table.specs.Key.{values_at}
 use Rattle.psm_table.specs.Queries.{in_walk, is_met, taken, walked}

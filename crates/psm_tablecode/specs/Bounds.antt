@@ -1,6 +1,6 @@
 -- The bounds between which a test asks for keys: values of a key's first columns, and a range of values of the column after them
 -- (ISO/IEC 9075:1992, 8.2 and 8.3).
-use Rattle.std.specs.Prelude.{Bool, true, false, ℕ, List, [], ◌∷◌, ◌&&◌, not, nat_eq, drop, filter, Option, Some, None, if◌then◌else◌}
+use Rattle.std.specs.Prelude.{Bool, true, false, ℕ, List, [], ◌∷◌, ◌&&◌, nat_eq, drop, filter, Option, Some, None, if◌then◌else◌}
 use Rattle.std.specs.Option.{option_or}
 use Rattle.std.specs.Ordering.{is_eq, is_ge, is_gt, is_le, is_lt}
 use Rattle.psm_value.specs.declared.datum.Datum.{Datum}
