@@ -2,7 +2,10 @@
 use Rattle.std.proofs.Common.{◌≡◌, ℕ, zero, suc, ◌+◌, ◌-◌, arith, drop, Bool, true, false, ◌&&◌, List, [], ◌∷◌, refl, ap, sym, subst, ◌∙◌, Option, Some, None, Ok, Err, eq-eqb, eqb-true}
 use Rattle.std.specs.Prelude.{nat_eq, slice_get, if◌then◌else◌}
 use Rattle.psm_num.proofs.Literals.{and_first, and_second}
+use Rattle.psm_text.specs.Like.{well_formed}
+use Rattle.psm_text.specs.declared.fault.TextFault.{TextFault}
 use Rattle.psm_value.specs.declared.datum.Datum.{Datum}
+use Rattle.psm_value.specs.declared.datum.Datum.TheVariants.{Null, Num, Text}
 use Rattle.psm_value.specs.declared.truth.Truth as truth_of
 use Rattle.psm_value.specs.declared.truth.Truth.TheVariants.{True, False, Unknown}
 use Rattle.psm_value.specs.Truth.{both, either, is_certain, opposite}
@@ -12,9 +15,10 @@ use Rattle.psm_exprcode.specs.declared.op.Op.TheVariants as op
 use Rattle.psm_exprcode.specs.declared.operand.Operand.{Operand}
 use Rattle.psm_exprcode.specs.declared.operand.Operand.TheVariants.{Value, Truth}
 use Rattle.psm_exprcode.specs.declared.operand.Next.TheVariants.{Ahead, Jump}
-use Rattle.psm_exprcode.specs.Applied.{applied, combines, on_many, on_three, on_truth, on_value, truth_of_two, with_named, with_truth, Applied, Went, Raised, Stuck}
+use Rattle.psm_exprcode.specs.Applied.{applied, combines, on_many, on_three, on_truth, on_two, on_value, truth_of_two, with_named, with_truth, Applied, Went, Raised, Stuck}
 use Rattle.psm_exprcode.specs.Comparison as comparison
 use Rattle.psm_exprcode.specs.Comparison.{among, between}
+use Rattle.psm_exprcode.specs.Values.{as_truth, like}
 use Rattle.psm_exprcode.specs.Evaluated.{goes_on, place_after, ran, Outcome}
 use Rattle.psm_tablecode.specs.Asked.{are_quiet, fixed, free, free_before, is_and, is_column, is_equality, is_quiet, takes}
 
@@ -103,6 +107,27 @@ between_puts (Value c ∷ Truth t ∷ os) = tt
 between_puts (Value c ∷ Value b ∷ []) = tt
 between_puts (Value c ∷ Value b ∷ Truth t ∷ os) = tt
 between_puts (Value c ∷ Value b ∷ Value a ∷ os) = refl
+
+-- without an escape character each pattern is well-formed
+plain : (p : List ℕ) → well_formed None p ≡ true
+plain [] = refl
+plain (c ∷ []) = refl
+plain (c ∷ d ∷ p) = plain (d ∷ p)
+
+liked_puts : (os below : List Operand) (b m : Bool) (fault : TextFault) → b ≡ true → drop 2 os ≡ below → Puts 2 os (with_truth below (as_truth (if b then Ok m else Err fault)))
+liked_puts os below true m fault e d = d
+liked_puts os below false m fault e d = absurd (cc)
+
+like_puts : (os : List Operand) → Puts 2 os (on_two (λ t pattern below. with_truth below (like t pattern)) os)
+like_puts [] = tt
+like_puts (Truth t ∷ os) = tt
+like_puts (Value p ∷ []) = tt
+like_puts (Value p ∷ Truth t ∷ os) = tt
+like_puts (Value p ∷ Value Null ∷ os) = refl
+like_puts (Value p ∷ Value (Num n) ∷ os) = refl
+like_puts (Value Null ∷ Value (Text t) ∷ os) = refl
+like_puts (Value (Num n) ∷ Value (Text t) ∷ os) = refl
+like_puts (Value (Text p) ∷ Value (Text t) ∷ os) = liked_puts (Value (Text p) ∷ Value (Text t) ∷ os) os (well_formed None p) (_) (_) (plain p) refl
 
 one_more : (n : ℕ) (x : Operand) (os : List Operand) (a : Applied) → Puts n os a → Puts (suc n) (x ∷ os) a
 one_more n x os (Went Ahead []) p = p
@@ -205,7 +230,7 @@ module _ (row vars : List Datum) where
   says op.Or = record { equal = λ h. cc; column = λ c h. cc; puts = λ x e os. cc; goes = λ h os. puts_goes op.Or os refl (applied op.Or os row vars) (combined_puts either os) }
   says op.Not = record { equal = λ h. cc; column = λ c h. cc; puts = λ x e os. cc; goes = λ h os. puts_goes op.Not os refl (applied op.Not os row vars) (not_puts os) }
   says op.IsNull = record { equal = λ h. cc; column = λ c h. cc; puts = λ x e os. cc; goes = λ h os. puts_goes op.IsNull os refl (applied op.IsNull os row vars) (one_puts (λ a. comparison.truth_of (comparison.is_null a)) os) }
-  says op.Like = other op.Like refl (λ c. refl) refl refl
+  says op.Like = record { equal = λ h. cc; column = λ c h. cc; puts = λ x e os. cc; goes = λ h os. puts_goes op.Like os refl (applied op.Like os row vars) (like_puts os) }
   says op.LikeEscape = other op.LikeEscape refl (λ c. refl) refl refl
   says op.Between = record { equal = λ h. cc; column = λ c h. cc; puts = λ x e os. cc; goes = λ h os. puts_goes op.Between os refl (applied op.Between os row vars) (between_puts os) }
   says (op.In n) = record { equal = λ h. cc; column = λ c h. cc; puts = λ x e os. cc; goes = λ h os. puts_goes (op.In n) os refl (applied (op.In n) os row vars) (many_puts n (λ bs. on_value (λ a below. with_truth below (Ok (among a bs)))) (λ bs os. one_puts (λ a. among a bs) os) os) }

@@ -57,7 +57,7 @@ fn is_quiet(op: &Op) -> bool
         Op::Constant(_, _) | Op::Variable(_) | Op::Column(_) => true,
         Op::Equal | Op::NotEqual => true,
         Op::Less | Op::LessOrEqual | Op::Greater | Op::GreaterOrEqual => true,
-        Op::IsNull | Op::Between | Op::In(_) => true,
+        Op::IsNull | Op::Between | Op::In(_) | Op::Like => true,
         Op::And | Op::Or | Op::Not => true,
         _ => false,
     }
@@ -165,7 +165,7 @@ fn taken(op: &Op) -> u128
     match op {
         Op::Equal | Op::NotEqual => 2,
         Op::Less | Op::LessOrEqual | Op::Greater | Op::GreaterOrEqual => 2,
-        Op::And | Op::Or => 2,
+        Op::And | Op::Or | Op::Like => 2,
         Op::IsNull | Op::Not => 1,
         Op::Between => 3,
         Op::In(count) => *count as u128 + 1,
