@@ -1,4 +1,5 @@
--- DELETE from a legal table: what is left keeps the rules that the table kept, so the statement does not fail at its end.
+-- DELETE from a legal table: what is left keeps the rules that the table kept, so the statement fails at its end by a FOREIGN KEY
+-- constraint alone.
 use Rattle.std.proofs.Common.{◌≡◌, ◌≤◌, ℕ, List, false, ◌&&◌, length, refl, ap, ◌∙◌, Result, Ok, Err, arith}
 use Rattle.std.specs.Prelude.{All, Option, nat_lt}
 use Rattle.std.specs.declared.cmp.Ordering.TheVariants.{Less}
@@ -22,9 +23,9 @@ Row = List Datum
 abbrev Rises : List ℕ → Row → Row → Type 0
 Rises key a b = key_order (values_at key a) (values_at key b) ≡ Less
 
--- the rows that don't meet the test, and how many do
-abbrev pub taken_out : {E : Type 0} → Evaluator E → Option E → List Row → Result Changed Failure
-taken_out ev test rows = then_of (divided ev test (λ row. Ok row) rows) (λ p. Ok (record { rows = p.left; count = length p.made }))
+-- the rows that don't meet the test, and how many do, if all FOREIGN KEY constraints hold
+abbrev pub taken_out : {E : Type 0} → Evaluator E → Schema E → Option E → List Row → Result Changed Failure
+taken_out ev schema test rows = then_of (divided ev test (λ row. Ok row) rows) (λ p. counting (length p.made) (ended_with schema.def p.left (schema.keyed p.left)))
 
 -- ---- what is left
 
@@ -51,21 +52,21 @@ module _ {E : Type 0} (ev : Evaluator E) (test : Option E) (key : List ℕ) wher
 -- ---- the end of the statement
 
 module _ {E : Type 0} (plain : Evaluator E) (schema : Schema E) where
-  -- the rows of a legal table are left as they are
-  pub ended_legal : (rows : List Row) → IsLegal plain schema rows → IsAscending schema.def.key rows → length rows ≤ most_rows → ended plain schema rows ≡ Ok rows
+  -- the rows of a legal table are left as they are, if all FOREIGN KEY constraints hold
+  pub ended_legal : (rows : List Row) → IsLegal plain schema rows → IsAscending schema.def.key rows → length rows ≤ most_rows → ended plain schema rows ≡ ended_with schema.def rows (schema.keyed rows)
   ended_legal rows h up few =
       let e : nat_lt most_rows (length rows) ≡ false = le-ltb most_rows (length rows) few in
       rw e (
-      ap (λ l. then_of (rows_pass plain schema.checks l) (λ ok. ended_with schema.def l (ok && keep_rules schema.def rows))) (in_order-ascending schema.def.key rows up)
-      ∙ ap (λ r. then_of r (λ ok. ended_with schema.def rows (ok && keep_rules schema.def rows))) h.pass
-      ∙ ap (ended_with schema.def rows) h.rules
+      ap (λ l. then_of (rows_pass plain schema.checks l) (λ ok. ended_with schema.def l (ok && (keep_rules schema.def rows && schema.keyed l)))) (in_order-ascending schema.def.key rows up)
+      ∙ ap (λ r. then_of r (λ ok. ended_with schema.def rows (ok && (keep_rules schema.def rows && schema.keyed rows)))) h.pass
+      ∙ ap (λ b. ended_with schema.def rows (b && schema.keyed rows)) h.rules
       )
 
-  pub deleted_legally : (ev : Evaluator E) (test : Option E) (rows : List Row) → IsLegal plain schema rows → IsAscending schema.def.key rows → length rows ≤ most_rows → deleted ev plain schema test rows ≡ taken_out ev test rows
+  pub deleted_legally : (ev : Evaluator E) (test : Option E) (rows : List Row) → IsLegal plain schema rows → IsAscending schema.def.key rows → length rows ≤ most_rows → deleted ev plain schema test rows ≡ taken_out ev schema test rows
   deleted_legally ev test rows h up few = by (divided ev test (λ row. Ok row) rows) refl
     where
       by : (d : Result Division SqlState) → divided ev test (λ row. Ok row) rows ≡ d
-          → then_of d (λ p. counting (length p.made) (ended plain schema p.left)) ≡ then_of d (λ p. Ok (record { rows = p.left; count = length p.made }))
+          → then_of d (λ p. counting (length p.made) (ended plain schema p.left)) ≡ then_of d (λ p. counting (length p.made) (ended_with schema.def p.left (schema.keyed p.left)))
       by (Ok p) e =
           let l : length p.left ≤ length rows = left_few ev test schema.def.key rows p e in
           ap (counting (length p.made))

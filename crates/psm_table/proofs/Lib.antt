@@ -10,6 +10,7 @@ pub mod Heads
 pub mod Holds
 pub mod Joined
 pub mod KeyLaws
+pub mod Keying
 pub mod Keys
 pub mod Legal
 pub mod Lefts

@@ -18,10 +18,11 @@ use Rattle.psm_table.specs.Table.{most_rows}
 use Rattle.psm_table.specs.Unique.{conflict, is_null, has_null}
 use Rattle.psm_table.specs.declared.definition.TableDef.{TableDef}
 
--- a table's definition, with its CHECKs
+-- a table's definition, with its CHECKs, and whether all FOREIGN KEY constraints hold among the tables if its rows are these
 pub record Schema (E : Type 0) : Type 0 where
   pub def : TableDef
   pub checks : List E
+  pub keyed : List (List Datum) → Bool
 
 -- why a statement changes nothing: a condition that an expression raises or storing a value, or one of the table, which
 -- bears its name
@@ -114,7 +115,7 @@ ended_with def rows false = Err (OfTable (codes "23000"))
 -- the old rows among them stand before the new ones, so that they go first where keys are equal
 abbrev pub ended : {E : Type 0} → Evaluator E → Schema E → List (List Datum) → Result (List (List Datum)) Failure
 ended ev schema rows = if nat_lt most_rows (length rows) then Err (OfTable (codes "X0002"))
-    else then_of (rows_pass ev schema.checks (in_order schema.def.key rows)) (λ ok. ended_with schema.def (in_order schema.def.key rows) (ok && keep_rules schema.def rows))
+    else then_of (rows_pass ev schema.checks (in_order schema.def.key rows)) (λ ok. ended_with schema.def (in_order schema.def.key rows) (ok && (keep_rules schema.def rows && schema.keyed (in_order schema.def.key rows))))
 
 -- ---- statements: the rows that are left, and how many the statement is about
 
