@@ -21,6 +21,7 @@ pub mod Pairs
 pub mod Places
 pub mod Prefixes
 pub mod Rivals
+pub mod Referring
 pub mod RowOrders
 pub mod Rules
 pub mod Searches

@@ -8,6 +8,7 @@ mod key;
 mod laws;
 mod map;
 mod probe;
+mod referred;
 mod row;
 mod run;
 mod runs;
