@@ -10,7 +10,7 @@ use Rattle.psm_resolved.specs.declared.file.ResolvedTable.{ResolvedTable}
 use Rattle.psm_meaning.specs.Session as meaning
 use Rattle.psm_code.specs.declared.code.CodeTable.{CodeTable}
 use Rattle.psm_code.specs.declared.code.RawCode.{RawCode}
-use Rattle.psm_code.specs.MachineInvariant.{AreKept}
+use Rattle.psm_code.specs.MachineInvariant.{AreKept, AreLawful}
 use Rattle.psm_codegen.specs.Files.{FileWritten}
 use Rattle.psm_codegen.specs.Queries.{TablesMade}
 use Rattle.psm_wellformed.proofs.Definitions.{file-definitions}
@@ -22,7 +22,7 @@ tables_kept : (ts : List CodeTable) → AreKept ts (map empty_table (map (λ t. 
 tables_kept [] = tt
 tables_kept (t ∷ ts) = (record { same = refl; rows = All-nil (IsRow t.definition); legal = record { stored = refl; pass = refl; rules = refl } }, tables_kept ts)
 
-pub empty_tables_kept : (code : RawCode) → AreKept code.tables (empty_tables code)
+pub empty_tables_kept : (code : RawCode) → AreLawful code (empty_tables code)
 empty_tables_kept code = tables_kept code.tables
 
 -- ---- those of the file

@@ -16,7 +16,7 @@ use Rattle.psm_code.specs.declared.lines.CodeLine.{CodeLine}
 use Rattle.psm_code.specs.Calling.{most_depth}
 use Rattle.psm_code.specs.Instructions.{may_raise}
 use Rattle.psm_code.specs.Parts.{line_at, routine_at, slots_of}
-use Rattle.psm_code.specs.MachineInvariant.{are_stored, is_due, AllWait, AreCursors, AreKept, Stand}
+use Rattle.psm_code.specs.MachineInvariant.{are_stored, is_due, AllWait, AreCursors, AreLawful, Stand}
 use Rattle.psm_code.specs.State.{Activation, Frame, Machine}
 use Rattle.psm_code.specs.Steps.{Act, Given, Got, Raises, Ends, go_on, pop, popped, present, tried, ◌>>=◌}
 
@@ -29,7 +29,7 @@ pub record Lives (code : RawCode) (r : RawRoutine) (l : CodeLine) (n at : ℕ) (
   pub frames : Stand code r entered l.context
   pub callers : AllWait code n others
   pub depth : length others < most_depth
-  pub tables : AreKept code.tables now
+  pub tables : AreLawful code now
 
 module _ (code : RawCode) (r : RawRoutine) (l : CodeLine) where
   -- all but the operands
@@ -45,7 +45,7 @@ module _ (code : RawCode) (r : RawRoutine) (l : CodeLine) where
   abbrev pub Evaluates : {A : Type 0} → (A → Machine → Type 0) → Given A → Machine → Type 0
   Evaluates P (Got a) m = P a m
   Evaluates P (Raises c) m = (may_raise l.instruction ≡ true) × Body m
-  Evaluates P (Ends e) m = (is_due e ≡ true) × AreKept code.tables m.tables
+  Evaluates P (Ends e) m = (is_due e ≡ true) × AreLawful code m.tables
 
   -- the act on the machine
   pub record Does {A : Type 0} (P : A → Machine → Type 0) (act : Act A) (m : Machine) : Type 0 where

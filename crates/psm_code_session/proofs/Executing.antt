@@ -12,7 +12,7 @@ use Rattle.psm_tablecode.specs.Codes.{over, query_of}
 use Rattle.psm_tablecode.specs.NewRows.{new_row}
 use Rattle.psm_code.specs.declared.code.CodeTable.{CodeTable}
 use Rattle.psm_code.specs.declared.code.RawCode.{RawCode}
-use Rattle.psm_code.specs.MachineInvariant.{AreKept, is_due}
+use Rattle.psm_code.specs.MachineInvariant.{AreLawful, is_due}
 use Rattle.psm_code.specs.Plans.{plain, schema_of}
 use Rattle.psm_code.specs.RoutineRules.{first_fault}
 use Rattle.psm_code.specs.Run.{Ran}
@@ -34,8 +34,8 @@ use Rattle.psm_session.specs.declared.command.ScriptCommand.TheVariants as comma
 
 -- the tables are those of the code, and so are those to which ROLLBACK goes
 pub record StaysKept (code : RawCode) (s : Standing) : Type 0 where
-  pub tables : AreKept code.tables s.tables
-  pub committed : AreKept code.tables s.committed
+  pub tables : AreLawful code s.tables
+  pub committed : AreLawful code s.committed
 
 -- how a command ends
 pub data Executed (code : RawCode) (k : ℕ) (s : Standing) (c : ScriptCommand) : Type 0 where
@@ -51,7 +51,7 @@ module _ (code : RawCode) (well_formed_code : first_fault code ≡ None) (k : �
       let right = run_well_formed code well_formed_code n takes.routine takes.there values s.tables s.turns takes.many kept.tables run.0 run.1 run.2 in
       by run.0 run.1 run.2 right.0 right.1
     where
-      by : (e : End) (last : Machine) → Ran code n values s.tables s.turns e last → is_due e ≡ true → AreKept code.tables last.tables → Executed code k s (commands.Call n values)
+      by : (e : End) (last : Machine) → Ran code n values s.tables s.turns e last → is_due e ≡ true → AreLawful code last.tables → Executed code k s (commands.Call n values)
       by (Ended ds) last ran due h = goes_on _ (after_run s last) (call takes.there ran) (record { tables = h; committed = kept.committed })
       by (Raised c) last ran due h = goes_on _ (after_run s last) (call takes.there ran) (record { tables = h; committed = kept.committed })
       by state.NoTurns last ran due h = runs_out _ (call takes.there ran)

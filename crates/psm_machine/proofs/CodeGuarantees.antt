@@ -28,7 +28,7 @@ use Rattle.psm_code.specs.Parts.{slots_of}
 use Rattle.psm_code.specs.PlanRules.{cursor_table, has_rows, or_none, plan_fault, plan_faults, sets_in, table_of_query, test_in}
 use Rattle.psm_code.specs.Plans.{plain, schema_of}
 use Rattle.psm_code.specs.RoutineRules.{first_fault}
-use Rattle.psm_code.specs.MachineInvariant.{AreCursors, AreKept, IsKept, Keeps}
+use Rattle.psm_code.specs.MachineInvariant.{AreCursors, AreLawful, IsKept, Keeps}
 use Rattle.psm_code.proofs.Faults.{clean_first, clean_flat, clean_second, clean_tail, routine_well_formed, Clean, WellFormedRoutineCode}
 use Rattle.psm_code.proofs.Fetching.{well_formed_cursor, WellFormedCursorCode}
 use Rattle.psm_code.proofs.Operating.{stored_letters}
@@ -64,7 +64,7 @@ cursor_kept code r (y ∷ xs) (d ∷ cs) (suc i) x c h e f = cursor_kept code r 
 
 -- ---- tables of well-formed code
 
-module _ (code : RawCode) (tables : List Contents) (well_formed_code : first_fault code ≡ None) (kept : AreKept code.tables tables) where
+module _ (code : RawCode) (tables : List Contents) (well_formed_code : first_fault code ≡ None) (kept : AreLawful code tables) where
   has_table : (n : ℕ) (t : CodeTable) → slice_get code.tables n ≡ Some t → HasTable t tables n
   has_table n t e =
       let k = kept_at code.tables tables n t kept e in
@@ -76,7 +76,7 @@ module _ (code : RawCode) (tables : List Contents) (well_formed_code : first_fau
 
   -- and the tables stay those of the code with the rows that are due
   pub put_kept : (n : ℕ) (t : CodeTable) (c : Contents) → slice_get code.tables n ≡ Some t → slice_get tables n ≡ Some c → (columns : List ℕ) (rows : List (List Datum)) (changed : Changed) → put_due t columns rows c ≡ Ok changed
-      → AreKept code.tables (slice_set tables n (record c { rows = changed.rows }))
+      → AreLawful code (slice_set tables n (record c { rows = changed.rows }))
   put_kept n t c e f columns rows changed q =
       let k = kept_at code.tables tables n t kept e in
       let y = of_some (IsKept t) (slice_get tables n) c f (some_of (IsKept t) (slice_get tables n) k.0 k.1 k.2) in

@@ -215,4 +215,4 @@ resolve_routine symbols r = routine_in symbols r (routine_numbered r)
 -- ---- the file
 
 abbrev pub resolved_file : FileTree → ResolvedFile
-resolved_file f = record { tables = map resolve_table f.tables; routines = map (resolve_routine (known_symbols f)) f.«module».routines }
+resolved_file f = record { tables = map resolve_table f.tables; keys = []; routines = map (resolve_routine (known_symbols f)) f.«module».routines }

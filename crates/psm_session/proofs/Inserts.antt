@@ -12,7 +12,7 @@ use Rattle.psm_dml.specs.Ends.{IsDue}
 use Rattle.psm_code.specs.declared.code.CodeTable.{CodeTable}
 use Rattle.psm_code.specs.declared.code.RawCode.{RawCode}
 use Rattle.psm_code.specs.RoutineRules.{first_fault}
-use Rattle.psm_code.specs.MachineInvariant.{AreKept}
+use Rattle.psm_code.specs.MachineInvariant.{AreLawful}
 use Rattle.psm_code.proofs.Queried.{kept_at}
 use Rattle.psm_machine.proofs.Asking.{of_some}
 use Rattle.psm_machine.proofs.CodeGuarantees.{put_kept}
@@ -29,7 +29,7 @@ pub if_ok_map : {A : Type 0} (P Q : A → Type 0) (r : Result A AllocError) → 
 if_ok_map P Q (Ok a) f h = f a h
 if_ok_map P Q (Err e) f h = tt
 
-module _ (code : RawCode) (k n : ℕ) (columns : List ℕ) (rows : List (List Datum)) (old new : List Contents) (t : CodeTable) (there : slice_get code.tables n ≡ Some t) (kept : AreKept code.tables old) where
+module _ (code : RawCode) (k n : ℕ) (columns : List ℕ) (rows : List (List Datum)) (old new : List Contents) (t : CodeTable) (there : slice_get code.tables n ≡ Some t) (kept : AreLawful code old) where
   abbrev First : List ℕ
   First = first_line k (naming (codes "INSERT ") t.definition.name)
 
@@ -50,14 +50,14 @@ module _ (code : RawCode) (k n : ℕ) (columns : List ℕ) (rows : List (List Da
 
   -- ---- the tables
 
-  kept_by : first_fault code ≡ None → (r : Result ℕ DataFault) → Found r → AreKept code.tables new
+  kept_by : first_fault code ≡ None → (r : Result ℕ DataFault) → Found r → AreLawful code new
   kept_by well_formed_code (Ok count) f =
       let changed : Changed = record { rows = f.ends.0; count = count } in
-      subst (AreKept code.tables) (sym f.ends.2) (put_kept code old well_formed_code kept n t f.contents there f.here columns rows changed f.ends.1)
-  kept_by well_formed_code (Err (fault.Raised condition)) f = subst (AreKept code.tables) (sym f.ends.1) kept
-  kept_by well_formed_code (Err fault.Memory) f = subst (AreKept code.tables) (sym f.ends) kept
+      subst (AreLawful code) (sym f.ends.2) (put_kept code old well_formed_code kept n t f.contents there f.here columns rows changed f.ends.1)
+  kept_by well_formed_code (Err (fault.Raised condition)) f = subst (AreLawful code) (sym f.ends.1) kept
+  kept_by well_formed_code (Err fault.Memory) f = subst (AreLawful code) (sym f.ends) kept
 
-  pub kept_after : first_fault code ≡ None → (r : Result ℕ DataFault) → PutsRows code n columns rows old new r → AreKept code.tables new
+  pub kept_after : first_fault code ≡ None → (r : Result ℕ DataFault) → PutsRows code n columns rows old new r → AreLawful code new
   kept_after well_formed_code r puts = kept_by well_formed_code r (found r puts)
 
   -- ---- the piece
