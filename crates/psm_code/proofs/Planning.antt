@@ -36,10 +36,10 @@ kept_set (u ∷ ts) [] i t c h e k = absurd h
 kept_set (u ∷ ts) (d ∷ cs) zero t c h e k = let same : u ≡ t = cc in (subst (λ (x : CodeTable). IsKept x c) (sym same) k, h.1)
 kept_set (u ∷ ts) (d ∷ cs) (suc i) t c h e k = (h.0, kept_set ts cs i t c h.1 e k)
 
-schema_there : (ts : List CodeTable) (i : ℕ) (t : CodeTable) → slice_get ts i ≡ Some t → slice_get (map schema_of ts) i ≡ Some (schema_of t)
-schema_there [] i t e = absurd (cc)
-schema_there (u ∷ ts) zero t e = let same : u ≡ t = cc in ap (λ (x : CodeTable). Some (schema_of x)) same
-schema_there (u ∷ ts) (suc i) t e = schema_there ts i t e
+schema_there : (keyed : List (List Datum) → Bool) (ts : List CodeTable) (i : ℕ) (t : CodeTable) → slice_get ts i ≡ Some t → slice_get (map (schema_of keyed) ts) i ≡ Some (schema_of keyed t)
+schema_there keyed [] i t e = absurd (cc)
+schema_there keyed (u ∷ ts) zero t e = let same : u ≡ t = cc in ap (λ (x : CodeTable). Some (schema_of keyed x)) same
+schema_there keyed (u ∷ ts) (suc i) t e = schema_there keyed ts i t e
 
 module _ (code : RawCode) (r : RawRoutine) (l : CodeLine) (may : may_raise l.instruction ≡ true) where
   pub schema_does : (i : ℕ) (t : CodeTable) (s : List Letter) (m : Machine) → slice_get code.tables i ≡ Some t → Has code r l s m → Does code r l (λ x n. (x ≡ schema_of t) × Has code r l s n) (schema_at code i) m

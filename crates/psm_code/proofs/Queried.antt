@@ -82,7 +82,7 @@ module _ (code : RawCode) (r : RawRoutine) (l : CodeLine) where
   pub table_does : (i : ℕ) (t : CodeTable) (s : List Letter) (m : Machine) → slice_get code.tables i ≡ Some t → Has code r l s m → Does code r l (λ c n. IsKept t c × Has code r l s n) (table_now i) m
   table_does i t s m e h =
       and_then code r l (λ ts n. AreLawful code ts × Has code r l s n) _ (read (λ m. m.tables)) _ m (record { evaluates = (h.body.tables, h) }) (λ ts n f.
-      let c = kept_at code.tables ts i t f.0 e in
+      let c = kept_at code.tables ts i t f.0.kept e in
       present_does code r l (λ c n. IsKept t c × Has code r l s n) (slice_get ts i) c.0 n c.1 (c.2, f.1))
 
   pub variables_do : (s : List Letter) (m : Machine) → Has code r l s m → Does code r l (λ vs n. (are_stored (slots_of r) vs ≡ true) × Has code r l s n) (read (λ m. m.running.variables)) m

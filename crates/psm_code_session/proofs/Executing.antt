@@ -79,12 +79,12 @@ module _ (code : RawCode) (well_formed_code : first_fault code ≡ None) (k : �
       where
         by : (o : Option CodeTable) → slice_get code.tables n ≡ o → IsSome o → Executed code k s Insert
         by None e h = absurd cc
-        by (Some t) e h = let c = kept_at code.tables s.tables n t kept.tables e in put_executed t c.0 e c.1 (inserted plain (schema_of t) (map (new_row t.definition columns) rows) c.0.rows) refl
+        by (Some t) e h = let c = kept_at code.tables s.tables n t kept.tables.kept e in put_executed t c.0 e c.1 (inserted plain (schema_of t) (map (new_row t.definition columns) rows) c.0.rows) refl
 
   -- ---- SELECT
 
   select_executed : (q : Query) → FitsQuery code q → Executed code k s (commands.Select q)
-  select_executed q fits = let c = kept_at code.tables s.tables q.table fits.table kept.tables fits.there in by c.0 c.1 (answer (over []) (query_of q) c.0.rows) refl
+  select_executed q fits = let c = kept_at code.tables s.tables q.table fits.table kept.tables.kept fits.there in by c.0 c.1 (answer (over []) (query_of q) c.0.rows) refl
     where
       by : (c : Contents) → slice_get s.tables q.table ≡ Some c → (a : Result Answer SqlState) → answer (over []) (query_of q) c.rows ≡ a → Executed code k s (commands.Select q)
       by c here (Ok a) e = goes_on _ s (subst (λ a. CommandExecutes code k s (commands.Select q) (selected (first_line k (command_name code (commands.Select q))) s a)) e (select here)) kept

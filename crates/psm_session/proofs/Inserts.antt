@@ -44,7 +44,7 @@ module _ (code : RawCode) (k n : ℕ) (columns : List ℕ) (rows : List (List Da
 
   found : (r : Result ℕ DataFault) → PutsRows code n columns rows old new r → Found r
   found r puts =
-      let k = kept_at code.tables old n t kept there in
+      let k = kept_at code.tables old n t kept.kept there in
       let into = of_some (λ (t : CodeTable). PutsInto t n columns rows old new r) (slice_get code.tables n) t there puts in
       record { contents = k.0; here = k.1; ends = of_some (λ (c : Contents). EndsIn t c (put_due t columns rows c) old n new r) (slice_get old n) k.0 k.1 into }
 
