@@ -130,8 +130,8 @@ same_tables (t ∷ ts) [] made h n = absurd made
 same_tables (t ∷ ts) (u ∷ us) made h zero = table_stands t u made.0 (h zero t refl)
 same_tables (t ∷ ts) (u ∷ us) made h (suc n) = same_tables ts us made.1 (λ m x q. h (suc m) x q) n
 
-pub tables_stand : (file : ResolvedFile) (code : RawCode) → TablesMade file.tables code.tables → ChecksAreTests file → TablesStand file code
-tables_stand file code made h n = same_tables file.tables code.tables made h n
+pub tables_stand : (file : ResolvedFile) (code : RawCode) → code.keys ≡ file.keys → TablesMade file.tables code.tables → ChecksAreTests file → TablesStand file code
+tables_stand file code keys made h n = (keys, same_tables file.tables code.tables made h n)
 
 table_made : (ts : List ResolvedTable) (us : List CodeTable) → TablesMade ts us → (n : ℕ) (t : ResolvedTable) (u : CodeTable) → slice_get ts n ≡ Some t → slice_get us n ≡ Some u → TableMade t u
 table_made [] [] made n t u p q = absurd (none-some t p)

@@ -32,8 +32,12 @@ SameTable None (Some u) = ⊥
 SameTable (Some t) None = ⊥
 SameTable (Some t) (Some u) = TableStands t u
 
+-- the same at a number, among the same FOREIGN KEY constraints
+abbrev pub SameAt : ResolvedFile → RawCode → ℕ → Type 0
+SameAt file code n = (code.keys ≡ file.keys) × SameTable (slice_get file.tables n) (slice_get code.tables n)
+
 abbrev pub TablesStand : ResolvedFile → RawCode → Type 0
-TablesStand file code = (n : ℕ) → SameTable (slice_get file.tables n) (slice_get code.tables n)
+TablesStand file code = (n : ℕ) → SameAt file code n
 
 -- ---- INSERT
 

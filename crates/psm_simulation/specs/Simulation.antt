@@ -53,11 +53,10 @@ pub record RoutineStands (file : ResolvedFile) (code : RawCode) (routine : Resol
   pub stack : List Letter
   pub ends : line_at r last ≡ Some (record { context = 0; resume = None; stack = stack; instruction = last_instruction routine.returns })
 
--- each routine's code has its number, and each table, and the FOREIGN KEY constraints are the same
+-- each routine's code has its number, and each table
 pub record FileStands (file : ResolvedFile) (code : RawCode) : Type 0 where
   pub routines : (n : ℕ) (routine : ResolvedRoutine) → slice_get file.routines n ≡ Some routine → (r : RawRoutine) × (routine_at code n ≡ Some r) × RoutineStands file code routine r
   pub tables : TablesStand file code
-  pub keys : code.keys ≡ file.keys
 
 -- ---- evaluations
 
