@@ -1,5 +1,5 @@
 -- How the parts of an instruction keep what is always true of a machine, one after another.
-use Rattle.std.proofs.Common.{◌≡◌, ◌<◌, ℕ, true, List, [], ◌∷◌, length, refl, Option, Some, Result, Ok, Err}
+use Rattle.std.proofs.Common.{◌≡◌, ◌<◌, ℕ, true, List, [], ◌∷◌, length, refl, Option, None, Some, Result, Ok, Err}
 use Rattle.psm_sqlstate.specs.declared.state.SqlState.{SqlState}
 use Rattle.psm_value.specs.declared.datum.Datum.{Datum}
 use Rattle.psm_exprcode.specs.declared.op.Letter.{Letter}
@@ -64,6 +64,15 @@ module _ (code : RawCode) (r : RawRoutine) (l : CodeLine) where
   pub present_does : {A : Type 0} (P : A → Machine → Type 0) (o : Option A) (a : A) (m : Machine) → o ≡ Some a → P a m → Does P (present o) m
   present_does P o a m e h = rw e (record { evaluates = h })
 
+  unchanged : {A : Type 0} (P : A → Machine → Type 0) (m : Machine) (g : Given A) (n : Machine) → n ≡ m → Evaluates P g n → Evaluates (λ a k. (k ≡ m) × P a k) g n
+  unchanged P m (Got a) n e h = (e, h)
+  unchanged P m (Raises c) n e h = h
+  unchanged P m (Ends x) n e h = h
+
+  -- an act that leaves the machine as it is
+  pub stays : {A : Type 0} (P : A → Machine → Type 0) (act : Act A) (m : Machine) → (act m).machine ≡ m → Does P act m → Does (λ a k. (k ≡ m) × P a k) act m
+  stays P act m e h = record { evaluates = unchanged P m (act m).given (act m).machine e h.evaluates }
+
   -- a value is taken
   popped_does : (k : Letter) (s : List Letter) (m : Machine) (os : List Operand) → is_value k ≡ true → Body m → have (k ∷ s) os ≡ true → Does (λ d n. (has_letter k d ≡ true) × Has s n) (popped os) m
   popped_does k s m [] v h g = absurd (cc)
@@ -79,3 +88,7 @@ module _ (code : RawCode) (r : RawRoutine) (l : CodeLine) where
   pub tried_does : {A : Type 0} (Q : A → Type 0) (P : Machine → Type 0) (t : Result A SqlState) (m : Machine) → may_raise l.instruction ≡ true → Body m → P m → ((a : A) → t ≡ Ok a → Q a) → Does (λ a n. Q a × P n) (tried t) m
   tried_does Q P (Ok a) m may b p q = record { evaluates = (q a refl, p) }
   tried_does Q P (Err s) m may b p q = record { evaluates = (may, b) }
+
+pub present_stays : {A : Type 0} (o : Option A) (m : Machine) → (present o m).machine ≡ m
+present_stays None m = refl
+present_stays (Some a) m = refl
