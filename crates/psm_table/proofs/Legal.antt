@@ -101,10 +101,10 @@ legal_left ev plain schema test make rows p e h = record {
 
 -- ---- the end of a statement
 
-pub record EndedOk (passed : Result Bool SqlState) (kept keyed : Bool) (ordered rows : List Row) : Type 0 where
+pub record EndedOk (passed : Result Bool SqlState) (kept among : Bool) (ordered rows : List Row) : Type 0 where
   pub pass : passed ≡ Ok true
   pub rules : kept ≡ true
-  pub keyed : keyed ≡ true
+  pub keyed : among ≡ true
   pub same : ordered ≡ rows
 
 ended_ok : (def : TableDef) (full : Bool) (passed : Result Bool SqlState) (kept keyed : Bool) (ordered rows : List Row)
