@@ -43,7 +43,7 @@ schema_there keyed (u ∷ ts) zero t e = let same : u ≡ t = cc in ap (λ (x : 
 schema_there keyed (u ∷ ts) (suc i) t e = schema_there keyed ts i t e
 
 -- the rows of the tables where one has others
-rows_set : (cs : List Contents) (i : ℕ) (c : Contents) (rows : List (List Datum)) → rows_in (slice_set cs i (record c { rows = rows })) ≡ slice_set (rows_in cs) i rows
+pub rows_set : (cs : List Contents) (i : ℕ) (c : Contents) (rows : List (List Datum)) → rows_in (slice_set cs i (record c { rows = rows })) ≡ slice_set (rows_in cs) i rows
 rows_set [] i c rows = refl
 rows_set (d ∷ cs) zero c rows = refl
 rows_set (d ∷ cs) (suc i) c rows = ap (λ x. d.rows ∷ x) (rows_set cs i c rows)

@@ -66,7 +66,7 @@ module _ (code : RawCode) (well_formed_code : first_fault code ≡ None) (k : �
     abbrev insert_first : List ℕ
     insert_first = first_line k (command_name code Insert)
 
-    put_executed : (t : CodeTable) (c : Contents) → slice_get code.tables n ≡ Some t → slice_get s.tables n ≡ Some c → (due : Result Changed Failure) → inserted plain (schema_of t) (map (new_row t.definition columns) rows) c.rows ≡ due → Executed code k s Insert
+    put_executed : (t : CodeTable) (c : Contents) → slice_get code.tables n ≡ Some t → slice_get s.tables n ≡ Some c → (due : Result Changed Failure) → inserted plain (schema_of (are_keyed_with code.keys (rows_in s.tables) n) t) (map (new_row t.definition columns) rows) c.rows ≡ due → Executed code k s Insert
     put_executed t c there here (Ok change) e =
         goes_on (insert_first ++ ok_line) (with_tables (slice_set s.tables n (record c { rows = change.rows })) s)
         (subst (λ due. CommandExecutes code k s Insert (put_in insert_first s n t c due)) e (insert there here))
@@ -79,7 +79,7 @@ module _ (code : RawCode) (well_formed_code : first_fault code ≡ None) (k : �
       where
         by : (o : Option CodeTable) → slice_get code.tables n ≡ o → IsSome o → Executed code k s Insert
         by None e h = absurd cc
-        by (Some t) e h = let c = kept_at code.tables s.tables n t kept.tables.kept e in put_executed t c.0 e c.1 (inserted plain (schema_of t) (map (new_row t.definition columns) rows) c.0.rows) refl
+        by (Some t) e h = let c = kept_at code.tables s.tables n t kept.tables.kept e in put_executed t c.0 e c.1 (inserted plain (schema_of (are_keyed_with code.keys (rows_in s.tables) n) t) (map (new_row t.definition columns) rows) c.0.rows) refl
 
   -- ---- SELECT
 

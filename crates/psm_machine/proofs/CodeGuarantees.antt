@@ -75,16 +75,20 @@ module _ (code : RawCode) (tables : List Contents) (well_formed_code : first_fau
   put_right n = if_some (λ t. HasTable t tables n) (slice_get code.tables n) (λ t e. has_table n t e)
 
   -- and the tables stay those of the code with the rows that are due
-  pub put_kept : (n : ℕ) (t : CodeTable) (c : Contents) → slice_get code.tables n ≡ Some t → slice_get tables n ≡ Some c → (columns : List ℕ) (rows : List (List Datum)) (changed : Changed) → put_due t columns rows c ≡ Ok changed
+  pub put_kept : (n : ℕ) (t : CodeTable) (c : Contents) → slice_get code.tables n ≡ Some t → slice_get tables n ≡ Some c → (columns : List ℕ) (rows : List (List Datum)) (changed : Changed) → put_due (are_keyed_with code.keys (rows_in tables) n) t columns rows c ≡ Ok changed
       → AreLawful code (slice_set tables n (record c { rows = changed.rows }))
   put_kept n t c e f columns rows changed q =
       let k = kept_at code.tables tables n t kept.kept e in
       let y = of_some (IsKept t) (slice_get tables n) c f (some_of (IsKept t) (slice_get tables n) k.0 k.1 k.2) in
-      kept_set code.tables tables n t (record c { rows = changed.rows }) kept e (record {
-        same = y.same;
-        rows = inserted_rows plain (schema_of t) columns rows c.rows changed y.rows q;
-        legal = legal_inserted plain (schema_of t) (map (new_row t.definition columns) rows) c.rows changed y.legal.stored q;
-      })
+      let own : Schema (List Line) = schema_of (are_keyed_with code.keys (rows_in tables) n) t in
+      record {
+        kept = kept_set code.tables tables n t (record c { rows = changed.rows }) kept.kept e (record {
+          same = y.same;
+          rows = inserted_rows plain own columns rows c.rows changed y.rows q;
+          legal = legal_of (are_keyed_with code.keys (rows_in tables) n) t changed.rows (legal_inserted plain own (map (new_row t.definition columns) rows) c.rows changed y.legal.stored q);
+        });
+        keyed = ap (are_keyed code.keys) (rows_set tables n c changed.rows) ∙ keyed_inserted plain own (map (new_row t.definition columns) rows) c.rows changed q;
+      }
 
 module _ (code : RawCode) (r : RawRoutine) (tables : List Contents) (vars : List Datum) (cursors : List Cursor) (h : RunsWellFormed code r tables vars cursors) where
   well_formed_code : WellFormedRoutineCode code r

@@ -25,5 +25,5 @@ pub fn well_formed_code_may_run()
 /// the rows that are due.
 pub fn well_formed_code_may_put()
     ensures puts { (code : RawCode) (tables : List Contents) → first_fault code ≡ None → AreLawful code tables → (n : ℕ) → MayPut code tables n }
-    ensures kept { (code : RawCode) (tables : List Contents) → first_fault code ≡ None → AreLawful code tables → (n : ℕ) (t : CodeTable) (c : Contents) → slice_get code.tables n ≡ Some t → slice_get tables n ≡ Some c → (columns : List ℕ) (rows : List (List Datum)) (changed : Changed) → put_due t columns rows c ≡ Ok changed → AreLawful code (slice_set tables n (record c { rows = changed.rows })) }
+    ensures kept { (code : RawCode) (tables : List Contents) → first_fault code ≡ None → AreLawful code tables → (n : ℕ) (t : CodeTable) (c : Contents) → slice_get code.tables n ≡ Some t → slice_get tables n ≡ Some c → (columns : List ℕ) (rows : List (List Datum)) (changed : Changed) → put_due (are_keyed_with code.keys (rows_in tables) n) t columns rows c ≡ Ok changed → AreLawful code (slice_set tables n (record c { rows = changed.rows })) }
 {}
