@@ -5,7 +5,7 @@ use Rattle.psm_token.specs.declared.word.Word.TheVariants as w
 
 -- the words that are not reserved
 abbrev pub name_words : List Word
-name_words = w.Both ∷ w.ConditionIdentifier ∷ w.ConditionNumber ∷ w.CursorName ∷ w.Data ∷ w.Found ∷ w.Leading ∷ w.MessageLength ∷ w.MessageText ∷ w.More ∷ w.Next ∷ w.Number ∷ w.Only ∷ w.Read ∷ w.ReturnedSqlState ∷ w.RowCount ∷ w.TableName ∷ w.Trailing ∷ w.Value ∷ w.Varying ∷ w.Work ∷ []
+name_words = w.Action ∷ w.Both ∷ w.ConditionIdentifier ∷ w.ConditionNumber ∷ w.CursorName ∷ w.Data ∷ w.Found ∷ w.Leading ∷ w.MessageLength ∷ w.MessageText ∷ w.More ∷ w.Next ∷ w.No ∷ w.Number ∷ w.Only ∷ w.Read ∷ w.ReturnedSqlState ∷ w.RowCount ∷ w.TableName ∷ w.Trailing ∷ w.Value ∷ w.Varying ∷ w.Work ∷ []
 
 abbrev pub block_words : List Word
 block_words = w.Begin ∷ w.Loop ∷ w.While ∷ w.Repeat ∷ w.For ∷ []
