@@ -11,6 +11,7 @@ pub mod Holds
 pub mod Joined
 pub mod KeyLaws
 pub mod Keying
+pub mod Keyless
 pub mod Keys
 pub mod Legal
 pub mod Lefts

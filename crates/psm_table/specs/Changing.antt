@@ -181,6 +181,21 @@ updated ev plain schema sets test rows = then_of (divided ev test (set_row ev sc
 abbrev pub deleted : {E : Type 0} → Evaluator E → Evaluator E → Schema E → Option E → List (List Datum) → Result Changed Failure
 deleted ev plain schema test rows = then_of (divided ev test (λ row. Ok row) rows) (λ p. counting (length p.made) (ended plain schema p.left))
 
+-- ---- the FOREIGN KEY constraints, tested last
+
+-- the same schema, where none is asked
+abbrev pub keyless : {E : Type 0} → Schema E → Schema E
+keyless schema = record { def = schema.def; checks = schema.checks; keyed = λ rows. true }
+
+-- what a statement leaves, if all hold among the tables then
+abbrev pub if_keyed : {E : Type 0} → Schema E → Result (List (List Datum)) Failure → Result (List (List Datum)) Failure
+if_keyed schema (Ok rows) = ended_with schema.def rows (schema.keyed rows)
+if_keyed schema (Err failure) = Err failure
+
+abbrev pub changed_if_keyed : {E : Type 0} → Schema E → Result Changed Failure → Result Changed Failure
+changed_if_keyed schema (Ok c) = counting c.count (ended_with schema.def c.rows (schema.keyed c.rows))
+changed_if_keyed schema (Err failure) = Err failure
+
 -- ---- positioned statements, of one row of the table
 
 -- the rows without one of them
@@ -207,3 +222,8 @@ updated_at ev plain schema sets row rows = then_of (set_row ev schema.def sets r
 -- DELETE of the row
 abbrev pub deleted_at : {E : Type 0} → Evaluator E → Schema E → List Datum → List (List Datum) → Result (List (List Datum)) Failure
 deleted_at plain schema row rows = ended plain schema (rows_but schema.def row rows)
+
+-- what a positioned UPDATE leaves, if all FOREIGN KEY constraints hold then
+abbrev pub moved_if_keyed : {E : Type 0} → Schema E → Result Moved Failure → Result Moved Failure
+moved_if_keyed schema (Ok m) = moving m.moved (ended_with schema.def m.rows (schema.keyed m.rows))
+moved_if_keyed schema (Err failure) = Err failure

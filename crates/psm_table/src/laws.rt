@@ -3,7 +3,7 @@ ghost use Rattle.std.specs.Prelude.{◌≡◌, ◌≢◌, ◌<◌, ◌≤◌, le
 ghost use Rattle.std.specs.List.{list_all};
 ghost use Rattle.psm_value.specs.declared.datum.Datum.{Datum};
 ghost use Rattle.psm_table.specs.declared.definition.TableDef.{TableDef};
-ghost use Rattle.psm_table.specs.Changing.{are_apart, deleted, deleted_at, ended, ended_with, in_order, inserted, is_before, is_filled, keep_rules, row_is_stored, rows_pass, updated, updated_at, Changed, IsLegal, Moved, Schema, SetItem};
+ghost use Rattle.psm_table.specs.Changing.{are_apart, changed_if_keyed, deleted, deleted_at, ended, ended_with, if_keyed, in_order, inserted, is_before, is_filled, keep_rules, keyless, moved_if_keyed, row_is_stored, rows_pass, updated, updated_at, Changed, IsLegal, Moved, Schema, SetItem};
 ghost use Rattle.psm_table.specs.Definition.{kinds_of};
 ghost use Rattle.psm_table.specs.Cursors.{Position, advanced, current, lies_past, without_row as left_row};
 ghost use Rattle.psm_table.specs.Evaluator.{Evaluator};
@@ -66,6 +66,16 @@ pub fn statements_leave_keyed_tables()
     ensures deleted { (ev plain : Evaluator ℕ) (schema : Schema ℕ) (test : Option ℕ) (rows : List (List Datum)) (c : Changed) → deleted ev plain schema test rows ≡ Ok c → schema.keyed c.rows ≡ true }
     ensures updated_at { (ev plain : Evaluator ℕ) (schema : Schema ℕ) (sets : List (SetItem ℕ)) (row : List Datum) (rows : List (List Datum)) (m : Moved) → updated_at ev plain schema sets row rows ≡ Ok m → schema.keyed m.rows ≡ true }
     ensures deleted_at { (plain : Evaluator ℕ) (schema : Schema ℕ) (row : List Datum) (rows after : List (List Datum)) → deleted_at plain schema row rows ≡ Ok after → schema.keyed after ≡ true }
+{}
+
+/// FOREIGN KEY constraints are tested last (ISO/IEC 9075:1992, 11.8): a statement ends as it does where none is asked, and where that
+/// leaves rows, these are what it leaves if all constraints hold with them, and else it fails.
+pub fn foreign_keys_come_last()
+    ensures inserted { (plain : Evaluator ℕ) (schema : Schema ℕ) (new rows : List (List Datum)) → inserted plain schema new rows ≡ changed_if_keyed schema (inserted plain (keyless schema) new rows) }
+    ensures updated { (ev plain : Evaluator ℕ) (schema : Schema ℕ) (sets : List (SetItem ℕ)) (test : Option ℕ) (rows : List (List Datum)) → updated ev plain schema sets test rows ≡ changed_if_keyed schema (updated ev plain (keyless schema) sets test rows) }
+    ensures deleted { (ev plain : Evaluator ℕ) (schema : Schema ℕ) (test : Option ℕ) (rows : List (List Datum)) → deleted ev plain schema test rows ≡ changed_if_keyed schema (deleted ev plain (keyless schema) test rows) }
+    ensures updated_at { (ev plain : Evaluator ℕ) (schema : Schema ℕ) (sets : List (SetItem ℕ)) (row : List Datum) (rows : List (List Datum)) → updated_at ev plain schema sets row rows ≡ moved_if_keyed schema (updated_at ev plain (keyless schema) sets row rows) }
+    ensures deleted_at { (plain : Evaluator ℕ) (schema : Schema ℕ) (row : List Datum) (rows : List (List Datum)) → deleted_at plain schema row rows ≡ if_keyed schema (deleted_at plain (keyless schema) row rows) }
 {}
 
 /// What a statement on table t has to look at where all FOREIGN KEY constraints held (ISO/IEC 9075:1992, 11.8). A constraint that names
