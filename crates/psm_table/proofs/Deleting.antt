@@ -8,7 +8,7 @@ use Rattle.std.proofs.lemmas.List.Elements.{All-cons, All-head, All-tail}
 use Rattle.std.proofs.lemmas.List.Kept.{AllPairs-cons}
 use Rattle.psm_sqlstate.specs.declared.state.SqlState.{SqlState}
 use Rattle.psm_value.specs.declared.datum.Datum.{Datum}
-use Rattle.psm_table.specs.Changing.{counting, deleted, divided, ended, ended_with, keep_rules, rows_pass, then_of, Changed, Division, Failure, IsLegal, Schema}
+use Rattle.psm_table.specs.Changing.{counting, deleted, divided, ended, ended_with, keep_rules, keyless, rows_pass, then_of, Changed, Division, Failure, IsLegal, Schema}
 use Rattle.psm_table.specs.Evaluator.{Evaluator}
 use Rattle.psm_table.specs.Key.{key_order, values_at}
 use Rattle.psm_table.specs.Rows.{IsAscending}
@@ -23,9 +23,9 @@ Row = List Datum
 abbrev Rises : List ℕ → Row → Row → Type 0
 Rises key a b = key_order (values_at key a) (values_at key b) ≡ Less
 
--- the rows that don't meet the test, and how many do, if all FOREIGN KEY constraints hold
-abbrev pub taken_out : {E : Type 0} → Evaluator E → Schema E → Option E → List Row → Result Changed Failure
-taken_out ev schema test rows = then_of (divided ev test (λ row. Ok row) rows) (λ p. counting (length p.made) (ended_with schema.def p.left (schema.keyed p.left)))
+-- the rows that don't meet the test, and how many do
+abbrev pub taken_out : {E : Type 0} → Evaluator E → Option E → List Row → Result Changed Failure
+taken_out ev test rows = then_of (divided ev test (λ row. Ok row) rows) (λ p. Ok (record { rows = p.left; count = length p.made }))
 
 -- ---- what is left
 
@@ -62,13 +62,18 @@ module _ {E : Type 0} (plain : Evaluator E) (schema : Schema E) where
       ∙ ap (λ b. ended_with schema.def rows (b && schema.keyed rows)) h.rules
       )
 
-  pub deleted_legally : (ev : Evaluator E) (test : Option E) (rows : List Row) → IsLegal plain schema rows → IsAscending schema.def.key rows → length rows ≤ most_rows → deleted ev plain schema test rows ≡ taken_out ev schema test rows
+module _ {E : Type 0} (plain : Evaluator E) (schema : Schema E) where
+  without_keys : (rows : List Row) → IsLegal plain (keyless schema) rows → IsAscending schema.def.key rows → length rows ≤ most_rows → ended plain (keyless schema) rows ≡ Ok rows
+  without_keys rows h up few = ended_legal plain (keyless schema) rows h up few
+
+  -- where no FOREIGN KEY constraint is asked, the statement does not fail at its end
+  pub deleted_legally : (ev : Evaluator E) (test : Option E) (rows : List Row) → IsLegal plain (keyless schema) rows → IsAscending schema.def.key rows → length rows ≤ most_rows → deleted ev plain (keyless schema) test rows ≡ taken_out ev test rows
   deleted_legally ev test rows h up few = by (divided ev test (λ row. Ok row) rows) refl
     where
       by : (d : Result Division SqlState) → divided ev test (λ row. Ok row) rows ≡ d
-          → then_of d (λ p. counting (length p.made) (ended plain schema p.left)) ≡ then_of d (λ p. counting (length p.made) (ended_with schema.def p.left (schema.keyed p.left)))
+          → then_of d (λ p. counting (length p.made) (ended plain (keyless schema) p.left)) ≡ then_of d (λ p. Ok (record { rows = p.left; count = length p.made }))
       by (Ok p) e =
           let l : length p.left ≤ length rows = left_few ev test schema.def.key rows p e in
           ap (counting (length p.made))
-          (ended_legal p.left (legal_left ev plain schema test (λ row. Ok row) rows p e h) (left_ascends ev test schema.def.key rows p e up).0 (omega (arith, few, l)))
+          (without_keys p.left (legal_left ev plain (keyless schema) test (λ row. Ok row) rows p e h) (left_ascends ev test schema.def.key rows p e up).0 (omega (arith, few, l)))
       by (Err s) e = refl
