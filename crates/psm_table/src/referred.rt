@@ -13,7 +13,7 @@ use psm_value::Datum;
 pub(crate) fn has_row_with(mut rows: RowsLeft<'_>, columns: &[u32], values: &[Datum]) -> bool
     requires columns { All (λ row. AreColumnsOf row columns.now) rows }
     requires filled { has_null values.now ≡ false }
-    ensures { result ≡ has_values columns.now values.now rows }
+    ensures { result ≡ has_values columns.now values.now rows.entry }
 {
     'rows: while let Some(row) = rows.next() {
         if has_in(row.values(), columns, values) {
