@@ -1,4 +1,4 @@
-use Rattle.std.proofs.Common.{◌≡◌, Bool, Some, true, false, arith, ap, reverse, ◌∙◌}
+use Rattle.std.proofs.Common.{◌≡◌, Some, true, false, arith, ap, reverse, ◌∙◌}
 use Rattle.psm_code.specs.Rules.{there}
 use Rattle.psm_unwind.specs.Actions.{activating_of, stacked_in}
 use Rattle.psm_unwind.specs.View.{machine_of}

@@ -1,4 +1,4 @@
-use Rattle.std.proofs.Common.{Some, None, ◌≡◌, option_map, reverse, ap, sym, ◌∙◌}
+use Rattle.std.proofs.Common.{Some, option_map, reverse, ap, sym, ◌∙◌}
 use Rattle.psm_cond.specs.Area.{Diagnostics}
 use Rattle.psm_unwind.specs.Actions.{activating_of}
 use Rattle.psm_unwind.specs.View.{machine_of}
