@@ -54,7 +54,7 @@ def statements():
     found = []
     for name in ("table", "module", "routine", "block", "simple", "decl", "cursor", "handler", "command"):
         for part in production(name):
-            words = re.match(r"(GET DIAGNOSTICS|CREATE \w+|[A-Z]+)", part)
+            words = re.match(r"(CREATE \w+|[A-Z]+)", part)
             found += [words[1]] if words else []
     return sorted(set(found))
 

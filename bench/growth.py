@@ -7,7 +7,7 @@ import tempfile
 from pathlib import Path
 
 from kinds import KINDS
-from measure import MOST_BYTES, MOST_TOKENS, ROOT, TURNS, once, program_of, write
+from measure import FIRST, MOST_BYTES, MOST_TOKENS, ROOT, TURNS, once, program_of, write
 
 sys.path.insert(0, str(ROOT / "launcher"))
 from tokens import FORMS  # noqa: E402
@@ -65,10 +65,10 @@ def measured(kind, size, program, chosen):
     """The run of the least processor seconds."""
     files = kind.make(size)
     with tempfile.TemporaryDirectory(prefix="psm-growth-") as folder:
-        write(folder, files.module, files.script)
+        write(folder, files.first, files.script, files.command)
         best = None
         for _ in range(RUNS):
-            run = once(program, folder, TURNS, chosen.seconds, chosen.memory)
+            run = once(program, folder, TURNS, chosen.seconds, chosen.memory, files.command)
             check(run, files.ends, chosen)
             best = min(best or run, run, key=lambda each: each.seconds)
             if run.seconds > LONG:
@@ -153,10 +153,10 @@ def write_files(chosen):
             files = kind.make(size)
             folder = Path(chosen.write) / kind.name / str(size)
             folder.mkdir(parents=True, exist_ok=True)
-            write(folder, files.module, files.script)
+            write(folder, files.first, files.script, files.command)
             (folder / "ends.txt").write_text(files.ends, encoding="utf-8")
-            for name, text in (("module", files.module), ("script", files.script)):
-                bytes_of, tokens = len(text.encode()), count_of_tokens(text)
+            for name, text in ((FIRST[files.command], files.first), ("script.sql", files.script)):
+                bytes_of, tokens = len(text.encode()), 0 if name == FIRST["exec"] else count_of_tokens(text)
                 is_over = bytes_of > MOST_BYTES or tokens > MOST_TOKENS
                 status = status or int(is_over)
                 print(f"{kind.name:28} {size:7}  {name}  {bytes_of:9} bytes  {tokens:8} tokens{'  TOO LARGE' * is_over}", flush=True)

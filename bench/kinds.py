@@ -1,4 +1,4 @@
-"""The kinds of files whose cost growth.py measures: for each a module and a script of a size, and the end of the output.
+"""The kinds of files whose cost growth.py measures: for each a module or an object and a script of a size, and the end of the output.
 
 A function of this file marked by `kind` makes them. Its sizes are at most `most`: more is above the limits of files or
 tables, or has an output or variables of gigabytes (select_items_in_script, long_variables).
@@ -11,8 +11,8 @@ import string
 from measure import MOST_ROWS, in_module
 
 Kind = collections.namedtuple("Kind", "name make largest most counts_rows runs")
-# The end of the output is compared with `ends`.
-Files = collections.namedtuple("Files", "module script ends")
+# The first file is a module for the command run, and an object for exec. The end of the output is compared with `ends`.
+Files = collections.namedtuple("Files", "first script ends command", defaults=["run"])
 
 KINDS = {}
 TABLE = "CREATE TABLE t (k INTEGER PRIMARY KEY, v INTEGER);\n"
@@ -400,6 +400,44 @@ def leaves(n):
     leaves_of = many(n, lambda i: f"IF x = {i} THEN LEAVE l; END IF;")
     body = f"PROCEDURE p (IN x INTEGER, OUT r INTEGER) l: BEGIN SET r = 1;\n{leaves_of}\nSET r = 2; END;"
     return Files(in_module(body), f"CALL p({n - 1}, ?);\nCALL p({n}, ?);\n", called(1) + called(2, 2))
+
+
+# Objects, whose tables and lists of columns have no bound but that of the file.
+
+
+def columns_of(n):
+    return many(n, lambda i: f"COL 'C{i}' INTEGER 1 NULL")
+
+
+def all_of(n):
+    return many(n, str, " ")
+
+
+def object_of(table, plan, lines):
+    """A table, and a procedure with a plan and these lines."""
+    routine = f"ROUTINE P 'P' 0 0 0 0 1 0 0 0 {lines.count(chr(10)) + 1} -"
+    return Files(f"PSM 2 1 1\n{table}\n{routine}\n{plan}\n{lines}\n", "SELECT COUNT(*) FROM t;\n", "1 SELECT\nROW 0\nOK\n", "exec")
+
+
+@kind(40_000, 330_000)
+def object_columns(n):
+    """an object with a table of n columns, all of which its KEY, its UNIQUE list and an INSERT name"""
+    table = f"TABLE 'T' {n} 1 0\n{columns_of(n)}\nKEY {all_of(n)}\nUNI {all_of(n)}"
+    return object_of(table, f"PLAN INSERT 0 1 {all_of(n)}", "0 - - END")
+
+
+@kind(40_000, 270_000)
+def object_sets(n):
+    """an object with an UPDATE that sets each of n columns of a table"""
+    sets = many(n, lambda i: f"SET {i}\nEXPR 1\n- CONST N 1")
+    return object_of(f"TABLE 'T' {n} 0 0\n{columns_of(n)}\nKEY 0", f"PLAN UPDATE 0 {n} 0\n{sets}", "0 - - END")
+
+
+@kind(40_000, 300_000)
+def object_inserts(n):
+    """an object with n INSERTs of no row for each of n columns of a table"""
+    lines = many(n, lambda i: f"0 {i + 1} - DATA 0")
+    return object_of(f"TABLE 'T' {n} 0 0\n{columns_of(n)}\nKEY 0", f"PLAN INSERT 0 0 {all_of(n)}", lines + "\n0 - - END")
 
 
 # Rows.

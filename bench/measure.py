@@ -15,6 +15,8 @@ MOST_ROWS = 200_000
 TURNS = 10**12
 # Of the output this many bytes are kept.
 KEPT = 4096
+# The file that a command reads before the script.
+FIRST = {"run": "module.sql", "exec": "object.txt"}
 
 # seconds are those of the processor, elapsed those of the clock; memory is the peak in KB; written is the end of the output.
 Run = collections.namedtuple("Run", "status seconds elapsed memory written")
@@ -38,14 +40,14 @@ def in_module(text):
     return "CREATE MODULE m " + text + " END MODULE"
 
 
-def write(folder, module, script):
-    (Path(folder) / "module.sql").write_text(module, encoding="utf-8")
+def write(folder, first, script, command="run"):
+    (Path(folder) / FIRST[command]).write_text(first, encoding="utf-8")
     (Path(folder) / "script.sql").write_text(script, encoding="utf-8")
 
 
-def once(program, folder, turns=None, seconds=0, megabytes=0):
-    """Runs the program on the module and the script in the folder, with so much time and memory at most, or any."""
-    words = [program, "run", str(Path(folder) / "module.sql"), str(Path(folder) / "script.sql")]
+def once(program, folder, turns=None, seconds=0, megabytes=0, command="run"):
+    """Runs the program on the module, or the object, and the script in the folder, with so much time and memory at most, or any."""
+    words = [program, command, str(Path(folder) / FIRST[command]), str(Path(folder) / "script.sql")]
     if turns:
         words += ["--turns", str(turns)]
     return measured(folder, words, seconds, megabytes)

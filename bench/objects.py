@@ -160,7 +160,7 @@ NO_OPERANDS = (
 )
 OTHERS = (
     *("STORE", "FSTORE", "CALL", "FCALL", "RETV", "EXISTS", "SCALAR", "ROW", "DATA", "FETCH", "NEXT"),
-    *("SIGM", "RESIGM", "GETS", "GETC"),
+    *("SIGM", "RESIGM", "GETS", "GETC", "SGETS", "SGETC"),
 )
 IS_OPERATION = {*OPERATIONS, *COMPARISONS, *OTHER_OPERATIONS}
 SHAPES = {
@@ -170,8 +170,8 @@ SHAPES = {
     "TRIM": ["side"],
     "CAST": ["t"],
     "NEXT": ["n", "n"],
-    "GETS": ["item"],
-    "GETC": ["entry"],
+    **{it: ["item"] for it in ("GETS", "SGETS")},
+    **{it: ["entry"] for it in ("GETC", "SGETC")},
     **{it: ["n"] for it in ("VAR", "COL", "STORE", "FSTORE", "IN", "JMP", "JNOT", "JSET", "ENTER", "EXIT", "ENDACT")},
     **{it: ["n"] for it in ("CALL", "FCALL", "EXISTS", "SCALAR", "ROW", "DATA", "OPEN", "CLOSE", "FETCH")},
     **{it: ["n"] for it in ("SIG", "SIGM", "RESIGC", "RESIGM")},
@@ -179,7 +179,8 @@ SHAPES = {
 MAY_RAISE = {
     *("ADD", "SUB", "MUL", "DIV", "SCALE", "CAT", "SUB2", "SUB3", "LIKE", "LIKEE", "CAST"),
     *("STORE", "FSTORE", "WARN", "CALL", "FCALL", "RETV", "NORET", "EXISTS", "SCALAR", "ROW", "DATA"),
-    *("OPEN", "CLOSE", "FETCH", "NEXT", "SIG", "SIGM", "RESIG", "RESIGC", "RESIGM", "NOCASE", "GETC"),
+    *("OPEN", "CLOSE", "FETCH", "NEXT", "SIG", "SIGM", "RESIG", "RESIGC", "RESIGM", "NOCASE"),
+    *("GETS", "GETC", "SGETS", "SGETC"),
 }
 STOPS = ("RETV", "END", "NORET", "ENDACT", "NOCASE", "JMP")
 JUMPS = ("JMP", "JNOT", "JSET", "NEXT")
@@ -232,7 +233,7 @@ Line = collections.namedtuple("Line", "at context resume stack instruction")
 
 # ---- Reading: each line says by its numbers which lines follow.
 
-HEAD = re.compile(f"PSM 1 {NUMBER} {NUMBER}")
+HEAD = re.compile(f"PSM 2 {NUMBER} {NUMBER}")
 TABLE = re.compile(f"TABLE {NAME} {NUMBER} {NUMBER} {NUMBER}")
 COLUMN = re.compile(f"COL {NAME} {TYPE} ([01]) {DATUM}")
 KEY = re.compile(f"KEY {NUMBERS}")
@@ -819,8 +820,8 @@ def known_after(code, routine, line):
         return exchanged(line.stack, letter_of(routine.type), "")
     if mnemonic in ("SIGM", "RESIGM"):
         return exchanged(line.stack, "T", "")
-    if mnemonic in ("GETS", "GETC"):
-        return exchanged(line.stack, "" if mnemonic == "GETS" else "N", ITEMS.get(operands[0], "T"))
+    if mnemonic in ("GETS", "GETC", "SGETS", "SGETC"):
+        return exchanged(line.stack, "N" if mnemonic.endswith("C") else "", ITEMS.get(operands[0], "T"))
     if mnemonic in ("CALL", "FCALL"):
         return after_call(code.routines[operands[0]], mnemonic, line.stack)
     if mnemonic == "DATA":

@@ -1,4 +1,4 @@
--- A handler writes what GET DIAGNOSTICS tells of an error into a log, and RESIGNAL raises it again with the job's number.
+-- A handler writes what GET STACKED DIAGNOSTICS tells of an error into a log, and RESIGNAL raises it again with the job's number.
 CREATE TABLE error_log (
   no      INTEGER PRIMARY KEY,
   state   CHAR(5) NOT NULL,
@@ -6,14 +6,15 @@ CREATE TABLE error_log (
   job     INTEGER
 );
 CREATE TABLE job (
-  id    INTEGER PRIMARY KEY,
-  total INTEGER,
-  parts INTEGER,
-  share NUMERIC(9,2)
+  id       INTEGER PRIMARY KEY,
+  total    INTEGER,
+  parts    INTEGER,
+  share    NUMERIC(9,2),
+  failures INTEGER DEFAULT 0 NOT NULL
 );
 
 CREATE MODULE jobs
-  -- A CALL empties the diagnostics area, so a handler reads it first and hands over what it read.
+  -- In a procedure that an action calls no action runs, so a handler reads the error itself and hands over what it read.
   PROCEDURE log_error (IN state CHAR(5), IN message VARCHAR(40), IN job INTEGER)
     INSERT INTO error_log VALUES (COALESCE((SELECT MAX(no) FROM error_log), 0) + 1, state, message, job);
 
@@ -23,7 +24,9 @@ CREATE MODULE jobs
         BEGIN
           DECLARE state CHAR(5);
           DECLARE message VARCHAR(40);
-          GET DIAGNOSTICS EXCEPTION 1 state = RETURNED_SQLSTATE, message = MESSAGE_TEXT;
+          -- The UPDATE empties the current diagnostics area, and the stacked one still has the error.
+          UPDATE job SET failures = failures + 1 WHERE id = job_id;
+          GET STACKED DIAGNOSTICS EXCEPTION 1 state = RETURNED_SQLSTATE, message = MESSAGE_TEXT;
           CALL log_error(state, message, job_id);
           RESIGNAL SQLSTATE '45200' SET MESSAGE_TEXT = 'job ' || CAST(job_id AS VARCHAR(11)) || ' failed';
         END;
@@ -36,11 +39,11 @@ CREATE MODULE jobs
       DECLARE entries INTEGER;
       DECLARE CONTINUE HANDLER FOR SQLSTATE '45200'
         BEGIN
-          IF first_cause IS NULL THEN
-            GET DIAGNOSTICS entries = NUMBER;
-            GET DIAGNOSTICS EXCEPTION entries first_cause = MESSAGE_TEXT;
-          END IF;
           SET failed = failed + 1;
+          IF first_cause IS NULL THEN
+            GET STACKED DIAGNOSTICS entries = NUMBER;
+            GET STACKED DIAGNOSTICS EXCEPTION entries first_cause = MESSAGE_TEXT;
+          END IF;
         END;
       SET failed = 0;
       FOR j AS SELECT id FROM job DO

@@ -3,4 +3,4 @@ CALL compute(1);
 CALL compute(2);
 CALL compute_all(?, ?);
 SELECT * FROM error_log;
-SELECT id, share FROM job;
+SELECT id, share, failures FROM job;

@@ -12,7 +12,7 @@ const FIVE_SEVEN: &str = "CALL P ( 5 , 7 , ? ) ;\n";
 
 const THREE_LINES: &str = "1 CALL P\nB = 3\nC = NULL\nOK\n";
 
-const THREE_MODES_LISTING: &str = "PSM 1 0 1
+const THREE_MODES_LISTING: &str = "PSM 2 0 1
 ROUTINE P 'P' 3 0 0 0 0 0 0 0 8 -
 PAR IN 'A' INTEGER
 PAR INOUT 'B' INTEGER
@@ -47,12 +47,31 @@ fn call(
     module_file: &str,
     script: &str,
 ) -> Result<(Status, String), Fail> {
+    failing_call(
+        alloc,
+        given,
+        module_file,
+        script,
+        Vec::new(alloc),
+        Vec::new(alloc),
+    )
+}
+
+// The same where the fetches of these numbers fail, and the puts of these numbers, which keep so many bytes.
+fn failing_call(
+    alloc: Global,
+    given: &str,
+    module_file: &str,
+    script: &str,
+    fetches: Vec<u32>,
+    puts: Vec<(u32, usize)>,
+) -> Result<(Status, String), Fail> {
     let words = words(alloc, given)?;
     let mut held = Vec::new(alloc);
     held.push(file(alloc, "M", module_file)?)?;
     held.push(file(alloc, "S", script)?)?;
-    let mut shelf = MemShelf::new(alloc, held, Vec::new(alloc));
-    let mut out = MemSink::new(alloc, Vec::new(alloc));
+    let mut shelf = MemShelf::new(alloc, held, fetches);
+    let mut out = MemSink::new(alloc, puts);
     let status = psm(alloc, &words, &mut shelf, &mut out);
     let written = Vec::from_slice(alloc, out.bytes())?;
     Ok((status, String::from_utf8(written).ok().ok_or("text")?))
@@ -82,7 +101,7 @@ fn a_listing_and_a_script_print_their_lines(rt: HostRuntime) -> Result<(), Fail>
     let (answer, text) = call(
         rt.alloc(),
         "exec M S --turns 0",
-        "PSM 1 0 1\nROUTINE P 'P' 0 0 0 0 0 0 0 0 2 -\n0 - - JMP 2\n0 - - END\n",
+        "PSM 2 0 1\nROUTINE P 'P' 0 0 0 0 0 0 0 0 2 -\n0 - - JMP 2\n0 - - END\n",
         "CALL p();",
     )?;
     assert_eq!(rt; answer, Status::ObjectRefused);
@@ -168,5 +187,65 @@ fn a_file_over_the_bound_is_too_long(rt: HostRuntime) -> Result<(), Fail> {
         out.bytes(),
         b"M is longer than 16777216 bytes\n".as_slice()
     );
+    Ok(())
+}
+
+#[test]
+fn a_fetch_that_fails_is_told(rt: HostRuntime) -> Result<(), Fail> {
+    let alloc = rt.alloc();
+    for (given, fetch, written) in [
+        ("run M S", 1, "cannot read M\n"),
+        ("run M S", 2, "cannot read S\n"),
+        ("compile M", 1, "cannot read M\n"),
+        ("exec M S", 1, "cannot read M\n"),
+    ] {
+        let fetches = vec![in alloc; fetch]?;
+        let (answer, text) = failing_call(
+            alloc,
+            given,
+            THREE_MODES,
+            FIVE_SEVEN,
+            fetches,
+            Vec::new(alloc),
+        )?;
+        assert_eq!(rt; answer, Status::ReadFault, "at {given}");
+        assert_eq!(rt; text.as_str(), written, "at {given}");
+    }
+    Ok(())
+}
+
+#[test]
+fn a_line_about_a_fetch_that_fails_is_cut_by_a_put_that_fails(rt: HostRuntime) -> Result<(), Fail> {
+    let alloc = rt.alloc();
+    for (kept, written) in [
+        (0, ""),
+        (1, "c"),
+        (13, "cannot read M"),
+        (14, "cannot read M\n"),
+        (15, "cannot read M\n"),
+    ] {
+        let fetches = vec![in alloc; 1]?;
+        let puts = vec![in alloc; (1, kept)]?;
+        let (answer, text) = failing_call(
+            alloc,
+            "run M S",
+            THREE_MODES,
+            FIVE_SEVEN,
+            fetches,
+            puts,
+        )?;
+        assert_eq!(rt; answer, Status::WriteFault, "at {written}");
+        assert_eq!(rt; text.as_str(), written, "at {written}");
+    }
+    Ok(())
+}
+
+#[test]
+fn a_listing_is_cut_by_a_put_that_fails(rt: HostRuntime) -> Result<(), Fail> {
+    let alloc = rt.alloc();
+    let puts = vec![in alloc; (1, 10)]?;
+    let (answer, text) = failing_call(alloc, "compile M", THREE_MODES, "", Vec::new(alloc), puts)?;
+    assert_eq!(rt; answer, Status::WriteFault);
+    assert_eq!(rt; text.as_str(), "PSM 2 0 1\n");
     Ok(())
 }

@@ -28,6 +28,7 @@ use Rattle.psm_tree.specs.declared.statement.Condition.TheVariants as signals
 use Rattle.psm_tree.specs.declared.statement.ConditionNumber.{ConditionNumber}
 use Rattle.psm_tree.specs.declared.statement.ConditionNumber.TheVariants as numbers
 use Rattle.psm_tree.specs.declared.statement.Diagnostics.{Diagnostics}
+use Rattle.psm_tree.specs.declared.statement.DiagnosticsArea.{DiagnosticsArea}
 use Rattle.psm_tree.specs.declared.statement.Diagnostics.TheVariants as diagnostics
 use Rattle.psm_tree.specs.declared.statement.Signalled.{Signalled}
 use Rattle.psm_resolve_expr.specs.Exprs.{resolve_expr}
@@ -121,10 +122,10 @@ gotten e checker_scope resolver_scope a target place family item (x ∷ xs) none
     let first = neither (target_fault checker_scope.scopes (target x)) (breaks_if (not (is_same_family (family_due (target_type checker_scope.scopes (target x))) (family x))) rule.FamiliesMixed (place x)) parts.0 in
     (target_slot e checker_scope resolver_scope a (target x) first.0, gotten e checker_scope resolver_scope a target place family item xs parts.1)
 
-pub diagnostics_well_typed : (e : TypingContext) (checker_scope : CheckerScope) (resolver_scope : ResolverScope) → Agree e checker_scope resolver_scope → (d : Diagnostics) → diagnostics_fault checker_scope.scopes d ≡ None → AreDiagnostics e (diagnostics_of resolver_scope.scopes d)
-diagnostics_well_typed e checker_scope resolver_scope a (diagnostics.Statement items) none =
+pub diagnostics_well_typed : (e : TypingContext) (checker_scope : CheckerScope) (resolver_scope : ResolverScope) → Agree e checker_scope resolver_scope → (which : DiagnosticsArea) (d : Diagnostics) → diagnostics_fault checker_scope.scopes d ≡ None → AreDiagnostics e (diagnostics_of resolver_scope.scopes which d)
+diagnostics_well_typed e checker_scope resolver_scope a which (diagnostics.Statement items) none =
     gotten e checker_scope resolver_scope a (λ i. i.target) (λ i. i.place) (λ i. statement_item_family i.item) (λ i. making.statement_item i.item) (several items) none
-diagnostics_well_typed e checker_scope resolver_scope a (diagnostics.Condition number items) none =
+diagnostics_well_typed e checker_scope resolver_scope a which (diagnostics.Condition number items) none =
     let parts = neither (number_fault checker_scope.scopes number) (first_of (map (λ i. item_fault checker_scope.scopes i.target i.place (condition_item_family i.item)) (several items))) none in
     (number_well_typed e checker_scope resolver_scope a number parts.0, gotten e checker_scope resolver_scope a (λ i. i.target) (λ i. i.place) (λ i. condition_item_family i.item) (λ i. making.condition_item i.item) (several items) parts.1)
 

@@ -28,7 +28,7 @@ simple_well_typed e s c resolver_scope a m r w (simples.Iterate place label) wel
 simple_well_typed e s c resolver_scope a m r w (simples.Signal place signalled) well none = signal_well_typed e s c.checker_scope resolver_scope a m r signalled well none
 simple_well_typed e s c resolver_scope a m r w (simples.Resignal place None) well none = tt
 simple_well_typed e s c resolver_scope a m r w (simples.Resignal place (Some signalled)) well none = signal_well_typed e s c.checker_scope resolver_scope a m r signalled well none
-simple_well_typed e s c resolver_scope a m r w (simples.GetDiagnostics place which diagnostics) well none = diagnostics_well_typed e c.checker_scope resolver_scope a diagnostics none
+simple_well_typed e s c resolver_scope a m r w (simples.GetDiagnostics place which diagnostics) well none = diagnostics_well_typed e c.checker_scope resolver_scope a which diagnostics none
 simple_well_typed e s c resolver_scope a m r w (simples.SelectInto query targets) well none = select_into_well_typed e c.checker_scope resolver_scope a query targets well none
 simple_well_typed e s c resolver_scope a m r w (simples.Insert place table columns source) well none = insert_well_typed e c.checker_scope resolver_scope a r table columns source well (neither (only_in_procedures c.within place) (insert_fault c.checker_scope table (table_of c.checker_scope table) columns source) none).1
 simple_well_typed e s c resolver_scope a m r w (simples.Update place table assignments which) well none = update_well_typed e s c.checker_scope resolver_scope a m table assignments which well.0 well.1 (neither (only_in_procedures c.within place) (update_fault c.checker_scope table (table_of c.checker_scope table) assignments which) none).1

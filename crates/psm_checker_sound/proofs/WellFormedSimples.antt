@@ -20,6 +20,7 @@ use Rattle.psm_tree.specs.declared.expr.Expr.{Expr}
 use Rattle.psm_tree.specs.declared.expr.Select.{Select}
 use Rattle.psm_tree.specs.declared.statement.Assignment.{Assignment}
 use Rattle.psm_tree.specs.declared.statement.Diagnostics.{Diagnostics}
+use Rattle.psm_tree.specs.declared.statement.DiagnosticsArea.{DiagnosticsArea}
 use Rattle.psm_tree.specs.declared.statement.Diagnostics.TheVariants as diagnostics
 use Rattle.psm_tree.specs.declared.statement.InsertSource.{InsertSource}
 use Rattle.psm_tree.specs.declared.statement.InsertSource.TheVariants as sources
@@ -86,10 +87,12 @@ call_by e known letters s h is inside checker_scope resolver_scope a r n xs (Som
 
 -- ---- GET DIAGNOSTICS
 
-diagnostics_well_formed : (e : TypingContext) (known : Known) (letters : List (List Letter)) (s : places.StatementScope) (checker_scope : CheckerScope) (resolver_scope : ResolverScope) → Agree e checker_scope resolver_scope → (d : Diagnostics) → diagnostics_fault checker_scope.scopes d ≡ None → WellFormedSimple e known letters s (resolved.GetDiagnostics (diagnostics_of resolver_scope.scopes d))
-diagnostics_well_formed e known letters s checker_scope resolver_scope a (diagnostics.Statement items) none =
-    gotten e checker_scope resolver_scope a (λ i. i.target) (λ i. i.place) (λ i. statement_item_family i.item) (λ i. making.statement_item i.item) statement_letter (λ i. statement_letters i.item) (several items) none
-diagnostics_well_formed e known letters s checker_scope resolver_scope a (diagnostics.Condition number items) none =
+diagnostics_well_formed : (e : TypingContext) (known : Known) (letters : List (List Letter)) (s : places.StatementScope) (checker_scope : CheckerScope) (resolver_scope : ResolverScope) → Agree e checker_scope resolver_scope → (which : DiagnosticsArea) (d : Diagnostics) → diagnostics_fault checker_scope.scopes d ≡ None → WellFormedSimple e known letters s (resolved.GetDiagnostics (diagnostics_of resolver_scope.scopes which d))
+diagnostics_well_formed e known letters s checker_scope resolver_scope a which (diagnostics.Statement items) none = (
+  refl,
+  gotten e checker_scope resolver_scope a (λ i. i.target) (λ i. i.place) (λ i. statement_item_family i.item) (λ i. making.statement_item i.item) statement_letter (λ i. statement_letters i.item) (several items) none,
+)
+diagnostics_well_formed e known letters s checker_scope resolver_scope a which (diagnostics.Condition number items) none =
     let parts = neither (number_fault checker_scope.scopes number) (first_of (map (λ i. item_fault checker_scope.scopes i.target i.place (condition_item_family i.item)) (several items))) none in (
       refl,
       number_slot e checker_scope resolver_scope a number parts.0,
@@ -153,7 +156,7 @@ well_formed-simples e known h letters s c resolver_scope at (simples.Iterate pla
 well_formed-simples e known h letters s c resolver_scope at (simples.Signal place signalled) well none = signal_well_formed e h known at.is c.checker_scope resolver_scope at.agree at.outside at.conditions.good signalled well none
 well_formed-simples e known h letters s c resolver_scope at (simples.Resignal place None) well none = tt
 well_formed-simples e known h letters s c resolver_scope at (simples.Resignal place (Some signalled)) well none = signal_well_formed e h known at.is c.checker_scope resolver_scope at.agree at.outside at.conditions.good signalled well none
-well_formed-simples e known h letters s c resolver_scope at (simples.GetDiagnostics place which d) well none = diagnostics_well_formed e known letters s c.checker_scope resolver_scope at.agree d none
+well_formed-simples e known h letters s c resolver_scope at (simples.GetDiagnostics place which d) well none = diagnostics_well_formed e known letters s c.checker_scope resolver_scope at.agree which d none
 well_formed-simples e known h letters s c resolver_scope at (simples.SelectInto query targets) well none = select_into_well_formed e known h at.is c.checker_scope resolver_scope at.agree query targets well none
 well_formed-simples e known h letters s c resolver_scope at (simples.Insert place table names source) well none =
     let parts = neither (only_in_procedures c.within place) (insert_fault c.checker_scope table (table_of c.checker_scope table) names source) none in

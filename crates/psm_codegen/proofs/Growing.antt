@@ -170,8 +170,8 @@ grown-simple {context = context} {enclosing = enclosing} (simple.iterate {level 
 grown-simple {context = context} (simple.signal {s = s} {p = p} m) = declared-more s.condition p (grows-on (grows-plain context instruction.Clear {w = p.code}) (grows-signals m))
 grown-simple {context = context} {resume = resume} (simple.resignal {p = p}) = grown-code (grows-on (grows-plain context instruction.Clear {w = p.code}) (grows-takes context resume instruction.Resignal 0 {w = simple.cleared context p}))
 grown-simple {context = context} (simple.resignal_condition {s = s} {p = p} m) = declared-more s.condition p (grows-on (grows-plain context instruction.Clear {w = p.code}) (grows-signals m))
-grown-simple {context = context} {resume = resume} (simple.diagnostics_of_statement {is = is} {p = p}) = grown-code (grows-statement_items context resume is p.code)
-grown-simple {context = context} {resume = resume} (simple.diagnostics_of_condition {number = number} {is = is} {p = p}) = grown-code (grows-on (grows-applied context resume (number_op number) 0 N {w = p.code}) (grows-condition_items context resume is (applied context resume (number_op number) 0 N p.code)))
+grown-simple {context = context} {resume = resume} (simple.diagnostics_of_statement {area = area} {is = is} {p = p}) = grown-code (grows-statement_items context resume area is p.code)
+grown-simple {context = context} {resume = resume} (simple.diagnostics_of_condition {area = area} {number = number} {is = is} {p = p}) = grown-code (grows-on (grows-applied context resume (number_op number) 0 N {w = p.code}) (grows-condition_items context resume area is (applied context resume (number_op number) 0 N p.code)))
 grown-simple {known = known} {context = context} {resume = resume} (simple.select_into {query = query} {slots = slots} {p = p} {code = code} m) =
     let asked = with_query code (simple.cleared context p) in
     grown-code (grows-on (grows-plain context instruction.Clear {w = p.code}) (grows-on (grows-query code {w = simple.cleared context p})

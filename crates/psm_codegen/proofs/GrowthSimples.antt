@@ -1,6 +1,7 @@
 -- What is written for parts of simple statements stands after what was there.
 use Rattle.std.proofs.Common.{ℕ, Bool, true, false, List, [], ◌∷◌, nat_eq, Option, if◌then◌else◌}
 use Rattle.psm_cond.specs.declared.item.ConditionItem.{ConditionItem}
+use Rattle.psm_cond.specs.declared.item.DiagnosticsArea.{DiagnosticsArea}
 use Rattle.psm_cond.specs.declared.item.StatementItem.{StatementItem}
 use Rattle.psm_value.specs.declared.datum.Datum.TheVariants as data_of
 use Rattle.psm_exprcode.specs.declared.op.Letter.{Letter}
@@ -84,24 +85,24 @@ grows-signals {context = context} {resume = resume} {with_message = with_message
 
 -- ---- GET DIAGNOSTICS
 
-pub grows-statement_items : (context resume : ℕ) (items : List (ℕ × StatementItem)) (w : Written) → Grows w (statement_items context resume items w)
-grows-statement_items context resume [] w = grows-here
-grows-statement_items context resume (i ∷ items) w =
-    let asked = puts context resume (instruction.StatementItem i.1) 0 (statement_letter i.1 ∷ []) w in
-    grows-on (grows-puts context resume (instruction.StatementItem i.1) 0 (statement_letter i.1 ∷ []) {w = w})
-    (grows-on (grows-takes context resume (instruction.Store i.0) 1 {w = asked}) (grows-statement_items context resume items (takes context resume (instruction.Store i.0) 1 asked)))
+pub grows-statement_items : (context resume : ℕ) (area : DiagnosticsArea) (items : List (ℕ × StatementItem)) (w : Written) → Grows w (statement_items context resume area items w)
+grows-statement_items context resume area [] w = grows-here
+grows-statement_items context resume area (i ∷ items) w =
+    let asked = puts context resume (instruction.StatementItem area i.1) 0 (statement_letter i.1 ∷ []) w in
+    grows-on (grows-puts context resume (instruction.StatementItem area i.1) 0 (statement_letter i.1 ∷ []) {w = w})
+    (grows-on (grows-takes context resume (instruction.Store i.0) 1 {w = asked}) (grows-statement_items context resume area items (takes context resume (instruction.Store i.0) 1 asked)))
 
-pub grows-item_stored : (context resume : ℕ) (i : ℕ × ConditionItem) (w : Written) → Grows w (item_stored context resume i w)
-grows-item_stored context resume i w =
-    grows-on (grows-puts context resume (instruction.ConditionItem i.1) 1 (condition_letter i.1 ∷ []) {w = w})
-    (grows-takes context resume (instruction.Store i.0) 1 {w = puts context resume (instruction.ConditionItem i.1) 1 (condition_letter i.1 ∷ []) w})
+pub grows-item_stored : (context resume : ℕ) (area : DiagnosticsArea) (i : ℕ × ConditionItem) (w : Written) → Grows w (item_stored context resume area i w)
+grows-item_stored context resume area i w =
+    grows-on (grows-puts context resume (instruction.ConditionItem area i.1) 1 (condition_letter i.1 ∷ []) {w = w})
+    (grows-takes context resume (instruction.Store i.0) 1 {w = puts context resume (instruction.ConditionItem area i.1) 1 (condition_letter i.1 ∷ []) w})
 
-pub grows-condition_items : (context resume : ℕ) (items : List (ℕ × ConditionItem)) (w : Written) → Grows w (condition_items context resume items w)
-grows-condition_items context resume [] w = grows-here
-grows-condition_items context resume (i ∷ []) w = grows-item_stored context resume i w
-grows-condition_items context resume (i ∷ j ∷ items) w =
+pub grows-condition_items : (context resume : ℕ) (area : DiagnosticsArea) (items : List (ℕ × ConditionItem)) (w : Written) → Grows w (condition_items context resume area items w)
+grows-condition_items context resume area [] w = grows-here
+grows-condition_items context resume area (i ∷ []) w = grows-item_stored context resume area i w
+grows-condition_items context resume area (i ∷ j ∷ items) w =
     let two = applied context resume op.Duplicate 0 N w in
-    grows-on (grows-applied context resume op.Duplicate 0 N {w = w}) (grows-on (grows-item_stored context resume i two) (grows-condition_items context resume (j ∷ items) (item_stored context resume i two)))
+    grows-on (grows-applied context resume op.Duplicate 0 N {w = w}) (grows-on (grows-item_stored context resume area i two) (grows-condition_items context resume area (j ∷ items) (item_stored context resume area i two)))
 
 -- ---- INSERT
 

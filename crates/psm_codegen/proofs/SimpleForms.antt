@@ -2,6 +2,7 @@
 -- and the parts are p.
 use Rattle.std.proofs.Common.{◌≡◌, ℕ, ◌-◌, List, length, Option, Some, None, ap, sym, refl, subst, ◌∙◌}
 use Rattle.psm_cond.specs.declared.item.ConditionItem.{ConditionItem}
+use Rattle.psm_cond.specs.declared.item.DiagnosticsArea.{DiagnosticsArea}
 use Rattle.psm_cond.specs.declared.item.StatementItem.{StatementItem}
 use Rattle.psm_exprcode.specs.declared.op.Letter.{Letter}
 use Rattle.psm_exprcode.specs.declared.op.Letter.TheVariants.{N}
@@ -76,16 +77,16 @@ resignal_condition_written {known} {context} {resume} {i} {p} {u} {w} s n h m b 
 
 -- ---- the diagnostics area
 
-pub statement_read : {known : Known} {context resume : ℕ} {i p : FunctionBuilder} {v : Written} (d : ResolvedDiagnostics) (is : List (ℕ × StatementItem)) → i ≡ p → d ≡ area.Statement is → v ≡ statement_items context resume is i.code
+pub statement_read : {known : Known} {context resume : ℕ} {i p : FunctionBuilder} {v : Written} (d : ResolvedDiagnostics) (which : DiagnosticsArea) (is : List (ℕ × StatementItem)) → i ≡ p → d ≡ area.Statement which is → v ≡ statement_items context resume which is i.code
     → WritesAnywhere known context resume (simples.GetDiagnostics d) p (with_code v i)
-statement_read {known} {context} {resume} {i} {p} {v} d is h m f =
+statement_read {known} {context} {resume} {i} {p} {v} d which is h m f =
     subst (λ z. WritesAnywhere known context resume (simples.GetDiagnostics z) p (with_code v i)) (sym m) (closes h (λ enclosing. written.diagnostics_of_statement) (ap (λ z. with_code z i) f))
 
-pub condition_read : {known : Known} {context resume : ℕ} {i p : FunctionBuilder} {u v : Written} (d : ResolvedDiagnostics) (number : ResolvedNumber) (is : List (ℕ × ConditionItem)) (o : Op) → i ≡ p → d ≡ area.Condition number is → o ≡ number_op number
-    → u ≡ applied context resume o 0 N i.code → v ≡ condition_items context resume is u → WritesAnywhere known context resume (simples.GetDiagnostics d) p (with_code v i)
-condition_read {known} {context} {resume} {i} {p} {u} {v} d number is o h m l b f =
+pub condition_read : {known : Known} {context resume : ℕ} {i p : FunctionBuilder} {u v : Written} (d : ResolvedDiagnostics) (which : DiagnosticsArea) (number : ResolvedNumber) (is : List (ℕ × ConditionItem)) (o : Op) → i ≡ p → d ≡ area.Condition which number is → o ≡ number_op number
+    → u ≡ applied context resume o 0 N i.code → v ≡ condition_items context resume which is u → WritesAnywhere known context resume (simples.GetDiagnostics d) p (with_code v i)
+condition_read {known} {context} {resume} {i} {p} {u} {v} d which number is o h m l b f =
     subst (λ z. WritesAnywhere known context resume (simples.GetDiagnostics z) p (with_code v i)) (sym m)
-    (closes h (λ enclosing. written.diagnostics_of_condition) (ap (λ z. with_code z i) (f ∙ ap (condition_items context resume is) (b ∙ ap (λ z. applied context resume z 0 N i.code) l))))
+    (closes h (λ enclosing. written.diagnostics_of_condition) (ap (λ z. with_code z i) (f ∙ ap (condition_items context resume which is) (b ∙ ap (λ z. applied context resume z 0 N i.code) l))))
 
 -- ---- queries and changes
 

@@ -247,13 +247,14 @@ module _ (file : ResolvedFile) (code : RawCode) (routine : ResolvedRoutine) (r :
   simple_stands (written.signal {s = s} {p = p} m) e seen kept f = signalled_stand (λ n. instruction.Signal n) (λ n. instruction.SignalMessage n) s p m kept f e
   simple_stands (written.resignal {p = p}) e seen kept f = one-following instruction.Resignal p kept.code e
   simple_stands (written.resignal_condition {s = s} {p = p} m) e seen kept f = signalled_stand (λ n. instruction.ResignalCondition n) (λ n. instruction.ResignalMessage n) s p m kept f e
-  simple_stands (written.diagnostics_of_statement {is = is} {p = p}) e seen kept f = subst (stands.StatementItems r context resume is (at p)) (sym e) (statement_items_stand context resume is p.code kept.code)
-  simple_stands (written.diagnostics_of_condition {number = number} {is = []} {p = p}) e seen kept f = absurd f
-  simple_stands (written.diagnostics_of_condition {number = number} {is = i ∷ is} {p = p}) e seen kept f =
+  simple_stands (written.diagnostics_of_statement {is = []} {p = p}) e seen kept f = absurd f
+  simple_stands (written.diagnostics_of_statement {area = area} {is = i ∷ is} {p = p}) e seen kept f = subst (stands.StatementItems r context resume area (i ∷ is) (at p)) (sym e) (statement_items_stand context resume area (i ∷ is) p.code kept.code)
+  simple_stands (written.diagnostics_of_condition {area = area} {number = number} {is = []} {p = p}) e seen kept f = absurd f
+  simple_stands (written.diagnostics_of_condition {area = area} {number = number} {is = i ∷ is} {p = p}) e seen kept f =
       let first = applied context resume (number_op number) 0 N p.code in (
-        subst (Raising r context resume (at p)) (number-is number) (raising_there p.code (begins-earlier (grows-condition_items context resume (i ∷ is) first) kept.code).lines),
-        subst (λ n. stands.ConditionItems r context resume i is n resume) (here-applied context resume (number_op number) 0 N p.code)
-            (subst (stands.ConditionItems r context resume i is (here first)) (sym e) (condition_items_stand context resume i is first kept.code)),
+        subst (Raising r context resume (at p)) (number-is number) (raising_there p.code (begins-earlier (grows-condition_items context resume area (i ∷ is) first) kept.code).lines),
+        subst (λ n. stands.ConditionItems r context resume area i is n resume) (here-applied context resume (number_op number) 0 N p.code)
+            (subst (stands.ConditionItems r context resume area i is (here first)) (sym e) (condition_items_stand context resume area i is first kept.code)),
       )
   simple_stands (written.select_into {query = query} {slots = slots} {p = p} {code = asked} m) e seen kept f =
       let n = length p.code.queries in

@@ -1,6 +1,7 @@
 -- The lines that are written for parts of simple statements stand for them.
 use Rattle.std.proofs.Common.{◌≡◌, ℕ, suc, List, [], ◌∷◌, Option, Some, ap, sym, refl, ◌∙◌, subst}
 use Rattle.psm_cond.specs.declared.item.ConditionItem.{ConditionItem}
+use Rattle.psm_cond.specs.declared.item.DiagnosticsArea.{DiagnosticsArea}
 use Rattle.psm_cond.specs.declared.item.StatementItem.{StatementItem}
 use Rattle.psm_value.specs.declared.datum.Datum.TheVariants as data_of
 use Rattle.psm_exprcode.specs.declared.op.Letter.{Letter}
@@ -62,45 +63,45 @@ copied_stands context resume (slot ∷ t ∷ slots) w {r} b =
 
 -- ---- GET DIAGNOSTICS
 
-pub statement_items_stand : (context resume : ℕ) (items : List (ℕ × StatementItem)) (w : Written) {r : RawRoutine} → Begins (statement_items context resume items w) r
-    → stands.StatementItems r context resume items (here w) (here (statement_items context resume items w))
-statement_items_stand context resume [] w b = refl
-statement_items_stand context resume (i ∷ items) w {r} b =
-    let asked = puts context resume (instruction.StatementItem i.1) 0 (statement_letter i.1 ∷ []) w in
+pub statement_items_stand : (context resume : ℕ) (area : DiagnosticsArea) (items : List (ℕ × StatementItem)) (w : Written) {r : RawRoutine} → Begins (statement_items context resume area items w) r
+    → stands.StatementItems r context resume area items (here w) (here (statement_items context resume area items w))
+statement_items_stand context resume area [] w b = refl
+statement_items_stand context resume area (i ∷ items) w {r} b =
+    let asked = puts context resume (instruction.StatementItem area i.1) 0 (statement_letter i.1 ∷ []) w in
     let next = takes context resume (instruction.Store i.0) 1 asked in
-    let end = statement_items context resume items next in
-    let following = begins-earlier (grows-statement_items context resume items next) b in
-    let one : here asked ≡ suc (here w) = here-puts context resume (instruction.StatementItem i.1) 0 (statement_letter i.1 ∷ []) w in (
+    let end = statement_items context resume area items next in
+    let following = begins-earlier (grows-statement_items context resume area items next) b in
+    let one : here asked ≡ suc (here w) = here-puts context resume (instruction.StatementItem area i.1) 0 (statement_letter i.1 ∷ []) w in (
       raising_there w (begins-earlier (grows-takes context resume (instruction.Store i.0) 1 {w = asked}) following).lines,
       subst (λ n. Raising r context resume n (instruction.Store i.0)) one (raising_there asked following.lines),
-      subst (λ n. stands.StatementItems r context resume items n (here end)) (here-takes context resume (instruction.Store i.0) 1 asked ∙ ap suc one) (statement_items_stand context resume items next b),
+      subst (λ n. stands.StatementItems r context resume area items n (here end)) (here-takes context resume (instruction.Store i.0) 1 asked ∙ ap suc one) (statement_items_stand context resume area items next b),
     )
 
 -- the two lines of an item, and that after them
-item_there : (context resume : ℕ) (i : ℕ × ConditionItem) (w : Written) {r : RawRoutine} → Begins (item_stored context resume i w) r
-    → Raising r context resume (here w) (instruction.ConditionItem i.1) × Raising r context resume (suc (here w)) (instruction.Store i.0) × (suc (suc (here w)) ≡ here (item_stored context resume i w))
-item_there context resume i w {r} b =
-    let asked = puts context resume (instruction.ConditionItem i.1) 1 (condition_letter i.1 ∷ []) w in
-    let one : here asked ≡ suc (here w) = here-puts context resume (instruction.ConditionItem i.1) 1 (condition_letter i.1 ∷ []) w in (
+item_there : (context resume : ℕ) (area : DiagnosticsArea) (i : ℕ × ConditionItem) (w : Written) {r : RawRoutine} → Begins (item_stored context resume area i w) r
+    → Raising r context resume (here w) (instruction.ConditionItem area i.1) × Raising r context resume (suc (here w)) (instruction.Store i.0) × (suc (suc (here w)) ≡ here (item_stored context resume area i w))
+item_there context resume area i w {r} b =
+    let asked = puts context resume (instruction.ConditionItem area i.1) 1 (condition_letter i.1 ∷ []) w in
+    let one : here asked ≡ suc (here w) = here-puts context resume (instruction.ConditionItem area i.1) 1 (condition_letter i.1 ∷ []) w in (
       raising_there w (begins-earlier (grows-takes context resume (instruction.Store i.0) 1 {w = asked}) b).lines,
       subst (λ n. Raising r context resume n (instruction.Store i.0)) one (raising_there asked b.lines),
       sym (here-takes context resume (instruction.Store i.0) 1 asked ∙ ap suc one),
     )
 
-pub condition_items_stand : (context resume : ℕ) (i : ℕ × ConditionItem) (items : List (ℕ × ConditionItem)) (w : Written) {r : RawRoutine} → Begins (condition_items context resume (i ∷ items) w) r
-    → stands.ConditionItems r context resume i items (here w) (here (condition_items context resume (i ∷ items) w))
-condition_items_stand context resume i [] w b = item_there context resume i w b
-condition_items_stand context resume i (j ∷ items) w {r} b =
+pub condition_items_stand : (context resume : ℕ) (area : DiagnosticsArea) (i : ℕ × ConditionItem) (items : List (ℕ × ConditionItem)) (w : Written) {r : RawRoutine} → Begins (condition_items context resume area (i ∷ items) w) r
+    → stands.ConditionItems r context resume area i items (here w) (here (condition_items context resume area (i ∷ items) w))
+condition_items_stand context resume area i [] w b = item_there context resume area i w b
+condition_items_stand context resume area i (j ∷ items) w {r} b =
     let two = applied context resume op.Duplicate 0 N w in
-    let next = item_stored context resume i two in
-    let end = condition_items context resume (j ∷ items) next in
-    let following = begins-earlier (grows-condition_items context resume (j ∷ items) next) b in
+    let next = item_stored context resume area i two in
+    let end = condition_items context resume area (j ∷ items) next in
+    let following = begins-earlier (grows-condition_items context resume area (j ∷ items) next) b in
     let one : here two ≡ suc (here w) = here-applied context resume op.Duplicate 0 N w in
-    let item = item_there context resume i two following in (
-      raising_there w (begins-earlier (grows-item_stored context resume i two) following).lines,
-      subst (λ n. Raising r context resume n (instruction.ConditionItem i.1)) one item.0,
+    let item = item_there context resume area i two following in (
+      raising_there w (begins-earlier (grows-item_stored context resume area i two) following).lines,
+      subst (λ n. Raising r context resume n (instruction.ConditionItem area i.1)) one item.0,
       subst (λ n. Raising r context resume (suc n) (instruction.Store i.0)) one item.1,
-      subst (λ n. stands.ConditionItems r context resume j items n (here end)) (sym item.2 ∙ ap (λ n. suc (suc n)) one) (condition_items_stand context resume j items next b),
+      subst (λ n. stands.ConditionItems r context resume area j items n (here end)) (sym item.2 ∙ ap (λ n. suc (suc n)) one) (condition_items_stand context resume area j items next b),
     )
 
 -- ---- CALL

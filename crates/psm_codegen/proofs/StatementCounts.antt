@@ -2,6 +2,7 @@
 use Rattle.std.proofs.Common.{arith, ◌≡◌, ◌+◌, ℕ, suc, refl, Bool, true, false, nat_eq, List, [], ◌∷◌, Option, Some, None, map, option_map, length, if◌then◌else◌}
 use Rattle.psm_value.specs.declared.datum.Datum.TheVariants as data_of
 use Rattle.psm_cond.specs.declared.item.ConditionItem.{ConditionItem}
+use Rattle.psm_cond.specs.declared.item.DiagnosticsArea.{DiagnosticsArea}
 use Rattle.psm_cond.specs.declared.item.StatementItem.{StatementItem}
 use Rattle.psm_exprcode.specs.declared.op.Letter.{Letter}
 use Rattle.psm_exprcode.specs.declared.op.Letter.TheVariants.{B, N}
@@ -54,28 +55,28 @@ here-copied context resume (slot ∷ t ∷ slots) w =
     let twice = applied context resume op.Duplicate 0 (last_letter w) w in
     omega (arith, here-copied context resume (t ∷ slots) (takes context resume (instruction.Store slot) 1 twice), here-takes context resume (instruction.Store slot) 1 twice, here-applied context resume op.Duplicate 0 (last_letter w) w)
 
-here-statement_items : (context resume : ℕ) (items : List (ℕ × StatementItem)) (w : Written) → here (statement_items context resume items w) ≡ here w + (length items + length items)
-here-statement_items context resume [] w = omega arith
-here-statement_items context resume (i ∷ items) w =
-    let got = puts context resume (instruction.StatementItem i.1) 0 (statement_letter i.1 ∷ []) w in
+here-statement_items : (context resume : ℕ) (area : DiagnosticsArea) (items : List (ℕ × StatementItem)) (w : Written) → here (statement_items context resume area items w) ≡ here w + (length items + length items)
+here-statement_items context resume area [] w = omega arith
+here-statement_items context resume area (i ∷ items) w =
+    let got = puts context resume (instruction.StatementItem area i.1) 0 (statement_letter i.1 ∷ []) w in
     omega (
       arith,
-      here-statement_items context resume items (takes context resume (instruction.Store i.0) 1 got),
+      here-statement_items context resume area items (takes context resume (instruction.Store i.0) 1 got),
       here-takes context resume (instruction.Store i.0) 1 got,
-      here-puts context resume (instruction.StatementItem i.1) 0 (statement_letter i.1 ∷ []) w,
+      here-puts context resume (instruction.StatementItem area i.1) 0 (statement_letter i.1 ∷ []) w,
     )
 
-here-item_stored : (context resume : ℕ) (i : ℕ × ConditionItem) (w : Written) → here (item_stored context resume i w) ≡ here w + 2
-here-item_stored context resume i w =
-    let got = puts context resume (instruction.ConditionItem i.1) 1 (condition_letter i.1 ∷ []) w in
-    omega (arith, here-takes context resume (instruction.Store i.0) 1 got, here-puts context resume (instruction.ConditionItem i.1) 1 (condition_letter i.1 ∷ []) w)
+here-item_stored : (context resume : ℕ) (area : DiagnosticsArea) (i : ℕ × ConditionItem) (w : Written) → here (item_stored context resume area i w) ≡ here w + 2
+here-item_stored context resume area i w =
+    let got = puts context resume (instruction.ConditionItem area i.1) 1 (condition_letter i.1 ∷ []) w in
+    omega (arith, here-takes context resume (instruction.Store i.0) 1 got, here-puts context resume (instruction.ConditionItem area i.1) 1 (condition_letter i.1 ∷ []) w)
 
-here-condition_items : (context resume : ℕ) (items : List (ℕ × ConditionItem)) (w : Written) → here (condition_items context resume items w) ≡ here w + condition_lines items
-here-condition_items context resume [] w = omega arith
-here-condition_items context resume (i ∷ []) w = here-item_stored context resume i w
-here-condition_items context resume (i ∷ j ∷ items) w =
+here-condition_items : (context resume : ℕ) (area : DiagnosticsArea) (items : List (ℕ × ConditionItem)) (w : Written) → here (condition_items context resume area items w) ≡ here w + condition_lines items
+here-condition_items context resume area [] w = omega arith
+here-condition_items context resume area (i ∷ []) w = here-item_stored context resume area i w
+here-condition_items context resume area (i ∷ j ∷ items) w =
     let twice = applied context resume op.Duplicate 0 N w in
-    omega (arith, here-condition_items context resume (j ∷ items) (item_stored context resume i twice), here-item_stored context resume i twice, here-applied context resume op.Duplicate 0 N w)
+    omega (arith, here-condition_items context resume area (j ∷ items) (item_stored context resume area i twice), here-item_stored context resume area i twice, here-applied context resume op.Duplicate 0 N w)
 
 -- ---- LEAVE and ITERATE
 
@@ -152,9 +153,9 @@ counts-simple {context = context} {enclosing = enclosing} (simple.iterate {level
 counts-simple {context = context} (simple.signal {p = p} a) = omega (arith, counts-signals a, here-cleared context p)
 counts-simple {context = context} {resume = resume} (simple.resignal {p = p}) = omega (arith, here-cleared context p, here-takes context resume instruction.Resignal 0 (cleared context p))
 counts-simple {context = context} (simple.resignal_condition {p = p} a) = omega (arith, counts-signals a, here-cleared context p)
-counts-simple {context = context} {resume = resume} (simple.diagnostics_of_statement {is = is} {p = p}) = here-statement_items context resume is p.code
-counts-simple {context = context} {resume = resume} (simple.diagnostics_of_condition {number = number} {is = is} {p = p}) =
-    omega (arith, here-condition_items context resume is (applied context resume (number_op number) 0 N p.code), here-applied context resume (number_op number) 0 N p.code)
+counts-simple {context = context} {resume = resume} (simple.diagnostics_of_statement {area = area} {is = is} {p = p}) = here-statement_items context resume area is p.code
+counts-simple {context = context} {resume = resume} (simple.diagnostics_of_condition {area = area} {number = number} {is = is} {p = p}) =
+    omega (arith, here-condition_items context resume area is (applied context resume (number_op number) 0 N p.code), here-applied context resume (number_op number) 0 N p.code)
 counts-simple {known} {context} {resume} (simple.select_into {query = query} {slots = slots} {p = p} {code = code} a) =
     let asked = with_query code (cleared context p) in
     let row = puts context resume (instruction.Row (length p.code.queries)) 0 (item_letters known query) asked in

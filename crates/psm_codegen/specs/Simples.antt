@@ -5,6 +5,7 @@ use Rattle.psm_value.specs.declared.datum.Datum.TheVariants as data_of
 use Rattle.psm_cond.specs.declared.handlers.Declared.{Declared}
 use Rattle.psm_cond.specs.declared.handlers.Declared.TheVariants as declares
 use Rattle.psm_cond.specs.declared.item.ConditionItem.{ConditionItem}
+use Rattle.psm_cond.specs.declared.item.DiagnosticsArea.{DiagnosticsArea}
 use Rattle.psm_cond.specs.declared.item.StatementItem.{StatementItem}
 use Rattle.psm_exprcode.specs.declared.op.Letter.{Letter}
 use Rattle.psm_exprcode.specs.declared.op.Letter.TheVariants.{N, T}
@@ -106,18 +107,19 @@ pub data Signals (known : Known) (context resume : ℕ) (without with_message : 
 
 -- ---- GET DIAGNOSTICS
 
-abbrev pub statement_items : ℕ → ℕ → List (ℕ × StatementItem) → Written → Written
-statement_items context resume [] w = w
-statement_items context resume (i ∷ items) w = statement_items context resume items (takes context resume (instruction.Store i.0) 1 (puts context resume (instruction.StatementItem i.1) 0 (statement_letter i.1 ∷ []) w))
+-- items of that area
+abbrev pub statement_items : ℕ → ℕ → DiagnosticsArea → List (ℕ × StatementItem) → Written → Written
+statement_items context resume area [] w = w
+statement_items context resume area (i ∷ items) w = statement_items context resume area items (takes context resume (instruction.Store i.0) 1 (puts context resume (instruction.StatementItem area i.1) 0 (statement_letter i.1 ∷ []) w))
 
-abbrev pub item_stored : ℕ → ℕ → (ℕ × ConditionItem) → Written → Written
-item_stored context resume i w = takes context resume (instruction.Store i.0) 1 (puts context resume (instruction.ConditionItem i.1) 1 (condition_letter i.1 ∷ []) w)
+abbrev pub item_stored : ℕ → ℕ → DiagnosticsArea → (ℕ × ConditionItem) → Written → Written
+item_stored context resume area i w = takes context resume (instruction.Store i.0) 1 (puts context resume (instruction.ConditionItem area i.1) 1 (condition_letter i.1 ∷ []) w)
 
 -- the number of the condition stands on the operands, and is copied for all items but the last
-abbrev pub condition_items : ℕ → ℕ → List (ℕ × ConditionItem) → Written → Written
-condition_items context resume [] w = w
-condition_items context resume (i ∷ []) w = item_stored context resume i w
-condition_items context resume (i ∷ j ∷ items) w = condition_items context resume (j ∷ items) (item_stored context resume i (applied context resume op.Duplicate 0 N w))
+abbrev pub condition_items : ℕ → ℕ → DiagnosticsArea → List (ℕ × ConditionItem) → Written → Written
+condition_items context resume area [] w = w
+condition_items context resume area (i ∷ []) w = item_stored context resume area i w
+condition_items context resume area (i ∷ j ∷ items) w = condition_items context resume area (j ∷ items) (item_stored context resume area i (applied context resume op.Duplicate 0 N w))
 
 abbrev pub number_op : ResolvedNumber → Op
 number_op (numbers.Constant n) = op.Constant N (data_of.Num n)
@@ -182,9 +184,9 @@ pub data WritesSimple (known : Known) (context resume : ℕ) (enclosing : List E
   resignal_condition : {s : ResolvedSignal} {p : FunctionBuilder} {w : Written}
       → Signals known context resume (instruction.ResignalCondition (condition_number s.condition p.declared)) (instruction.ResignalMessage (condition_number s.condition p.declared)) s.message (cleared context p) w
       → WritesSimple known context resume enclosing (simples.Resignal (Some s)) p (with_code w (record p { declared = declared_with s.condition p.declared }))
-  diagnostics_of_statement : {is : List (ℕ × StatementItem)} {p : FunctionBuilder} → WritesSimple known context resume enclosing (simples.GetDiagnostics (diagnostics.Statement is)) p (with_code (statement_items context resume is p.code) p)
-  diagnostics_of_condition : {number : ResolvedNumber} {is : List (ℕ × ConditionItem)} {p : FunctionBuilder}
-      → WritesSimple known context resume enclosing (simples.GetDiagnostics (diagnostics.Condition number is)) p (with_code (condition_items context resume is (applied context resume (number_op number) 0 N p.code)) p)
+  diagnostics_of_statement : {area : DiagnosticsArea} {is : List (ℕ × StatementItem)} {p : FunctionBuilder} → WritesSimple known context resume enclosing (simples.GetDiagnostics (diagnostics.Statement area is)) p (with_code (statement_items context resume area is p.code) p)
+  diagnostics_of_condition : {area : DiagnosticsArea} {number : ResolvedNumber} {is : List (ℕ × ConditionItem)} {p : FunctionBuilder}
+      → WritesSimple known context resume enclosing (simples.GetDiagnostics (diagnostics.Condition area number is)) p (with_code (condition_items context resume area is (applied context resume (number_op number) 0 N p.code)) p)
   select_into : {query : ResolvedQuery} {slots : List ℕ} {p : FunctionBuilder} {code : Query} → QueryMade known query code
       → WritesSimple known context resume enclosing (simples.SelectInto query slots) p
       (with_code (retrieved context resume slots (puts context resume (instruction.Row (length p.code.queries)) 0 (item_letters known query) (with_query code (cleared context p)))) p)

@@ -144,11 +144,12 @@ ConditionFits routine (conditions.Own n) = n < length routine.conditions
 abbrev pub SignalFits : ResolvedFile → ResolvedRoutine → ResolvedSignal → Type 0
 SignalFits file routine s = ConditionFits routine s.condition × StandsPerhaps file routine s.message
 
--- GET DIAGNOSTICS for a condition names an item
+-- GET DIAGNOSTICS names an item
 abbrev pub DiagnosticsFit : ResolvedDiagnostics → Type 0
-DiagnosticsFit (diagnostics.Statement items) = Unit {0}
-DiagnosticsFit (diagnostics.Condition number []) = ⊥
-DiagnosticsFit (diagnostics.Condition number (i ∷ items)) = Unit {0}
+DiagnosticsFit (diagnostics.Statement area []) = ⊥
+DiagnosticsFit (diagnostics.Statement area (i ∷ items)) = Unit {0}
+DiagnosticsFit (diagnostics.Condition area number []) = ⊥
+DiagnosticsFit (diagnostics.Condition area number (i ∷ items)) = Unit {0}
 
 abbrev pub RowsFit : ResolvedFile → ResolvedRoutine → ℕ → ResolvedRows → Type 0
 RowsFit file routine width (given.Values rows) = RowsOutside file (known_of file routine) width rows

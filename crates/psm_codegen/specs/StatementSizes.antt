@@ -79,8 +79,8 @@ condition_lines (i ∷ []) = 2
 condition_lines (i ∷ j ∷ items) = 3 + condition_lines (j ∷ items)
 
 abbrev pub diagnostics_lines : ResolvedDiagnostics → ℕ
-diagnostics_lines (diagnostics.Statement items) = length items + length items
-diagnostics_lines (diagnostics.Condition number items) = condition_lines items + 1
+diagnostics_lines (diagnostics.Statement area items) = length items + length items
+diagnostics_lines (diagnostics.Condition area number items) = condition_lines items + 1
 
 abbrev pub rows_lines : ResolvedRows → ℕ
 rows_lines (given.Values rows) = each_with 0 (map exprs_lines rows)

@@ -1,4 +1,4 @@
-//! Items of the diagnostics area that go into variables (ISO/IEC 9075:1992, 18.1).
+//! Items of a diagnostics area that go into variables (ISO/IEC 9075:1992, 18.1).
 ghost use Rattle.std.specs.Prelude.{◌≡◌, IfOk};
 ghost use Rattle.psm_code.specs.Instructions.{condition_letter, statement_letter};
 ghost use Rattle.psm_codegen.specs.Simples.{condition_items, item_stored, statement_items};
@@ -6,24 +6,25 @@ ghost use Rattle.psm_codegen.specs.Simples.{condition_items, item_stored, statem
 use crate::emit_context::EmitContext;
 use crate::writer::Writer;
 use psm_code::Instruction;
-use psm_cond::{ConditionItem, StatementItem};
+use psm_cond::{ConditionItem, DiagnosticsArea, StatementItem};
 use psm_exprcode::{Letter, Op};
 use psm_list::List;
 use std::alloc::AllocError;
 
-/// Stores items of the diagnostics area about the statement.
+/// Stores items of a diagnostics area about the statement.
 pub(crate) fn statement_items(
     out: &mut Writer,
     emit_context: EmitContext<'_>,
+    area: DiagnosticsArea,
     items: &List<(u32, StatementItem)>,
 ) -> Result<(), AllocError>
-    ensures { IfOk result (λ _. out.new ≡ statement_items emit_context.entry.context emit_context.entry.resume items.now out.old) }
+    ensures { IfOk result (λ _. out.new ≡ statement_items emit_context.entry.context emit_context.entry.resume area items.now out.old) }
 {
     for (slot, item) in items.items() {
         out.put(
             emit_context.context,
             emit_context.resume,
-            Instruction::StatementItem(*item),
+            Instruction::StatementItem(area, *item),
             0,
             statement_letter(*item),
         )?;
@@ -37,13 +38,14 @@ pub(crate) fn statement_items(
     Ok(())
 }
 
-/// Stores items of the diagnostics area about the condition whose number is the last operand.
+/// Stores items of a diagnostics area about the condition whose number is the last operand.
 pub(crate) fn condition_items(
     out: &mut Writer,
     emit_context: EmitContext<'_>,
+    area: DiagnosticsArea,
     items: &List<(u32, ConditionItem)>,
 ) -> Result<(), AllocError>
-    ensures { IfOk result (λ _. out.new ≡ condition_items emit_context.entry.context emit_context.entry.resume items.now out.old) }
+    ensures { IfOk result (λ _. out.new ≡ condition_items emit_context.entry.context emit_context.entry.resume area items.now out.old) }
 {
     match items.items().split_last() {
         None => Ok(()),
@@ -56,27 +58,28 @@ pub(crate) fn condition_items(
                     0,
                     Letter::N,
                 )?;
-                item_stored(out, emit_context, *slot, *item)?;
+                item_stored(out, emit_context, area, *slot, *item)?;
             }
             let (slot, item) = last;
-            item_stored(out, emit_context, *slot, *item)
+            item_stored(out, emit_context, area, *slot, *item)
         }
     }
 }
 
-/// Stores an item of the diagnostics area about the condition whose number is the last operand.
+/// Stores an item of a diagnostics area about the condition whose number is the last operand.
 fn item_stored(
     out: &mut Writer,
     emit_context: EmitContext<'_>,
+    area: DiagnosticsArea,
     slot: u32,
     item: ConditionItem,
 ) -> Result<(), AllocError>
-    ensures { IfOk result (λ _. out.new ≡ item_stored emit_context.entry.context emit_context.entry.resume (slot, item) out.old) }
+    ensures { IfOk result (λ _. out.new ≡ item_stored emit_context.entry.context emit_context.entry.resume area (slot, item) out.old) }
 {
     out.put(
         emit_context.context,
         emit_context.resume,
-        Instruction::ConditionItem(item),
+        Instruction::ConditionItem(area, item),
         1,
         condition_letter(item),
     )?;
@@ -88,7 +91,7 @@ fn item_stored(
     )
 }
 
-/// The letter of an item of the diagnostics area about the statement.
+/// The letter of an item of a diagnostics area about the statement.
 fn statement_letter(item: StatementItem) -> Letter
     ensures { result ≡ statement_letter item }
 {
@@ -98,7 +101,7 @@ fn statement_letter(item: StatementItem) -> Letter
     }
 }
 
-/// The letter of an item of the diagnostics area about a condition.
+/// The letter of an item of a diagnostics area about a condition.
 fn condition_letter(item: ConditionItem) -> Letter
     ensures { result ≡ condition_letter item }
 {

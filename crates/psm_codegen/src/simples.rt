@@ -202,10 +202,14 @@ fn diagnostics(
     ensures { IfOk result (λ _. WritesAnywhere emit_context.entry.known.now emit_context.entry.context emit_context.entry.resume (simples.GetDiagnostics d.now) parts.old parts.new) }
 {
     match d {
-        ResolvedDiagnostics::Statement { items } => {
-            statement_items(&mut parts.code, emit_context, items)
+        ResolvedDiagnostics::Statement { area, items } => {
+            statement_items(&mut parts.code, emit_context, *area, items)
         }
-        ResolvedDiagnostics::Condition { number, items } => {
+        ResolvedDiagnostics::Condition {
+            area,
+            number,
+            items,
+        } => {
             parts.code.applied(
                 emit_context.context,
                 emit_context.resume,
@@ -213,7 +217,7 @@ fn diagnostics(
                 0,
                 Letter::N,
             )?;
-            condition_items(&mut parts.code, emit_context, items)
+            condition_items(&mut parts.code, emit_context, *area, items)
         }
     }
 }

@@ -133,7 +133,7 @@ fn after_diagnostics(d: &ResolvedDiagnostics, at: u32) -> Result<u32, AllocError
     ensures { IfOk result (λ end. end ≡ at + diagnostics_lines d.now) }
 {
     match d {
-        ResolvedDiagnostics::Statement { items } => {
+        ResolvedDiagnostics::Statement { items, .. } => {
             let end = many_later(at, items.items().len())?;
             many_later(end, items.items().len())
         }

@@ -2,6 +2,7 @@
 use Rattle.std.specs.Prelude.{slice_get}
 use Rattle.std.proofs.Common.{◌≡◌, ◌++◌, ℕ, Bool, true, false, List, [], ◌∷◌, Option, Some, None, length, nat_eq, if◌then◌else◌, refl, sym, subst}
 use Rattle.psm_cond.specs.declared.item.ConditionItem.{ConditionItem}
+use Rattle.psm_cond.specs.declared.item.DiagnosticsArea.{DiagnosticsArea}
 use Rattle.psm_cond.specs.declared.item.StatementItem.{StatementItem}
 use Rattle.psm_exprcode.specs.declared.op.Letter.{Letter}
 use Rattle.psm_exprcode.specs.declared.op.Letter.TheVariants.{N, T}
@@ -61,14 +62,14 @@ queries-copied context resume [] w = refl
 queries-copied context resume (slot ∷ []) w = refl
 queries-copied context resume (slot ∷ t ∷ slots) w = queries-copied context resume (t ∷ slots) (takes context resume (instruction.Store slot) 1 (applied context resume op.Duplicate 0 (last_letter w) w))
 
-queries-statement : (context resume : ℕ) (items : List (ℕ × StatementItem)) (w : Written) → (statement_items context resume items w).queries ≡ w.queries
-queries-statement context resume [] w = refl
-queries-statement context resume (i ∷ items) w = queries-statement context resume items (takes context resume (instruction.Store i.0) 1 (puts context resume (instruction.StatementItem i.1) 0 (statement_letter i.1 ∷ []) w))
+queries-statement : (context resume : ℕ) (area : DiagnosticsArea) (items : List (ℕ × StatementItem)) (w : Written) → (statement_items context resume area items w).queries ≡ w.queries
+queries-statement context resume area [] w = refl
+queries-statement context resume area (i ∷ items) w = queries-statement context resume area items (takes context resume (instruction.Store i.0) 1 (puts context resume (instruction.StatementItem area i.1) 0 (statement_letter i.1 ∷ []) w))
 
-queries-condition : (context resume : ℕ) (items : List (ℕ × ConditionItem)) (w : Written) → (condition_items context resume items w).queries ≡ w.queries
-queries-condition context resume [] w = refl
-queries-condition context resume (i ∷ []) w = refl
-queries-condition context resume (i ∷ j ∷ items) w = queries-condition context resume (j ∷ items) (item_stored context resume i (applied context resume op.Duplicate 0 N w))
+queries-condition : (context resume : ℕ) (area : DiagnosticsArea) (items : List (ℕ × ConditionItem)) (w : Written) → (condition_items context resume area items w).queries ≡ w.queries
+queries-condition context resume area [] w = refl
+queries-condition context resume area (i ∷ []) w = refl
+queries-condition context resume area (i ∷ j ∷ items) w = queries-condition context resume area (j ∷ items) (item_stored context resume area i (applied context resume op.Duplicate 0 N w))
 
 queries-either : (b : Bool) (v u w : Written) → v.queries ≡ w.queries → u.queries ≡ w.queries → (if b then v else u).queries ≡ w.queries
 queries-either true v u w g h = g
@@ -178,9 +179,9 @@ module _ {e : TypingContext} {known : Known} {code : RawCode} {r : RawRoutine} (
   simple-fine letters s each (written.signal m) t y k f = (signals-clear m t.1 y.1 f.0, f.1, f.2)
   simple-fine letters s each written.resignal t y k f = f
   simple-fine letters s each (written.resignal_condition m) t y k f = (signals-clear m t.1 y.1 f.0, f.1, f.2)
-  simple-fine letters s each {context = context} {resume = resume} (written.diagnostics_of_statement {is = is} {p = p}) t y k f = (clear-as code r p.code (queries-statement context resume is p.code) f.0, f.1, f.2)
-  simple-fine letters s each {context = context} {resume = resume} (written.diagnostics_of_condition {number = number} {is = is} {p = p}) t y k f =
-      (clear-as code r p.code (queries-condition context resume is (applied context resume (number_op number) 0 N p.code)) f.0, f.1, f.2)
+  simple-fine letters s each {context = context} {resume = resume} (written.diagnostics_of_statement {area = area} {is = is} {p = p}) t y k f = (clear-as code r p.code (queries-statement context resume area is p.code) f.0, f.1, f.2)
+  simple-fine letters s each {context = context} {resume = resume} (written.diagnostics_of_condition {area = area} {number = number} {is = is} {p = p}) t y k f =
+      (clear-as code r p.code (queries-condition context resume area is (applied context resume (number_op number) 0 N p.code)) f.0, f.1, f.2)
   simple-fine letters s each {context = context} {resume = resume} (written.select_into {query = query} {slots = slots} {p = p} {code = made} m) t y k f =
       let asked = with_query made (cleared context p) in
       let row = puts context resume (instruction.Row (length p.code.queries)) 0 (item_letters known query) asked in

@@ -87,8 +87,8 @@ module _ {e : TypingContext} {known : Known} {code : RawCode} {r : RawRoutine} {
   simple-good {p = p} block_scope written.resignal t o u n k h = stays h (resignal-well_formed keeps is p h)
   simple-good {p = p} block_scope (written.resignal_condition {s = s} {w = w} a) t o u n k h =
       stays h (resignal_condition-well_formed keeps is (condition_number s.condition p.declared) s.message p w a (condition-there r s.condition p.declared k.declared u) t.1 o.1 h)
-  simple-good {p = p} block_scope (written.diagnostics_of_statement {is = items}) t o u n k h = stays h (statement_diagnostics-well_formed keeps is items p.code o h)
-  simple-good {p = p} block_scope (written.diagnostics_of_condition {number = number} {is = items}) t o u n k h = stays h (condition_diagnostics-well_formed keeps is number items p.code o.0 o.1 o.2 h)
+  simple-good {p = p} block_scope (written.diagnostics_of_statement {area = area} {is = items}) t o u n k h = stays h (statement_diagnostics-well_formed keeps is area items p.code o.1 h)
+  simple-good {p = p} block_scope (written.diagnostics_of_condition {area = area} {number = number} {is = items}) t o u n k h = stays h (condition_diagnostics-well_formed keeps is area number items p.code o.0 o.1 o.2 h)
   simple-good {p = p} block_scope (written.select_into {query = query} {slots = slots} {code = made} m) t o u n k h =
       let asked = puts context resume (instruction.Row (length p.code.queries)) 0 (item_letters known query) (with_query made (cleared context p)) in
       let begins : BeginsWith (p.code.queries ++ made ∷ []) r.queries = begins-before (grows-retrieved context resume slots asked).queries k.code.queries in

@@ -1,6 +1,7 @@
 -- The first line that is written for a statement stands in its context and states the operands that stand before it, as the line does
 -- that follows: where nothing is written that line is the first one.
 use Rattle.std.proofs.Common.{ℕ, suc, Bool, true, false, nat_eq, if◌then◌else◌, List, [], ◌∷◌, length, map, Some, None}
+use Rattle.psm_cond.specs.declared.item.DiagnosticsArea.{DiagnosticsArea}
 use Rattle.psm_cond.specs.declared.item.StatementItem.{StatementItem}
 use Rattle.psm_exprcode.specs.declared.op.Letter.TheVariants.{N, B}
 use Rattle.psm_exprcode.specs.declared.op.Op.TheVariants as op
@@ -66,12 +67,12 @@ module _ {r : RawRoutine} (context : ℕ) where
   iterates-starts (Block l inner outer exit ∷ enclosing) level w = let next = plain context (instruction.Exit inner) w in exit-starts inner w (iterates enclosing level outer next) (grows-iterates enclosing level outer next)
   iterates-starts (Rows inner outer ∷ enclosing) level w = let next = plain context (instruction.Exit inner) w in exit-starts inner w (iterates enclosing level outer next) (grows-iterates enclosing level outer next)
 
-  items-starts : (resume : ℕ) (items : List (ℕ × StatementItem)) (w : Written) → Starts r context w (statement_items context resume items w)
-  items-starts resume [] w b f = f
-  items-starts resume (i ∷ items) w b f =
-      let put = puts context resume (instruction.StatementItem i.1) 0 (statement_letter i.1 ∷ []) w in
+  items-starts : (resume : ℕ) (area : DiagnosticsArea) (items : List (ℕ × StatementItem)) (w : Written) → Starts r context w (statement_items context resume area items w)
+  items-starts resume area [] w b f = f
+  items-starts resume area (i ∷ items) w b f =
+      let put = puts context resume (instruction.StatementItem area i.1) 0 (statement_letter i.1 ∷ []) w in
       let stored = takes context resume (instruction.Store i.0) 1 put in
-      line-starts context (Some resume) (instruction.StatementItem i.1) w (begins-earlier (grows-on (grows-takes context resume (instruction.Store i.0) 1 {w = put}) (grows-statement_items context resume items stored)) b).lines
+      line-starts context (Some resume) (instruction.StatementItem area i.1) w (begins-earlier (grows-on (grows-takes context resume (instruction.Store i.0) 1 {w = put}) (grows-statement_items context resume area items stored)) b).lines
 
   -- what begins by clearing the area
   clears : (p : FunctionBuilder) {v : Written} → Grows (cleared context p) v → Starts r context p.code v
@@ -89,9 +90,9 @@ module _ {r : RawRoutine} (context : ℕ) where
   simple-starts (simple.signal {p = p} m) = clears p (grows-signals m)
   simple-starts {resume = resume} (simple.resignal {p = p}) = clears p (grows-takes context resume instruction.Resignal 0 {w = cleared context p})
   simple-starts (simple.resignal_condition {p = p} m) = clears p (grows-signals m)
-  simple-starts {resume = resume} (simple.diagnostics_of_statement {is = is} {p = p}) = items-starts resume is p.code
-  simple-starts {resume = resume} (simple.diagnostics_of_condition {number = number} {is = is} {p = p}) =
-      λ b f. line-starts context (Some resume) (instruction.Operation (number_op number)) p.code (begins-earlier (grows-condition_items context resume is (applied context resume (number_op number) 0 N p.code)) b).lines
+  simple-starts {resume = resume} (simple.diagnostics_of_statement {area = area} {is = is} {p = p}) = items-starts resume area is p.code
+  simple-starts {resume = resume} (simple.diagnostics_of_condition {area = area} {number = number} {is = is} {p = p}) =
+      λ b f. line-starts context (Some resume) (instruction.Operation (number_op number)) p.code (begins-earlier (grows-condition_items context resume area is (applied context resume (number_op number) 0 N p.code)) b).lines
   simple-starts {known = known} {resume = resume} (simple.select_into {query = query} {slots = slots} {p = p} {code = code} m) =
       let asked = with_query code (cleared context p) in
       let selected = puts context resume (instruction.Row (length p.code.queries)) 0 (item_letters known query) asked in

@@ -1,11 +1,12 @@
 -- Parts of simple statements that are written are well-formed.
 use Rattle.std.proofs.Common.{◌≡◌, ◌++◌, ℕ, true, List, [], ◌∷◌, drop, length, replicate, Option, Some, None, option_map, ap, refl, sym, subst, ◌∙◌}
-use Rattle.std.specs.Prelude.{codes, reverse, slice_get}
+use Rattle.std.specs.Prelude.{reverse, slice_get}
 use Rattle.std.specs.List.{flat_map}
 use Rattle.std.proofs.lemmas.Bool.{false≢true}
 use Rattle.std.proofs.lemmas.List.{append_assoc, reverse-append}
 use Rattle.std.proofs.lemmas.Option.{slice_get-map}
 use Rattle.psm_cond.specs.declared.item.ConditionItem.{ConditionItem}
+use Rattle.psm_cond.specs.declared.item.DiagnosticsArea.{DiagnosticsArea}
 use Rattle.psm_cond.specs.declared.item.StatementItem.{StatementItem}
 use Rattle.psm_value.specs.declared.datum.Datum.TheVariants as data_of
 use Rattle.psm_value.specs.declared.sqltype.SqlType.{SqlType}
@@ -25,7 +26,7 @@ use Rattle.psm_code.specs.declared.code.RawCode.{RawCode}
 use Rattle.psm_code.specs.declared.code.RawRoutine.{RawRoutine}
 use Rattle.psm_code.specs.declared.instruction.Instruction.{Instruction}
 use Rattle.psm_code.specs.declared.instruction.Instruction.TheVariants as instruction
-use Rattle.psm_code.specs.Instructions.{condition_letter, statement_letter}
+use Rattle.psm_code.specs.Instructions.{condition_letter, condition_mnemonic, statement_letter, statement_mnemonic}
 use Rattle.psm_code.specs.Rules.{is_some}
 use Rattle.psm_code.specs.RoutineRules.{jump_of}
 use Rattle.psm_codegen.specs.declared.known.Known.{Known}
@@ -130,35 +131,35 @@ module _ {e : TypingContext} {known : Known} {code : RawCode} {r : RawRoutine} {
 
   -- ---- GET DIAGNOSTICS
 
-  pub statement_items-well_formed : (items : List (ℕ × StatementItem)) (s : List Letter) (w : Written) → StatementSlots e items → w.stack ≡ s → WellFormedLines code r context resume w (statement_items context resume items w) s
-  statement_items-well_formed [] s w h q = well_formed-none q
-  statement_items-well_formed (i ∷ items) s w h q =
+  pub statement_items-well_formed : (area : DiagnosticsArea) (items : List (ℕ × StatementItem)) (s : List Letter) (w : Written) → StatementSlots e items → w.stack ≡ s → WellFormedLines code r context resume w (statement_items context resume area items w) s
+  statement_items-well_formed area [] s w h q = well_formed-none q
+  statement_items-well_formed area (i ∷ items) s w h q =
       let k = statement_letter i.1 in
-      let asked = puts context resume (instruction.StatementItem i.1) 0 (k ∷ []) w in
-      let one : WellFormedLines code r context resume w asked (k ∷ s) = puts-well_formed (instruction.StatementItem i.1) (codes "GETS") [] (k ∷ []) s 0 w
+      let asked = puts context resume (instruction.StatementItem area i.1) 0 (k ∷ []) w in
+      let one : WellFormedLines code r context resume w asked (k ∷ s) = puts-well_formed (instruction.StatementItem area i.1) (statement_mnemonic area) [] (k ∷ []) s 0 w
       (record { names = refl; place = refl; fits = refl; value = N; other = B; is_value = refl; effect = refl }) (record { stands = refl; right = λ l. refl; following = λ l. refl }) refl refl q in
       let two = store-well_formed keeps i.0 k s asked h.0 one.stack in
-      well_formed-then one (well_formed-then two (statement_items-well_formed items s (takes context resume (instruction.Store i.0) 1 asked) h.1 two.stack))
+      well_formed-then one (well_formed-then two (statement_items-well_formed area items s (takes context resume (instruction.Store i.0) 1 asked) h.1 two.stack))
 
-  item_stored-well_formed : (i : ℕ × ConditionItem) (s : List Letter) (w : Written) → SlotOf e i.0 (condition_letter i.1) → w.stack ≡ N ∷ s → WellFormedLines code r context resume w (item_stored context resume i w) s
-  item_stored-well_formed i s w h q =
+  item_stored-well_formed : (area : DiagnosticsArea) (i : ℕ × ConditionItem) (s : List Letter) (w : Written) → SlotOf e i.0 (condition_letter i.1) → w.stack ≡ N ∷ s → WellFormedLines code r context resume w (item_stored context resume area i w) s
+  item_stored-well_formed area i s w h q =
       let k = condition_letter i.1 in
-      let asked = puts context resume (instruction.ConditionItem i.1) 1 (k ∷ []) w in
-      let one : WellFormedLines code r context resume w asked (k ∷ s) = puts-well_formed (instruction.ConditionItem i.1) (codes "GETC") (N ∷ []) (k ∷ []) s 1 w
+      let asked = puts context resume (instruction.ConditionItem area i.1) 1 (k ∷ []) w in
+      let one : WellFormedLines code r context resume w asked (k ∷ s) = puts-well_formed (instruction.ConditionItem area i.1) (condition_mnemonic area) (N ∷ []) (k ∷ []) s 1 w
       (record { names = refl; place = refl; fits = refl; value = N; other = B; is_value = refl; effect = refl }) (record { stands = refl; right = λ l. refl; following = λ l. refl }) refl refl q in
       well_formed-then one (store-well_formed keeps i.0 k s asked h one.stack)
 
   number-copied : (s : List Letter) (w : Written) → w.stack ≡ N ∷ s → WellFormedLines code r context resume w (applied context resume op.Duplicate 0 N w) (N ∷ N ∷ s)
   number-copied s w q = subst (λ l. WellFormedLines code r context resume w (applied context resume op.Duplicate 0 l w) (N ∷ N ∷ s)) (ap (λ z. letter_or (slice_get z 0)) q) (duplicate-well_formed N s w refl q)
 
-  pub condition_items-well_formed : (items : List (ℕ × ConditionItem)) (s : List Letter) (w : Written) → is_some items ≡ true → ConditionSlots e items → w.stack ≡ N ∷ s → WellFormedLines code r context resume w (condition_items context resume items w) s
-  condition_items-well_formed [] s w some h q = absurd (false≢true some)
-  condition_items-well_formed (i ∷ []) s w some h q = item_stored-well_formed i s w h.0 q
-  condition_items-well_formed (i ∷ j ∷ items) s w some h q =
+  pub condition_items-well_formed : (area : DiagnosticsArea) (items : List (ℕ × ConditionItem)) (s : List Letter) (w : Written) → is_some items ≡ true → ConditionSlots e items → w.stack ≡ N ∷ s → WellFormedLines code r context resume w (condition_items context resume area items w) s
+  condition_items-well_formed area [] s w some h q = absurd (false≢true some)
+  condition_items-well_formed area (i ∷ []) s w some h q = item_stored-well_formed area i s w h.0 q
+  condition_items-well_formed area (i ∷ j ∷ items) s w some h q =
       let copy = applied context resume op.Duplicate 0 N w in
       let one = number-copied s w q in
-      let two = item_stored-well_formed i (N ∷ s) copy h.0 one.stack in
-      well_formed-then one (well_formed-then two (condition_items-well_formed (j ∷ items) s (item_stored context resume i copy) refl h.1 two.stack))
+      let two = item_stored-well_formed area i (N ∷ s) copy h.0 one.stack in
+      well_formed-then one (well_formed-then two (condition_items-well_formed area (j ∷ items) s (item_stored context resume area i copy) refl h.1 two.stack))
 
   pub number-well_formed : (n : ResolvedNumber) (w : Written) → NumberOf e n → WellFormedLines code r context resume w (applied context resume (number_op n) 0 N w) (N ∷ w.stack)
   number-well_formed (numbers.Constant n) w h =

@@ -2,6 +2,7 @@
 use Rattle.std.proofs.Common.{arith, ◌≡◌, ◌++◌, ℕ, true, not, ◌&&◌, List, [], ◌∷◌, length, Option, Some, None, option_map, ap, refl, sym, subst, ◌∙◌, append-nil}
 use Rattle.std.specs.Prelude.{codes, reverse, slice_get}
 use Rattle.psm_cond.specs.declared.item.ConditionItem.{ConditionItem}
+use Rattle.psm_cond.specs.declared.item.DiagnosticsArea.{DiagnosticsArea}
 use Rattle.psm_cond.specs.declared.item.StatementItem.{StatementItem}
 use Rattle.psm_value.specs.declared.sqltype.SqlType.{SqlType}
 use Rattle.psm_exprcode.specs.declared.op.Letter.TheVariants.{N, B}
@@ -111,14 +112,14 @@ module _ {e : TypingContext} {known : Known} {code : RawCode} {r : RawRoutine} {
 
   -- ---- GET DIAGNOSTICS
 
-  pub statement_diagnostics-well_formed : (items : List (ℕ × StatementItem)) (w : Written) → StatementSlots e items → w.stack ≡ [] → WellFormedLines code r context resume w (statement_items context resume items w) []
-  statement_diagnostics-well_formed items w h q = statement_items-well_formed keeps items [] w h q
+  pub statement_diagnostics-well_formed : (area : DiagnosticsArea) (items : List (ℕ × StatementItem)) (w : Written) → StatementSlots e items → w.stack ≡ [] → WellFormedLines code r context resume w (statement_items context resume area items w) []
+  statement_diagnostics-well_formed area items w h q = statement_items-well_formed keeps area items [] w h q
 
-  pub condition_diagnostics-well_formed : (n : ResolvedNumber) (items : List (ℕ × ConditionItem)) (w : Written) → is_some items ≡ true → NumberOf e n → ConditionSlots e items → w.stack ≡ []
-      → WellFormedLines code r context resume w (condition_items context resume items (applied context resume (number_op n) 0 N w)) []
-  condition_diagnostics-well_formed n items w some h g q =
+  pub condition_diagnostics-well_formed : (area : DiagnosticsArea) (n : ResolvedNumber) (items : List (ℕ × ConditionItem)) (w : Written) → is_some items ≡ true → NumberOf e n → ConditionSlots e items → w.stack ≡ []
+      → WellFormedLines code r context resume w (condition_items context resume area items (applied context resume (number_op n) 0 N w)) []
+  condition_diagnostics-well_formed area n items w some h g q =
       let one = number-well_formed keeps n w h in
-      well_formed-then one (condition_items-well_formed keeps items [] (applied context resume (number_op n) 0 N w) some g (one.stack ∙ ap (λ z. N ∷ z) q))
+      well_formed-then one (condition_items-well_formed keeps area items [] (applied context resume (number_op n) 0 N w) some g (one.stack ∙ ap (λ z. N ∷ z) q))
 
   -- ---- SELECT INTO, where the routine has the query at its number
 

@@ -1,5 +1,5 @@
 -- Routines that can be told apart, by their signatures.
-use Rattle.std.proofs.Common.{◌≡◌, ℕ, suc, Bool, true, false, ◌&&◌, not, List, [], ◌∷◌, length, map, refl, ap, sym, ◌∙◌}
+use Rattle.std.proofs.Common.{◌≡◌, Bool, true, false, ◌&&◌, not, List, [], ◌∷◌, length, map, refl, ap, sym, ◌∙◌}
 use Rattle.std.specs.Prelude.{nat_eq, if◌then◌else◌}
 use Rattle.std.specs.List.{list_all}
 use Rattle.std.specs.Cmp.Lexicographic.{pointwise}
@@ -9,7 +9,7 @@ use Rattle.psm_code.specs.declared.code.Parameter.{Parameter}
 use Rattle.psm_code.specs.declared.code.RawRoutine.{RawRoutine}
 use Rattle.psm_code.specs.RoutineRules.{are_apart, are_distinct_of, are_same_kinds, is_same_kind, same_truth}
 use Rattle.psm_code.specs.Rules.{is_same}
-use Rattle.psm_keys.specs.Signature.{Signature, is_same_signature, kind_number, kind_numbers, signature_of}
+use Rattle.psm_keys.specs.Signature.{is_same_signature, kind_number, kind_numbers, signature_of}
 
 same_kind : (t u : SqlType) → nat_eq (kind_number t) (kind_number u) ≡ is_same_kind t u
 same_kind SmallInt SmallInt = refl

@@ -3,6 +3,7 @@ use Rattle.std.proofs.Common.{arith, ◌≡◌, ◌≤◌, ◌&&◌, ℕ, zero, 
 use Rattle.std.proofs.lemmas.List.Elements.{All-nil, All-head, All-tail, All-cons}
 use Rattle.std.specs.Prelude.{nat_lt, nat_le}
 use Rattle.psm_sqlstate.specs.Kind.{kind_of}
+use Rattle.psm_cond.specs.Area.{Diagnostics}
 use Rattle.psm_cond.specs.Choice.{chosen_in, or_else, chosen, highest, is_exception}
 use Rattle.psm_cond.specs.Condition.{Entries}
 use Rattle.psm_cond.specs.declared.entry.Entry.{Entry}
@@ -13,7 +14,7 @@ use Rattle.psm_resolved.specs.declared.statement.ResolvedHandler.{ResolvedHandle
 use Rattle.psm_resolved.specs.declared.statement.ResolvedStatement.{ResolvedStatement}
 use Rattle.psm_meaning.specs.State.{State, Scope, EvalContext, holding}
 use Rattle.psm_meaning.specs.Acts.{Given, Got, Raises, Ends, Outcome, Normal, Leave, Iterate, Return, Raised, Away, Stopped, Do, Meaning, Act, Deed, ends_as, following, changing, part, if_normal, all, spending, at_turn}
-use Rattle.psm_meaning.specs.Raising.{Candidate, candidates, candidate_rank, choice, after_action, action, handled, answered, raised, settled, after, stated}
+use Rattle.psm_meaning.specs.Raising.{Candidate, candidates, candidate_rank, choice, after_action, action_over, action, handled, answered, raised, settled, after, stated}
 use Rattle.psm_meaning.specs.Fuel.{file_size, statement_size}
 use Rattle.psm_meaning.specs.Enough.{AreWithin, IsActionWithin, IsHandlerScopeWithin}
 use Rattle.psm_meaning.proofs.Pure.{High}
@@ -90,20 +91,23 @@ pays-at_turn h = record { paid = λ st p. paid-spending h st.turns st p refl }
 
 -- ---- actions
 
-follows-after_action : {file : ResolvedFile} {m : Meaning} {turns : ℕ} → Follows file m turns after_action
-follows-after_action {file = file} {m = m} {turns = turns} = record { paid = each file m turns }
+follows-after_action : {file : ResolvedFile} {m : Meaning} {turns : ℕ} (area : Diagnostics) → Follows file m turns (after_action area)
+follows-after_action {file = file} {m = m} {turns = turns} area = record { paid = each file m turns area }
   where
-    each : (file : ResolvedFile) (m : Meaning) (turns : ℕ) (o : Outcome) (before : ℕ) (st : State) → before ≤ turns → Paid file before st.turns o → Paid file before (after_action o m st).state.turns (after_action o m st).outcome
-    each file m turns Normal before st p q = q
-    each file m turns (Leave level) before st p q = q
-    each file m turns (Iterate level) before st p q = q
-    each file m turns (Return d) before st p q = q
-    each file m turns (Raised c) before st p q = q
-    each file m turns (Away level k c) before st p q = q
-    each file m turns (Stopped stop) before st p q = q
+    each : (file : ResolvedFile) (m : Meaning) (turns : ℕ) (area : Diagnostics) (o : Outcome) (before : ℕ) (st : State) → before ≤ turns → Paid file before st.turns o → Paid file before (after_action area o m st).state.turns (after_action area o m st).outcome
+    each file m turns area Normal before st p q = q
+    each file m turns area (Leave level) before st p q = q
+    each file m turns area (Iterate level) before st p q = q
+    each file m turns area (Return d) before st p q = q
+    each file m turns area (Raised c) before st p q = q
+    each file m turns area (Away level k c) before st p q = q
+    each file m turns area (Stopped stop) before st p q = q
+
+pays-action_over : {file : ResolvedFile} {m : Meaning} {turns : ℕ} → Parts file m turns (file_size file) → (eval_context : EvalContext) → AreWithin file eval_context.scopes → (h : ResolvedHandler) → IsActionWithin file h → (area : Diagnostics) → Pays file m turns (action_over eval_context h area)
+pays-action_over parts eval_context w h p area = pays-following (record { paid = λ st q. (parts.done (Do (out-ResolvedHandler h).action) (record eval_context { acting = area ∷ eval_context.acting }) w p).paid st q }) (follows-after_action area)
 
 pub pays-action : {file : ResolvedFile} {m : Meaning} {turns : ℕ} → Parts file m turns (file_size file) → (eval_context : EvalContext) → AreWithin file eval_context.scopes → (h : ResolvedHandler) → IsActionWithin file h → Pays file m turns (action eval_context h)
-pays-action {m = m} parts eval_context w h p = pays-following (record { paid = λ st q. (parts.done (Do (out-ResolvedHandler h).action) (record eval_context { acting = st.area ∷ eval_context.acting }) w p).paid st q }) follows-after_action
+pays-action parts eval_context w h p = record { paid = λ st q. (pays-action_over parts eval_context w h p st.area).paid st q }
 
 -- ---- the choice of a handler
 

@@ -1,5 +1,6 @@
 -- The same of statements that are put together, and of what is done where a condition is raised.
 use Rattle.std.proofs.Common.{◌≡◌, inl, inr, ℕ, zero, suc, Bool, true, false, List, [], ◌∷◌, Option, Some, None, refl, ap, subst, ◌∙◌, if◌then◌else◌}
+use Rattle.psm_cond.specs.Area.{Diagnostics}
 use Rattle.psm_cond.specs.Condition.{Entries}
 use Rattle.psm_cond.specs.declared.handlers.HandlerKind.{HandlerKind}
 use Rattle.psm_cond.specs.declared.handlers.HandlerKind.TheVariants.{Continue, Exit, Undo}
@@ -7,7 +8,7 @@ use Rattle.psm_resolved.specs.declared.statement.ResolvedHandler.{ResolvedHandle
 use Rattle.psm_resolved.specs.declared.statement.ResolvedStatement.{ResolvedStatement}
 use Rattle.psm_meaning.specs.State.{State, EvalContext, holding}
 use Rattle.psm_meaning.specs.Acts.{Given, Got, Raises, Ends, Evaluated, Outcome, Normal, Leave, Iterate, Return, Raised, Away, Stopped, OutOfFuel, Done, Do, Meaning, Act, Deed, ends_as, following, changing, part, if_normal, all, spending, at_turn}
-use Rattle.psm_meaning.specs.Raising.{Candidate, choice, after_action, action, handled, answered, raised, settled, after, stated}
+use Rattle.psm_meaning.specs.Raising.{Candidate, choice, after_action, action_over, action, handled, answered, raised, settled, after, stated}
 use Rattle.psm_meaning.specs.Fits.{Same, SameEnd, Fits}
 use Rattle.psm_meaning.proofs.Growing.{Grows}
 
@@ -66,20 +67,23 @@ done-at_turn h = record { same = λ st. (done-spending h st.turns).same st }
 
 -- ---- conditions
 
-follows-after_action : {m n : Meaning} → Follows m n after_action
-follows-after_action = record { grows = each; passes = λ st. refl }
+follows-after_action : {m n : Meaning} (area : Diagnostics) → Follows m n (after_action area)
+follows-after_action area = record { grows = each area; passes = λ st. refl }
   where
-    each : {m n : Meaning} (o : Outcome) → GrowsDone m n (after_action o)
-    each Normal = done-changing (done-ends_as Normal)
-    each (Leave level) = done-ends_as _
-    each (Iterate level) = done-ends_as _
-    each (Return d) = done-ends_as _
-    each (Raised c) = done-ends_as _
-    each (Away level k c) = done-ends_as _
-    each (Stopped stop) = done-ends_as _
+    each : {m n : Meaning} (area : Diagnostics) (o : Outcome) → GrowsDone m n (after_action area o)
+    each area Normal = done-changing (done-ends_as Normal)
+    each area (Leave level) = done-ends_as _
+    each area (Iterate level) = done-ends_as _
+    each area (Return d) = done-ends_as _
+    each area (Raised c) = done-ends_as _
+    each area (Away level k c) = done-ends_as _
+    each area (Stopped stop) = done-ends_as _
+
+done-action_over : {m n : Meaning} → Fits m n → (eval_context : EvalContext) (h : ResolvedHandler) (area : Diagnostics) → GrowsDone m n (action_over eval_context h area)
+done-action_over fits eval_context h area = done-following (record { same = λ st. fits.done (Do (out-ResolvedHandler h).action) (record eval_context { acting = area ∷ eval_context.acting }) st }) (follows-after_action area)
 
 pub done-action : {m n : Meaning} → Fits m n → (eval_context : EvalContext) (h : ResolvedHandler) → GrowsDone m n (action eval_context h)
-done-action fits eval_context h = done-following (record { same = λ st. fits.done (Do (out-ResolvedHandler h).action) (record eval_context { acting = st.area ∷ eval_context.acting }) st }) follows-after_action
+done-action fits eval_context h = record { same = λ st. (done-action_over fits eval_context h st.area).same st }
 
 done-handled : {m n : Meaning} → Fits m n → (eval_context : EvalContext) (c : Entries) (k : Candidate) (kind : HandlerKind) → GrowsDone m n (handled eval_context c k kind)
 done-handled fits eval_context c k Continue = done-action fits _ k.handler

@@ -5,6 +5,8 @@ use Rattle.psm_value.specs.declared.datum.Datum.TheVariants.{Null, Num, Text}
 use Rattle.psm_value.specs.declared.sqltype.SqlType.{SqlType}
 use Rattle.psm_cond.specs.Area.{Diagnostics}
 use Rattle.psm_cond.specs.declared.entry.Entry.{Entry}
+use Rattle.psm_cond.specs.declared.item.DiagnosticsArea.{DiagnosticsArea}
+use Rattle.psm_cond.specs.declared.item.DiagnosticsArea.TheVariants as which_area
 use Rattle.psm_exprcode.specs.declared.operand.Operand.{Operand}
 use Rattle.psm_exprcode.specs.Evaluated.{Outcome}
 use Rattle.psm_table.specs.Changing.{Failure, Raised, OfTable}
@@ -37,7 +39,7 @@ use Rattle.psm_meaning.specs.Rows.{table_now, answer_of}
 use Rattle.psm_meaning.specs.Calls.{passed, entered, bounded, result_of}
 use Rattle.psm_meaning.specs.Values.{Layer, came, worked, scaled, scalar}
 use Rattle.psm_meaning.specs.Assigning.{assign, assign_each, assign_all, retrieve, retrieve_all, given_back, ended_well}
-use Rattle.psm_meaning.specs.Signalling.{entry_for, message_text, activating, assign_items, numbered, number_given, get_diagnostics}
+use Rattle.psm_meaning.specs.Signalling.{entry_for, message_text, activating, stacked_area, area_read, assign_items, numbered, number_given, get_diagnostics}
 use Rattle.psm_meaning.specs.Cursors.{cursor_now, open_as, opened, «open», let_go, close, items_on, items_of_found, next_of, next, warned, fetched_into, fetch, only_row, select_into}
 use Rattle.psm_meaning.specs.Data.{unless_failed, some_row, some_rows, put_in, update_rows, delete_rows, standing_on, row_of_cursor, leave_row, update_at, delete_at, update, delete}
 use Rattle.psm_meaning.specs.Flow.{kept, row_of_for}
@@ -154,9 +156,17 @@ pure-number_given : (number : ResolvedNumber) → Pure (number_given number)
 pure-number_given (Constant k) = search pure
 pure-number_given (Variable slot) = pure-variable slot
 
+pure-stacked_area : (areas : List Diagnostics) → Pure (stacked_area areas)
+pure-stacked_area [] = search pure
+pure-stacked_area (a ∷ areas) = search pure
+
+pure-area_read : (eval_context : EvalContext) (area : DiagnosticsArea) → Pure (area_read eval_context area)
+pure-area_read eval_context which_area.Current = search pure
+pure-area_read eval_context which_area.Stacked = pure-stacked_area eval_context.acting
+
 pub pure-get_diagnostics : (eval_context : EvalContext) (d : ResolvedDiagnostics) → Pure (get_diagnostics eval_context d)
-pure-get_diagnostics eval_context (Statement items) = search (pure, pure-assign_items)
-pure-get_diagnostics eval_context (Condition number items) = search (pure, pure-assign_items, pure-numbered, pure-number_given)
+pure-get_diagnostics eval_context (Statement area items) = search (pure, pure-assign_items, pure-area_read)
+pure-get_diagnostics eval_context (Condition area number items) = search (pure, pure-assign_items, pure-area_read, pure-numbered, pure-number_given)
 
 -- ---- cursors
 

@@ -42,7 +42,7 @@ after_action area o = ends_as o
 -- the action of a handler at a place, which is activated with an area
 abbrev pub action_over : EvalContext → ResolvedHandler → Diagnostics → Deed
 action_over eval_context h area =
-  following (λ m st. m.done (Do (out-ResolvedHandler h).action) (record eval_context { acting = area ∷ eval_context.acting }) st) (after_action area)
+    following (λ m st. m.done (Do (out-ResolvedHandler h).action) (record eval_context { acting = area ∷ eval_context.acting }) st) (after_action area)
 
 -- the action of a handler at a place, for the condition that is in the area
 abbrev pub action : EvalContext → ResolvedHandler → Deed

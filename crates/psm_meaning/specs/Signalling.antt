@@ -113,12 +113,13 @@ abbrev pub number_given : ResolvedNumber → Act Datum
 number_given (Constant n) = got (Num n)
 number_given (Variable slot) = variable slot
 
+-- the area is read before anything that may raise a condition: the number is a constant or the value of a variable
 abbrev pub get_diagnostics : EvalContext → ResolvedDiagnostics → Act (Unit {0})
 get_diagnostics eval_context (Statement area items) = do
   a ← area_read eval_context area
   assign_items eval_context (statement_item (length (entries_of a.entries)) a.entries.more a.rows) items
 get_diagnostics eval_context (Condition area number items) = do
-  a ← area_read eval_context area
   d ← number_given number
+  a ← area_read eval_context area
   e ← numbered (entry_numbered 1 (entries_of a.entries) d)
   assign_items eval_context (entry_item e.0 e.1) items

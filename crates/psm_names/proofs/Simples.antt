@@ -26,6 +26,7 @@ use Rattle.psm_tree.specs.declared.statement.Condition.TheVariants as signals
 use Rattle.psm_tree.specs.declared.statement.ConditionNumber.{ConditionNumber}
 use Rattle.psm_tree.specs.declared.statement.ConditionNumber.TheVariants as numbers
 use Rattle.psm_tree.specs.declared.statement.Diagnostics.{Diagnostics}
+use Rattle.psm_tree.specs.declared.statement.DiagnosticsArea.{DiagnosticsArea}
 use Rattle.psm_tree.specs.declared.statement.Diagnostics.TheVariants as diagnostics
 use Rattle.psm_tree.specs.declared.statement.InsertSource.{InsertSource}
 use Rattle.psm_tree.specs.declared.statement.InsertSource.TheVariants as sources
@@ -166,9 +167,9 @@ number-gives : (symbols : SymbolTable) (scopes : Scopes) (n : ConditionNumber) �
 number-gives symbols scopes (numbers.Number place n) = gives-none
 number-gives symbols scopes (numbers.Target t) = gives-one (target-is symbols scopes t) gives-none
 
-diagnostics-give : (symbols : SymbolTable) (scopes : Scopes) (d : Diagnostics) → Gives symbols (of_diagnostics (diagnostics_of scopes d)) (in_diagnostics (known scopes) d)
-diagnostics-give symbols scopes (diagnostics.Statement items) = gotten-give symbols scopes (λ i. i.target) (λ i. resolving.statement_item i.item) (several items)
-diagnostics-give symbols scopes (diagnostics.Condition number items) = gives-both (number-gives symbols scopes number) (gotten-give symbols scopes (λ i. i.target) (λ i. resolving.condition_item i.item) (several items))
+diagnostics-give : (symbols : SymbolTable) (scopes : Scopes) (which : DiagnosticsArea) (d : Diagnostics) → Gives symbols (of_diagnostics (diagnostics_of scopes which d)) (in_diagnostics (known scopes) d)
+diagnostics-give symbols scopes which (diagnostics.Statement items) = gotten-give symbols scopes (λ i. i.target) (λ i. resolving.statement_item i.item) (several items)
+diagnostics-give symbols scopes which (diagnostics.Condition number items) = gives-both (number-gives symbols scopes number) (gotten-give symbols scopes (λ i. i.target) (λ i. resolving.condition_item i.item) (several items))
 
 source-gives : (s : ResolverScope) (source : InsertSource) → Gives s.symbols (of_rows (rows_of s source)) (in_rows (site_of s) source)
 source-gives s (sources.Values values) = rows-give s (several values)
@@ -204,7 +205,7 @@ simple-gives s (simples.Leave place label) = gives-one (label-is s.symbols s.sco
 simple-gives s (simples.Iterate place label) = gives-one (label-is s.symbols s.scopes label) gives-none
 simple-gives s (simples.Signal place signalled) = signal-gives s signalled
 simple-gives s (simples.Resignal place signalled) = resignal-gives s signalled
-simple-gives s (simples.GetDiagnostics place which d) = diagnostics-give s.symbols s.scopes d
+simple-gives s (simples.GetDiagnostics place which d) = diagnostics-give s.symbols s.scopes which d
 simple-gives s (simples.SelectInto query targets) = gives-both (query-gives query s) (targets-give s.symbols s.scopes (several targets))
 simple-gives s (simples.Insert place table names source) =
     gives-one (table-is s table)

@@ -56,8 +56,8 @@ of_number (numbers.Constant n) = []
 of_number (numbers.Variable slot) = Variable slot ∷ []
 
 abbrev pub of_diagnostics : ResolvedDiagnostics → R
-of_diagnostics (gotten.Statement items) = map (λ i. Variable i.0) items
-of_diagnostics (gotten.Condition number items) = of_number number ++ map (λ i. Variable i.0) items
+of_diagnostics (gotten.Statement area items) = map (λ i. Variable i.0) items
+of_diagnostics (gotten.Condition area number items) = of_number number ++ map (λ i. Variable i.0) items
 
 abbrev pub of_rows : ResolvedRows → R
 of_rows (rows.Values values) = together (map of_exprs values)

@@ -2,7 +2,7 @@
 ghost use Rattle.psm_grammar.specs.Readers.{one};
 ghost use Rattle.psm_token.specs.Kinds.{kind};
 ghost use Rattle.psm_tree.specs.Readers.{Takes, TakesAs, reading};
-ghost use Rattle.psm_tree.specs.StatementGrammar.{statement_info as statement_info_part, next_statement_info as next_statement_info_part, next_statement_infos as next_statement_infos_part, statement_infos as statement_infos_part, condition_info as condition_info_part, next_condition_info as next_condition_info_part, next_condition_infos as next_condition_infos_part, condition_infos as condition_infos_part, condition_number as condition_number_part, exception_diagnostics as exception_diagnostics_part, diagnostics as diagnostics_part, diagnostics_statement as diagnostics_statement_part};
+ghost use Rattle.psm_tree.specs.StatementGrammar.{statement_info as statement_info_part, next_statement_info as next_statement_info_part, next_statement_infos as next_statement_infos_part, statement_infos as statement_infos_part, condition_info as condition_info_part, next_condition_info as next_condition_info_part, next_condition_infos as next_condition_infos_part, condition_infos as condition_infos_part, condition_number as condition_number_part, exception_diagnostics as exception_diagnostics_part, diagnostics as diagnostics_part, diagnostics_area as diagnostics_area_part, diagnostics_statement as diagnostics_statement_part};
 ghost use Rattle.psm_tree.specs.Tests.{statement_item as statement_item_test, condition_item as condition_item_test};
 
 use psm_grammar::Halt;
@@ -237,7 +237,23 @@ fn diagnostics(alloc: Global, tokens: &mut Tokens, levels: u32) -> Result<Boxed<
     Ok(Boxed::new(alloc, Diagnostics::Statement { items })?)
 }
 
-/// `GET DIAGNOSTICS diagnostics` (ISO/IEC 9075:1992, 18.1)
+/// `[CURRENT | STACKED]`, and which area it names: without a word the current one.
+#[tactic(auto, using(psm_tree::proofs::Reading::steps), unfolding(psm_tree::specs::StatementGrammar::diagnostics_area))]
+fn diagnostics_area(tokens: &mut Tokens, levels: u32) -> Result<DiagnosticsArea, Halt>
+    ensures { Takes (reading levels diagnostics_area_part tokens.old.rest.now) result tokens.new.rest.now }
+{
+    if tokens.at(Word::Stacked) {
+        tokens.word(Word::Stacked)?;
+        return Ok(DiagnosticsArea::Stacked);
+    }
+    if tokens.at(Word::Current) {
+        tokens.word(Word::Current)?;
+        return Ok(DiagnosticsArea::Current);
+    }
+    Ok(DiagnosticsArea::Current)
+}
+
+/// `GET [CURRENT | STACKED] DIAGNOSTICS diagnostics` (ISO/IEC 9075-4:1996)
 #[tactic(auto, using(psm_tree::proofs::Reading::steps), unfolding(psm_tree::specs::StatementGrammar::diagnostics_statement))]
 pub(crate) fn diagnostics_statement(
     alloc: Global,
@@ -247,11 +263,12 @@ pub(crate) fn diagnostics_statement(
     ensures { Takes (reading levels diagnostics_statement_part tokens.old.rest.now) result tokens.new.rest.now }
 {
     let place = tokens.word(Word::Get)?;
+    let which = diagnostics_area(tokens, levels)?;
     tokens.word(Word::Diagnostics)?;
     let diagnostics = diagnostics(alloc, tokens, levels)?;
     let get = Simple::GetDiagnostics {
         place,
-        which: DiagnosticsArea::Current,
+        which,
         diagnostics,
     };
     Ok(Boxed::new(alloc, get)?)

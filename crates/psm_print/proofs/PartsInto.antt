@@ -4,7 +4,7 @@ use Rattle.psm_list.specs.Several.{several_map}
 use Rattle.psm_token.specs.declared.word.Word.TheVariants as w
 use Rattle.psm_token.specs.declared.sign.Sign.TheVariants as s
 use Rattle.psm_tree.specs.StatementGrammar
-use Rattle.psm_tree.specs.StatementGrammar.{state, direction, column_order, order, ordered_select, message, signalled, state_signalled, name_signalled, current, where_part, values, insert_source, assignment, statement_info, condition_info, condition_number, exception_diagnostics, diagnostics, for_state, insert_values, read_only_part, updatability, insensitive, atomic, handler_value, handler_values}
+use Rattle.psm_tree.specs.StatementGrammar.{state, direction, column_order, order, ordered_select, message, signalled, state_signalled, name_signalled, current, where_part, values, insert_source, assignment, statement_info, condition_info, condition_number, exception_diagnostics, diagnostics, diagnostics_area, for_state, insert_values, read_only_part, updatability, insensitive, atomic, handler_value, handler_values}
 use Rattle.psm_tree.specs.declared.statement.Updatability.{Updatability}
 use Rattle.psm_tree.specs.declared.statement.Diagnostics.{Diagnostics}
 use Rattle.psm_tree.specs.declared.statement.Diagnostics.TheVariants as diagnostic
@@ -14,7 +14,7 @@ use Rattle.psm_tree.specs.declared.statement.Where.{Where}
 use Rattle.psm_tree.specs.declared.statement.Where.TheVariants as wheres
 use Rattle.psm_print.specs.Spelling.{Spelling, word, sign, separated}
 use Rattle.psm_print.specs.ExprTokens.{name_tokens, target_tokens, expr_tokens}
-use Rattle.psm_print.specs.StatementTokens.{state_tokens, direction_tokens, column_order_tokens, order_tokens, ordered_query_tokens, condition_tokens, signalled_tokens, where_tokens, values_tokens, rows_tokens, insert_source_tokens, assignment_tokens, statement_item_tokens, condition_item_tokens, statement_info_tokens, condition_info_tokens, condition_number_tokens, diagnostics_tokens, updatability_tokens, insensitive_tokens, handler_value_tokens, handled_tokens, atomic_tokens}
+use Rattle.psm_print.specs.StatementTokens.{state_tokens, direction_tokens, column_order_tokens, order_tokens, ordered_query_tokens, condition_tokens, signalled_tokens, where_tokens, values_tokens, rows_tokens, insert_source_tokens, assignment_tokens, statement_item_tokens, condition_item_tokens, statement_info_tokens, condition_info_tokens, condition_number_tokens, diagnostics_tokens, area_tokens, updatability_tokens, insensitive_tokens, handler_value_tokens, handled_tokens, atomic_tokens}
 use Rattle.psm_print.proofs.Regrouped.{before2}
 use Rattle.psm_print.proofs.Into.{PrintContext, Into, into_told, into_told_if, into_seq, left_out, or_from, or_right, into_or, into_gone, into_image, into_nothing, into_perhaps}
 use Rattle.psm_print.proofs.Tokens.{into_word, into_sign, after_word, after_sign, into_closed, into_commas}
@@ -145,6 +145,11 @@ exception_into = into_told_if diagnostics_tokens (λ u x l. subst IsException (s
 pub diagnostics_into : {z : PrintContext} → Into z diagnostics diagnostics diagnostics_tokens
 unfolding StatementGrammar.all_statements
 diagnostics_into = into_or exception_into (into_image diagnostics_tokens (into_commas statement_info_tokens statement_info_into) (λ x. refl))
+
+-- CURRENT is left out
+pub area_into : {z : PrintContext} → Into z diagnostics_area diagnostics_area area_tokens
+unfolding StatementGrammar.all_statements
+area_into = into_or (into_image area_tokens (into_word w.Stacked) (λ x. refl)) (or_from (or_right (into_gone area_tokens refl (λ u x l. l.made))) (or_right (into_nothing area_tokens refl)))
 
 -- ---- parts of declarations
 

@@ -7,7 +7,7 @@ use Rattle.psm_tree.specs.StatementGrammar.{set_statement, call_statement, retur
 use Rattle.psm_tree.specs.declared.expr.Select.{out-roll-Select}
 use Rattle.psm_print.specs.Spelling.{word, sign, perhaps, listed, in_parens}
 use Rattle.psm_print.specs.ExprTokens.{name_tokens, target_tokens, enclosed_names_tokens, targets_tokens, expr_tokens}
-use Rattle.psm_print.specs.StatementTokens.{signalled_tokens, where_tokens, insert_source_tokens, assignment_tokens, assignments_tokens, select_into_tokens, simple_tokens}
+use Rattle.psm_print.specs.StatementTokens.{signalled_tokens, area_tokens, diagnostics_tokens, where_tokens, insert_source_tokens, assignment_tokens, assignments_tokens, select_into_tokens, simple_tokens}
 use Rattle.psm_print.proofs.Regrouped.{before2, before3}
 use Rattle.psm_print.proofs.Into.{PrintContext, Into, into_seq, left_out, or_from, or_right, into_or, ahead_from, ahead_right, into_image, into_nothing, into_perhaps}
 use Rattle.psm_print.proofs.Tokens.{into_word, after_word, after_sign, into_commas}
@@ -15,7 +15,7 @@ use Rattle.psm_print.proofs.Chosen.{into_name}
 use Rattle.psm_print.proofs.TypesInto.{target_into, names_in_parens_into, targets_into}
 use Rattle.psm_print.proofs.ExprInto.{source_into}
 use Rattle.psm_print.proofs.QueryInto.{picks_tokens, picks_into, from_tokens, from_into, arguments_into}
-use Rattle.psm_print.proofs.PartsInto.{state_signalled_into, name_signalled_into, signalled_into, where_into, insert_source_into, assignment_into, diagnostics_into}
+use Rattle.psm_print.proofs.PartsInto.{state_signalled_into, name_signalled_into, signalled_into, where_into, insert_source_into, assignment_into, diagnostics_into, area_into}
 
 set_into : {z : PrintContext} → Into z set_statement set_statement simple_tokens
 unfolding StatementGrammar.all_statements
@@ -51,7 +51,7 @@ resignal_into = into_seq simple_tokens (into_word w.Resignal) resignalled_into (
 
 get_into : {z : PrintContext} → Into z diagnostics_statement diagnostics_statement simple_tokens
 unfolding StatementGrammar.all_statements
-get_into = into_seq simple_tokens (into_word w.Get) (after_word w.Diagnostics diagnostics_into) (λ x y. refl)
+get_into = into_seq simple_tokens (into_word w.Get) (into_seq (λ p. area_tokens p.0 ++ word w.Diagnostics ++ diagnostics_tokens p.1) area_into (after_word w.Diagnostics diagnostics_into) (λ x y. before2 (area_tokens x) (word w.Diagnostics) (diagnostics_tokens y))) (λ x y. refl)
 
 into_targets_into : {z : PrintContext} → Into z into_targets into_targets (λ x. word w.Into ++ targets_tokens x)
 unfolding StatementGrammar.all_statements

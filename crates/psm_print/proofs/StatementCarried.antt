@@ -96,6 +96,12 @@ unfolding StatementGrammar.all_statements
 diagnostics_carried = carried_or (carried_after (carried_seq condition_number_carried (carried_several condition_info_carried (carried_after condition_info_carried)) (λ x y. refl)))
     (carried_image (carried_several statement_info_carried (carried_after statement_info_carried)) (λ x. refl))
 
+area_carried : Carried same StatementGrammar.diagnostics_area
+unfolding StatementGrammar.all_statements
+area_carried = carried_or (carried_image carried_place (λ x. refl))
+    (carried_or (carried_image carried_place (λ x. refl))
+    (carried_nothing refl))
+
 -- ---- simple statements
 
 resignalled_carried : Carried (option_map signalled_without_positions) StatementGrammar.resignalled
@@ -152,7 +158,7 @@ simple_carried = carried_or (carried_seq carried_place (carried_pair target_carr
     (carried_or (carried_seq carried_place carried_name (λ x y. refl))
     (carried_or (carried_seq carried_place (carried_or state_signalled_carried name_signalled_carried) (λ x y. refl))
     (carried_or (carried_seq carried_place resignalled_carried (λ x y. refl))
-    (carried_or (carried_seq carried_place (carried_after diagnostics_carried) (λ x y. refl))
+    (carried_or (carried_seq carried_place (carried_pair area_carried (carried_after diagnostics_carried)) (λ x y. refl))
     data_statement_carried)))))))
 
 -- ---- statements

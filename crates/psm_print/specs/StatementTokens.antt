@@ -45,6 +45,8 @@ use Rattle.psm_tree.specs.declared.statement.StatementInformation.{StatementInfo
 use Rattle.psm_tree.specs.declared.statement.ConditionInformation.{ConditionInformation}
 use Rattle.psm_tree.specs.declared.statement.ConditionNumber.{ConditionNumber}
 use Rattle.psm_tree.specs.declared.statement.ConditionNumber.TheVariants as numbers
+use Rattle.psm_tree.specs.declared.statement.DiagnosticsArea.{DiagnosticsArea}
+use Rattle.psm_tree.specs.declared.statement.DiagnosticsArea.TheVariants as areas
 use Rattle.psm_tree.specs.declared.statement.Diagnostics.{Diagnostics}
 use Rattle.psm_tree.specs.declared.statement.Diagnostics.TheVariants as diagnostics
 use Rattle.psm_tree.specs.declared.statement.Values.{Values}
@@ -130,6 +132,11 @@ abbrev pub condition_number_tokens : ConditionNumber → Spelling
 condition_number_tokens (numbers.Number place number) = number_tokens number
 condition_number_tokens (numbers.Target target) = target_tokens target
 
+-- CURRENT needs no word
+abbrev pub area_tokens : DiagnosticsArea → Spelling
+area_tokens areas.Current = []
+area_tokens areas.Stacked = word w.Stacked
+
 abbrev pub diagnostics_tokens : Diagnostics → Spelling
 diagnostics_tokens (diagnostics.Statement items) = separated (sign s.Comma) (several_map statement_info_tokens items)
 diagnostics_tokens (diagnostics.Condition number items) = word w.Exception ++ condition_number_tokens number ++ separated (sign s.Comma) (several_map condition_info_tokens items)
@@ -148,7 +155,7 @@ simple_tokens (simples.Leave place label) = word w.Leave ++ name_tokens label
 simple_tokens (simples.Iterate place label) = word w.Iterate ++ name_tokens label
 simple_tokens (simples.Signal place signalled) = word w.Signal ++ signalled_tokens signalled
 simple_tokens (simples.Resignal place signalled) = word w.Resignal ++ perhaps [] (option_map signalled_tokens signalled)
-simple_tokens (simples.GetDiagnostics place which diagnostics) = word w.Get ++ word w.Diagnostics ++ diagnostics_tokens diagnostics
+simple_tokens (simples.GetDiagnostics place which diagnostics) = word w.Get ++ area_tokens which ++ word w.Diagnostics ++ diagnostics_tokens diagnostics
 simple_tokens (simples.SelectInto query targets) = select_into_tokens (out-Select query) targets
 simple_tokens (simples.Insert place table columns source) = word w.Insert ++ word w.Into ++ name_tokens table ++ perhaps [] (option_map enclosed_names_tokens columns) ++ insert_source_tokens source
 simple_tokens (simples.Update place table assignments which) = word w.Update ++ name_tokens table ++ word w.Set ++ assignments_tokens assignments ++ perhaps [] (option_map where_tokens which)

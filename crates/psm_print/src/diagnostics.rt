@@ -3,15 +3,15 @@ ghost use Rattle.std.specs.Prelude.{◌≡◌, ◌++◌, IfOk};
 ghost use Rattle.psm_list.specs.Several.{several_map};
 ghost use Rattle.psm_token.specs.declared.sign.Sign.TheVariants as s;
 ghost use Rattle.psm_print.specs.Spelling.{sign, separated};
-ghost use Rattle.psm_print.specs.StatementTokens.{statement_item_tokens, condition_item_tokens, statement_info_tokens, condition_info_tokens, condition_number_tokens, diagnostics_tokens};
+ghost use Rattle.psm_print.specs.StatementTokens.{statement_item_tokens, condition_item_tokens, statement_info_tokens, condition_info_tokens, condition_number_tokens, diagnostics_tokens, area_tokens};
 
 use crate::names::target;
 use psm_list::OneOrMore;
 use psm_spell::Writer;
 use psm_token::{Sign, Word};
 use psm_tree::{
-    ConditionInformation, ConditionItem, ConditionNumber, Diagnostics, StatementInformation,
-    StatementItem,
+    ConditionInformation, ConditionItem, ConditionNumber, Diagnostics, DiagnosticsArea,
+    StatementInformation, StatementItem,
 };
 use std::alloc::AllocError;
 
@@ -97,6 +97,16 @@ fn condition_infos(
         condition_info(out, next)?;
     }
     Ok(())
+}
+
+/// The area that GET DIAGNOSTICS names: CURRENT needs no word.
+pub(crate) fn diagnostics_area(out: &mut Writer, area: DiagnosticsArea) -> Result<(), AllocError>
+    ensures { IfOk result (λ _. out.new ≡ out.old ++ area_tokens area) }
+{
+    match area {
+        DiagnosticsArea::Current => Ok(()),
+        DiagnosticsArea::Stacked => out.word(Word::Stacked),
+    }
 }
 
 /// What GET DIAGNOSTICS gets.

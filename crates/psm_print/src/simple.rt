@@ -5,7 +5,7 @@ ghost use Rattle.psm_print.specs.Spelling.{perhaps};
 ghost use Rattle.psm_print.specs.ExprTokens.{enclosed_names_tokens};
 ghost use Rattle.psm_print.specs.StatementTokens.{signalled_tokens, select_into_tokens, where_tokens, simple_tokens};
 
-use crate::diagnostics::diagnostics;
+use crate::diagnostics::{diagnostics, diagnostics_area};
 use crate::exprs::{expr, from_table, listed, picks};
 use crate::names::{enclosed_names, name, target, targets};
 use crate::parts::{assignments, insert_source, signalled, which_rows};
@@ -68,10 +68,12 @@ pub(crate) fn simple(out: &mut Writer, statement: &Simple) -> Result<(), AllocEr
             perhaps_signalled(out, condition)
         }
         Simple::GetDiagnostics {
+            which,
             diagnostics: gets,
             ..
         } => {
             out.word(Word::Get)?;
+            diagnostics_area(out, *which)?;
             out.word(Word::Diagnostics)?;
             diagnostics(out, gets.get())
         }

@@ -5,6 +5,8 @@ use Rattle.psm_cond.specs.declared.item.StatementItem.{StatementItem}
 use Rattle.psm_cond.specs.declared.item.StatementItem.TheVariants as statement_items
 use Rattle.psm_cond.specs.declared.item.ConditionItem.{ConditionItem}
 use Rattle.psm_cond.specs.declared.item.ConditionItem.TheVariants as condition_items
+use Rattle.psm_cond.specs.declared.item.DiagnosticsArea.{DiagnosticsArea}
+use Rattle.psm_cond.specs.declared.item.DiagnosticsArea.TheVariants as areas
 use Rattle.psm_scope.specs.Scopes.{Spelling}
 use Rattle.psm_scope.specs.Lookup.{meant}
 use Rattle.psm_scope.specs.Lookup as lookup
@@ -34,6 +36,8 @@ use Rattle.psm_tree.specs.declared.statement.ConditionNumber.{ConditionNumber}
 use Rattle.psm_tree.specs.declared.statement.ConditionNumber.TheVariants as numbers
 use Rattle.psm_tree.specs.declared.statement.Diagnostics.{Diagnostics}
 use Rattle.psm_tree.specs.declared.statement.Diagnostics.TheVariants as diagnostics
+use Rattle.psm_tree.specs.declared.statement.DiagnosticsArea.{DiagnosticsArea as WrittenArea}
+use Rattle.psm_tree.specs.declared.statement.DiagnosticsArea.TheVariants as written_areas
 use Rattle.psm_tree.specs.declared.statement.InsertSource.{InsertSource}
 use Rattle.psm_tree.specs.declared.statement.InsertSource.TheVariants as sources
 use Rattle.psm_tree.specs.declared.statement.Signalled.{Signalled}
@@ -162,9 +166,13 @@ abbrev pub number_of : Scopes → ConditionNumber → ResolvedNumber
 number_of scopes (numbers.Number place n) = condition_numbers.Constant n
 number_of scopes (numbers.Target t) = condition_numbers.Variable (slot_of scopes t)
 
-abbrev pub diagnostics_of : Scopes → Diagnostics → ResolvedDiagnostics
-diagnostics_of scopes (diagnostics.Statement items) = gotten.Statement (map (λ i. (slot_of scopes i.target, statement_item i.item)) (several items))
-diagnostics_of scopes (diagnostics.Condition number items) = gotten.Condition (number_of scopes number) (map (λ i. (slot_of scopes i.target, condition_item i.item)) (several items))
+abbrev pub area_of : WrittenArea → DiagnosticsArea
+area_of written_areas.Current = areas.Current
+area_of written_areas.Stacked = areas.Stacked
+
+abbrev pub diagnostics_of : Scopes → WrittenArea → Diagnostics → ResolvedDiagnostics
+diagnostics_of scopes which (diagnostics.Statement items) = gotten.Statement (area_of which) (map (λ i. (slot_of scopes i.target, statement_item i.item)) (several items))
+diagnostics_of scopes which (diagnostics.Condition number items) = gotten.Condition (area_of which) (number_of scopes number) (map (λ i. (slot_of scopes i.target, condition_item i.item)) (several items))
 
 -- ---- rows
 
@@ -197,7 +205,7 @@ simple_of resolver_scope (simples.Leave place label) = resolved.Leave (level_of 
 simple_of resolver_scope (simples.Iterate place label) = resolved.Iterate (level_of resolver_scope.scopes label)
 simple_of resolver_scope (simples.Signal place signalled) = resolved.Signal (signal_of resolver_scope signalled)
 simple_of resolver_scope (simples.Resignal place signalled) = resolved.Resignal (option_map (signal_of resolver_scope) signalled)
-simple_of resolver_scope (simples.GetDiagnostics place which d) = resolved.GetDiagnostics (diagnostics_of resolver_scope.scopes d)
+simple_of resolver_scope (simples.GetDiagnostics place which d) = resolved.GetDiagnostics (diagnostics_of resolver_scope.scopes which d)
 simple_of resolver_scope (simples.SelectInto query targets) = resolved.SelectInto (resolve_query query resolver_scope).query (slots_of resolver_scope.scopes (several targets))
 simple_of resolver_scope (simples.Insert place table names source) = resolved.Insert (table_of resolver_scope table) (inserted (columns_of resolver_scope table) names) (rows_of resolver_scope source)
 simple_of resolver_scope (simples.Update place table assignments which) = resolved.Update (table_of resolver_scope table) (map (set_of (on_table resolver_scope table) (columns_of resolver_scope table)) (several assignments)) (which_in resolver_scope table which)

@@ -3,10 +3,10 @@ ghost use Rattle.std.specs.Prelude.{◌≡◌, map, option_map, IfOk};
 ghost use Rattle.psm_resolved.specs.declared.statement.ResolvedSimple.TheVariants as resolved;
 ghost use Rattle.psm_rules.specs.StatementFaults.{good_state, several};
 ghost use Rattle.psm_resolve_expr.specs.Seen.{seen_at};
-ghost use Rattle.psm_resolve.specs.Statements.{condition_item, condition_of, declared_as, diagnostics_of, number_of, signal_of, slot_of, state_of, statement_item};
+ghost use Rattle.psm_resolve.specs.Statements.{area_of, condition_item, condition_of, declared_as, diagnostics_of, number_of, signal_of, slot_of, state_of, statement_item};
 
 use crate::known::slot_of;
-use psm_cond::{ConditionItem, StatementItem};
+use psm_cond::{ConditionItem, DiagnosticsArea, StatementItem};
 use psm_declare::optional_at;
 use psm_list::{Boxed, List, OneOrMore};
 use psm_resolve_expr::{ResolverScope, Scopes};
@@ -112,31 +112,48 @@ pub(crate) fn resignal(
 pub(crate) fn get_diagnostics(
     alloc: Global,
     scopes: &Scopes,
+    which: psm_tree::DiagnosticsArea,
     diagnostics: &Diagnostics,
 ) -> Result<Boxed<ResolvedSimple>, AllocError>
-    ensures { IfOk result (λ s. s ≡ resolved.GetDiagnostics (diagnostics_of scopes.now diagnostics.now)) }
+    ensures { IfOk result (λ s. s ≡ resolved.GetDiagnostics (diagnostics_of scopes.now which diagnostics.now)) }
 {
-    let diagnostics = diagnostics_of(alloc, scopes, diagnostics)?;
+    let diagnostics = diagnostics_of(alloc, scopes, which, diagnostics)?;
     Boxed::new(alloc, ResolvedSimple::GetDiagnostics(diagnostics))
 }
 
 fn diagnostics_of(
     alloc: Global,
     scopes: &Scopes,
+    which: psm_tree::DiagnosticsArea,
     diagnostics: &Diagnostics,
 ) -> Result<Boxed<ResolvedDiagnostics>, AllocError>
-    ensures { IfOk result (λ d. d ≡ diagnostics_of scopes.now diagnostics.now) }
+    ensures { IfOk result (λ d. d ≡ diagnostics_of scopes.now which diagnostics.now) }
 {
+    let area = area_of(which);
     match diagnostics {
         Diagnostics::Statement { items } => {
             let items = statement_items(alloc, scopes, items)?;
-            Boxed::new(alloc, ResolvedDiagnostics::Statement { items })
+            Boxed::new(alloc, ResolvedDiagnostics::Statement { area, items })
         }
         Diagnostics::Condition { number, items } => {
             let number = number_of(scopes, number);
             let items = condition_items(alloc, scopes, items)?;
-            Boxed::new(alloc, ResolvedDiagnostics::Condition { number, items })
+            let condition = ResolvedDiagnostics::Condition {
+                area,
+                number,
+                items,
+            };
+            Boxed::new(alloc, condition)
         }
+    }
+}
+
+fn area_of(which: psm_tree::DiagnosticsArea) -> DiagnosticsArea
+    ensures { result ≡ area_of which }
+{
+    match which {
+        psm_tree::DiagnosticsArea::Current => DiagnosticsArea::Current,
+        psm_tree::DiagnosticsArea::Stacked => DiagnosticsArea::Stacked,
     }
 }
 

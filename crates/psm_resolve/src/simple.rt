@@ -39,9 +39,11 @@ pub(crate) fn simple_of(
         Simple::Iterate { label, .. } => iterate(alloc, scopes, label),
         Simple::Signal { signalled, .. } => signal(alloc, resolver_scope, signalled.get()),
         Simple::Resignal { signalled, .. } => resignal(alloc, resolver_scope, signalled),
-        Simple::GetDiagnostics { diagnostics, .. } => {
-            get_diagnostics(alloc, scopes, diagnostics.get())
-        }
+        Simple::GetDiagnostics {
+            which,
+            diagnostics,
+            ..
+        } => get_diagnostics(alloc, scopes, *which, diagnostics.get()),
         Simple::SelectInto { query, targets } => {
             select_into(alloc, resolver_scope, query.get(), targets.get())
         }

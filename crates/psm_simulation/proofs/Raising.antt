@@ -8,7 +8,7 @@ use Rattle.psm_resolved.specs.declared.statement.ResolvedHandler.{ResolvedHandle
 use Rattle.psm_meaning.specs.Acts.{Do, Meaning, Outcome, Normal, Leave, Iterate, Return, Raised, Away, Stopped}
 use Rattle.psm_meaning.specs.Raising as meaning
 use Rattle.psm_meaning.specs.Raising.{after_action}
-use Rattle.psm_meaning.specs.State.{State, cleared}
+use Rattle.psm_meaning.specs.State.{State, put_back}
 use Rattle.psm_cond.specs.Area.{Diagnostics}
 use Rattle.psm_code.specs.declared.code.RawCode.{RawCode}
 use Rattle.psm_code.specs.declared.code.RawRoutine.{RawRoutine}
@@ -31,15 +31,15 @@ abbrev acting_spot : ℕ → Option ℕ → Diagnostics → Spot → Spot
 acting_spot n resume area spot = with_standing (Acting n resume area ∷ spot.standing) spot
 
 end-action : (code : RawCode) (r : RawRoutine) (spot : Spot) → routine_at code spot.number ≡ Some r → (n : ℕ) (coded : Handler) → handler_at r n ≡ Some coded → (resume : Option ℕ) (area : Diagnostics) (target last : ℕ) → Plain r last (instruction.EndAction n)
-    → ((m : Machine) → line_after r coded coded.kind resume m ≡ got target m) → (st : State) → Leads code (More (machine (acting_spot n resume area spot) last [] st)) (More (machine spot target [] (cleared st)))
+    → ((m : Machine) → line_after r coded coded.kind resume m ≡ got target m) → (st : State) → Leads code (More (machine (acting_spot n resume area spot) last [] st)) (More (machine spot target [] (put_back area st)))
 end-action code r spot p n coded there resume area target last l following st =
     let m = machine (acting_spot n resume area spot) last [] st in
     let frames = map frame_of spot.standing in
-    let rest : ℕ → Act (Machine → Stepped) = λ line. ◌>>◌ (change (λ m. code_state.cleared (with_frames frames m))) (got (at line)) in
-    let one = ap (λ b. (if b then act_ended r n resume frames else ends code_state.Stuck) m) (nat_eq-same n) in
+    let rest : ℕ → Act (Machine → Stepped) = λ line. ◌>>◌ (change (λ m. code_state.put_back area (with_frames frames m))) (got (at line)) in
+    let one = ap (λ b. (if b then act_ended r n resume area frames else ends code_state.Stuck) m) (nat_eq-same n) in
     let two = ap (λ x. ◌>>=◌ (present x) (λ h. ◌>>=◌ (line_after r h h.kind resume) rest) m) there in
     let three = ap (λ came. go_on came.given rest came.machine) (following m) in
-    leads-successor code m (machine spot last [] (cleared st)) r _ (at target) p l.there (one ∙ two ∙ three)
+    leads-successor code m (machine spot last [] (put_back area st)) r _ (at target) p l.there (one ∙ two ∙ three)
 
 -- ---- what comes of a run comes of one that leads to it
 
@@ -80,8 +80,8 @@ begins-in file code routine r inner spot from h st e (Some a) b = record {
 }
 
 action-meets : (file : ResolvedFile) (code : RawCode) (routine : ResolvedRoutine) (r : RawRoutine) (env : Env) (spot : Spot) (v : Visible) (outer : List Visible) (k n : ℕ) (resume : Option ℕ) (area : Diagnostics) (from : Stepped) (last target : ℕ) (m : Meaning) → ((l : ℕ) → IsVisible l outer → IsVisible l env.visible)
-    → ((st : State) → Leads code (More (machine (acting_spot n resume area spot) last [] st)) (More (machine spot target [] (cleared st))))
-    → (o : Outcome) (st : State) → Meets file code routine r (in_action v k outer) (acting_spot n resume area spot) from last o st → Meets file code routine r env spot from target (after_action o m st).outcome (after_action o m st).state
+    → ((st : State) → Leads code (More (machine (acting_spot n resume area spot) last [] st)) (More (machine spot target [] (put_back area st))))
+    → (o : Outcome) (st : State) → Meets file code routine r (in_action v k outer) (acting_spot n resume area spot) from last o st → Meets file code routine r env spot from target (after_action area o m st).outcome (after_action area o m st).state
 action-meets file code routine r env spot v outer k n resume area from last target m sub e Normal st h = (leads-to h.0 (e st), h.1)
 action-meets file code routine r env spot v outer k n resume area from last target m sub e (Leave level) st h = absurd h.0
 action-meets file code routine r env spot v outer k n resume area from last target m sub e (Iterate level) st h = absurd h.0

@@ -5,6 +5,7 @@ use Rattle.psm_value.specs.declared.datum.Datum.TheVariants as data_of
 use Rattle.psm_cond.specs.declared.handlers.Declared.TheVariants as declares
 use Rattle.psm_cond.specs.declared.handlers.Handler.{Handler}
 use Rattle.psm_cond.specs.declared.item.ConditionItem.{ConditionItem}
+use Rattle.psm_cond.specs.declared.item.DiagnosticsArea.{DiagnosticsArea}
 use Rattle.psm_cond.specs.declared.item.StatementItem.{StatementItem}
 use Rattle.psm_cond.specs.Handlers.{scopes}
 use Rattle.psm_exprcode.specs.declared.op.Letter.{Letter}
@@ -119,15 +120,16 @@ Signals file code r context resume plain with_message n (Some e) pc end = (mid :
 
 -- ---- GET DIAGNOSTICS
 
-abbrev pub StatementItems : RawRoutine → ℕ → ℕ → List (ℕ × StatementItem) → ℕ → ℕ → Type 0
-StatementItems r context resume [] pc end = pc ≡ end
-StatementItems r context resume (i ∷ items) pc end = Raising r context resume pc (instruction.StatementItem i.1) × Raising r context resume (suc pc) (instruction.Store i.0) × StatementItems r context resume items (suc (suc pc)) end
+-- items of that area
+abbrev pub StatementItems : RawRoutine → ℕ → ℕ → DiagnosticsArea → List (ℕ × StatementItem) → ℕ → ℕ → Type 0
+StatementItems r context resume area [] pc end = pc ≡ end
+StatementItems r context resume area (i ∷ items) pc end = Raising r context resume pc (instruction.StatementItem area i.1) × Raising r context resume (suc pc) (instruction.Store i.0) × StatementItems r context resume area items (suc (suc pc)) end
 
 -- the number of the condition stands on the operands, and is copied for all items but the last
-abbrev pub ConditionItems : RawRoutine → ℕ → ℕ → (ℕ × ConditionItem) → List (ℕ × ConditionItem) → ℕ → ℕ → Type 0
-ConditionItems r context resume i [] pc end = Raising r context resume pc (instruction.ConditionItem i.1) × Raising r context resume (suc pc) (instruction.Store i.0) × (suc (suc pc) ≡ end)
-ConditionItems r context resume i (j ∷ items) pc end = Raising r context resume pc (instruction.Operation op.Duplicate) × Raising r context resume (suc pc) (instruction.ConditionItem i.1)
-    × Raising r context resume (suc (suc pc)) (instruction.Store i.0) × ConditionItems r context resume j items (suc (suc (suc pc))) end
+abbrev pub ConditionItems : RawRoutine → ℕ → ℕ → DiagnosticsArea → (ℕ × ConditionItem) → List (ℕ × ConditionItem) → ℕ → ℕ → Type 0
+ConditionItems r context resume area i [] pc end = Raising r context resume pc (instruction.ConditionItem area i.1) × Raising r context resume (suc pc) (instruction.Store i.0) × (suc (suc pc) ≡ end)
+ConditionItems r context resume area i (j ∷ items) pc end = Raising r context resume pc (instruction.Operation op.Duplicate) × Raising r context resume (suc pc) (instruction.ConditionItem area i.1)
+    × Raising r context resume (suc (suc pc)) (instruction.Store i.0) × ConditionItems r context resume area j items (suc (suc (suc pc))) end
 
 abbrev pub number_instruction : ResolvedNumber → Instruction
 number_instruction (numbers.Constant n) = instruction.Operation (op.Constant N (data_of.Num n))
@@ -148,9 +150,10 @@ Simple file code routine r env end (simples.Signal s) pc = (n : ℕ) × Plain r 
 Simple file code routine r env end (simples.Resignal None) pc = Plain r pc instruction.Clear × Raising r env.context end (suc pc) instruction.Resignal × (suc (suc pc) ≡ end)
 Simple file code routine r env end (simples.Resignal (Some s)) pc = (n : ℕ) × Plain r pc instruction.Clear × IsDeclared routine r s.condition n
     × Signals file code r env.context end (λ n. instruction.ResignalCondition n) (λ n. instruction.ResignalMessage n) n s.message (suc pc) end
-Simple file code routine r env end (simples.GetDiagnostics (diagnostics.Statement items)) pc = StatementItems r env.context end items pc end
-Simple file code routine r env end (simples.GetDiagnostics (diagnostics.Condition number [])) pc = ⊥
-Simple file code routine r env end (simples.GetDiagnostics (diagnostics.Condition number (i ∷ items))) pc = Raising r env.context end pc (number_instruction number) × ConditionItems r env.context end i items (suc pc) end
+Simple file code routine r env end (simples.GetDiagnostics (diagnostics.Statement area [])) pc = ⊥
+Simple file code routine r env end (simples.GetDiagnostics (diagnostics.Statement area (i ∷ items))) pc = StatementItems r env.context end area (i ∷ items) pc end
+Simple file code routine r env end (simples.GetDiagnostics (diagnostics.Condition area number [])) pc = ⊥
+Simple file code routine r env end (simples.GetDiagnostics (diagnostics.Condition area number (i ∷ items))) pc = Raising r env.context end pc (number_instruction number) × ConditionItems r env.context end area i items (suc pc) end
 Simple file code routine r env end (simples.SelectInto query slots) pc = (n : ℕ) × (mid : ℕ) × Plain r pc instruction.Clear × IsQuery r n query × Raising r env.context end (suc pc) (instruction.Row n)
     × Stores r env.context end (λ slot. instruction.FetchStore slot) slots (suc (suc pc)) mid × Raising r env.context end mid instruction.Warn × (suc mid ≡ end)
 Simple file code routine r env end (simples.Insert table columns (given.Values rows)) pc = (mid : ℕ) × (n : ℕ) × Plain r pc instruction.Clear × PutsRows file code r env.context end (length columns) rows (suc pc) mid

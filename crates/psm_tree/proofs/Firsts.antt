@@ -442,6 +442,10 @@ pub first_resignal_statement : first StatementGrammar.resignal_statement ≡ wor
 unfolding StatementGrammar.all_statements
 first_resignal_statement = refl
 
+pub first_diagnostics_area : first StatementGrammar.diagnostics_area ≡ word_kind w.Stacked ∷ word_kind w.Current ∷ []
+unfolding StatementGrammar.all_statements
+first_diagnostics_area = refl
+
 pub first_diagnostics_statement : first StatementGrammar.diagnostics_statement ≡ word_kind w.Get ∷ []
 unfolding StatementGrammar.all_statements
 first_diagnostics_statement = refl
@@ -650,7 +654,7 @@ pub first_ended_statement : first StatementGrammar.ended_statement ≡ name_kind
 unfolding StatementGrammar.all_statements
 first_ended_statement = refl
 
-pub ruleset statement_firsts = (first_ended_statement, first_state_text, first_state, first_direction, first_column_order, first_next_column_order, first_next_column_orders, first_column_orders, first_order, first_ordered_select, first_message, first_state_signalled, first_name_signalled, first_current, first_where_part, first_values, first_next_values, first_more_values, first_all_values, first_insert_values, first_insert_source, first_assignment, first_next_assignment, first_next_assignments, first_statement_info, first_next_statement_info, first_next_statement_infos, first_statement_infos, first_condition_info, first_next_condition_info, first_next_condition_infos, first_condition_infos, first_exception_diagnostics, first_set_statement, first_call_statement, first_return_statement, first_leave_statement, first_iterate_statement, first_signal_statement, first_resignal_statement, first_diagnostics_statement, first_into_targets, first_select_statement, first_insert_statement, first_assignments, first_update_statement, first_delete_statement, first_open_statement, first_fetched, first_fetch_from, first_fetch_statement, first_close_statement, first_data_statement, first_simple, first_block, first_labelled_block, first_labelled_statement, first_if_statement, first_case_statement, first_otherwise_statements, first_elseif_branch, first_elseif_branches, first_if_end, first_when_branch, first_when_branches, first_case_end, first_all_when_branches, first_case_branches, first_while_body, first_until, first_insensitive, first_for_cursor_part, first_for_body, first_for_rest, first_default_source, first_typed, first_other_variables, first_for_state, first_declaration_rest, first_read_only_part, first_updatability, first_cursor_query, first_cursor_rest, first_next_handler_value, first_next_handler_values, first_handler_rest, first_declared_handler, first_declared_cursor, first_declared_variables, first_not_atomic, first_atomic)
+pub ruleset statement_firsts = (first_ended_statement, first_state_text, first_state, first_direction, first_column_order, first_next_column_order, first_next_column_orders, first_column_orders, first_order, first_ordered_select, first_message, first_state_signalled, first_name_signalled, first_current, first_where_part, first_values, first_next_values, first_more_values, first_all_values, first_insert_values, first_insert_source, first_assignment, first_next_assignment, first_next_assignments, first_statement_info, first_next_statement_info, first_next_statement_infos, first_statement_infos, first_condition_info, first_next_condition_info, first_next_condition_infos, first_condition_infos, first_exception_diagnostics, first_set_statement, first_call_statement, first_return_statement, first_leave_statement, first_iterate_statement, first_signal_statement, first_resignal_statement, first_diagnostics_area, first_diagnostics_statement, first_into_targets, first_select_statement, first_insert_statement, first_assignments, first_update_statement, first_delete_statement, first_open_statement, first_fetched, first_fetch_from, first_fetch_statement, first_close_statement, first_data_statement, first_simple, first_block, first_labelled_block, first_labelled_statement, first_if_statement, first_case_statement, first_otherwise_statements, first_elseif_branch, first_elseif_branches, first_if_end, first_when_branch, first_when_branches, first_case_end, first_all_when_branches, first_case_branches, first_while_body, first_until, first_insensitive, first_for_cursor_part, first_for_body, first_for_rest, first_default_source, first_typed, first_other_variables, first_for_state, first_declaration_rest, first_read_only_part, first_updatability, first_cursor_query, first_cursor_rest, first_next_handler_value, first_next_handler_values, first_handler_rest, first_declared_handler, first_declared_cursor, first_declared_variables, first_not_atomic, first_atomic)
 
 pub first_plain_column_rule : first FileGrammar.plain_column_rule ≡ word_kind w.Not ∷ word_kind w.Primary ∷ word_kind w.Unique ∷ word_kind w.Check ∷ []
 unfolding FileGrammar.all_files

@@ -9,7 +9,7 @@ use Rattle.psm_token.specs.Words.{word_kind}
 use Rattle.psm_tree.specs.Tests.{At, word, sign, name, number, text, handler_kind, statement_item, condition_item, exception_word}
 use Rattle.psm_tree.specs.Parts.{Statements, Branches, Phase, Declarations, Cursors, Handlers, BeginRest, LoopRest, WhileRest, RepeatRest, ForRest, IfRest, CaseStatementRest, HandlerRest, BodyRest, DeclareRest, ForParts, HandlerParts, NamedRest, Declared, Handled, Body}
 use Rattle.psm_tree.specs.ExprValues.{pair, triple, several, cons}
-use Rattle.psm_tree.specs.StatementValues.{state_of, ordered_query, order_of, order_column, yes, «no», named_condition, state_condition, signalled_of, statement_information, condition_information, number_of_condition, target_of_condition, statement_diagnostics, condition_diagnostics, values_of, inserted_values, inserted_query, assignment_of, where_true, where_current, set_of, call_of, return_of, leave_of, iterate_of, signal_of, resignal_of, diagnostics_of, select_into, insert_of, update_of, delete_of, open_of, fetch_of, close_of, simple_statement, unlabelled, labelled, if_of, case_statement_of, branch_of, branches_of, case_alone_statement, case_over_statement, compound_of, loop_of, while_of, repeat_of, for_of, for_cursor, for_parts, undeclared, variables_of, one_variable, condition_of, cursor_of, read_only, updatable, named_rest, handler_parts, state_value, name_value, exception_value, warning_value, not_found_value, declared}
+use Rattle.psm_tree.specs.StatementValues.{state_of, ordered_query, order_of, order_column, yes, «no», named_condition, state_condition, signalled_of, statement_information, condition_information, number_of_condition, target_of_condition, statement_diagnostics, condition_diagnostics, values_of, inserted_values, inserted_query, assignment_of, where_true, where_current, set_of, call_of, return_of, leave_of, iterate_of, signal_of, resignal_of, stacked_area, current_area, diagnostics_of, select_into, insert_of, update_of, delete_of, open_of, fetch_of, close_of, simple_statement, unlabelled, labelled, if_of, case_statement_of, branch_of, branches_of, case_alone_statement, case_over_statement, compound_of, loop_of, while_of, repeat_of, for_of, for_cursor, for_parts, undeclared, variables_of, one_variable, condition_of, cursor_of, read_only, updatable, named_rest, handler_parts, state_value, name_value, exception_value, warning_value, not_found_value, declared}
 use Rattle.psm_tree.specs.ExprGrammar.{Gram, all_expressions, closed, target, names_in_parens, targets, next_names, data_type, arguments, expr, source, sources, picks, from_table, select}
 use Rattle.psm_tree.specs.declared.name.Identifier.{Identifier}
 use Rattle.psm_tree.specs.Names.{Targets}
@@ -29,6 +29,8 @@ use Rattle.psm_tree.specs.declared.statement.Signalled.{Signalled}
 use Rattle.psm_tree.specs.declared.statement.StatementInformation.{StatementInformation}
 use Rattle.psm_tree.specs.declared.statement.ConditionInformation.{ConditionInformation}
 use Rattle.psm_tree.specs.declared.statement.ConditionNumber.{ConditionNumber}
+use Rattle.psm_tree.specs.declared.statement.DiagnosticsArea.{DiagnosticsArea}
+use Rattle.psm_tree.specs.declared.statement.DiagnosticsArea.TheVariants as areas
 use Rattle.psm_tree.specs.declared.statement.Diagnostics.{Diagnostics}
 use Rattle.psm_tree.specs.declared.statement.Values.{Values}
 use Rattle.psm_tree.specs.declared.statement.InsertSource.{InsertSource}
@@ -191,8 +193,14 @@ resignalled = or (image Some state_signalled)
 unfoldable pub resignal_statement : Gram Simple
 resignal_statement = seq resignal_of (token (word w.Resignal)) resignalled
 
+-- GET [CURRENT|STACKED] DIAGNOSTICS diagnostics
+unfoldable pub diagnostics_area : Gram DiagnosticsArea
+diagnostics_area = or (image stacked_area (token (word w.Stacked)))
+    (or (image current_area (token (word w.Current)))
+    (nothing areas.Current))
+
 unfoldable pub diagnostics_statement : Gram Simple
-diagnostics_statement = seq diagnostics_of (token (word w.Get)) (after_token (word w.Diagnostics) diagnostics)
+diagnostics_statement = seq diagnostics_of (token (word w.Get)) (seq pair diagnostics_area (after_token (word w.Diagnostics) diagnostics))
 
 -- SELECT picks INTO targets FROM from
 unfoldable pub into_targets : Gram Targets
@@ -468,5 +476,5 @@ begin_rest = seq pair atomic (body_rest Declarations)
 -- ---- a name that opens every production of statements, blocks and declarations
 
 unfoldable pub all_statements : Unit {0}
-unfolding all_expressions state_text state direction column_order next_column_order next_column_orders column_orders order ordered_select message state_signalled name_signalled signalled current which_rows where_part values next_values more_values all_values insert_values insert_source assignment next_assignment next_assignments statement_info next_statement_info next_statement_infos statement_infos condition_info next_condition_info next_condition_infos condition_infos condition_number exception_diagnostics diagnostics set_statement call_statement return_statement leave_statement iterate_statement signal_statement resignalled resignal_statement diagnostics_statement into_targets select_statement insert_statement assignments update_statement delete_statement open_statement fetched fetch_from fetch_rest fetch_statement close_statement data_statement simple block labelled_block labelled_statement if_statement case_statement statement ended_statement ended_statements statements branch otherwise_statements elseif_branch elseif_branches if_end if_branches if_rest when_branch when_branches case_end all_when_branches case_branches case_statement_rest loop_rest while_body while_rest until repeat_rest insensitive for_cursor_part for_body for_rest default_source typed other_variables for_state declaration_rest read_only_part updatability cursor_query cursor_rest handler_value next_handler_value next_handler_values handler_values handler_rest ending body_rest declared_handler declared_cursor declared_variables declare_rest not_atomic atomic begin_rest
+unfolding all_expressions state_text state direction column_order next_column_order next_column_orders column_orders order ordered_select message state_signalled name_signalled signalled current which_rows where_part values next_values more_values all_values insert_values insert_source assignment next_assignment next_assignments statement_info next_statement_info next_statement_infos statement_infos condition_info next_condition_info next_condition_infos condition_infos condition_number exception_diagnostics diagnostics set_statement call_statement return_statement leave_statement iterate_statement signal_statement resignalled resignal_statement diagnostics_area diagnostics_statement into_targets select_statement insert_statement assignments update_statement delete_statement open_statement fetched fetch_from fetch_rest fetch_statement close_statement data_statement simple block labelled_block labelled_statement if_statement case_statement statement ended_statement ended_statements statements branch otherwise_statements elseif_branch elseif_branches if_end if_branches if_rest when_branch when_branches case_end all_when_branches case_branches case_statement_rest loop_rest while_body while_rest until repeat_rest insensitive for_cursor_part for_body for_rest default_source typed other_variables for_state declaration_rest read_only_part updatability cursor_query cursor_rest handler_value next_handler_value next_handler_values handler_values handler_rest ending body_rest declared_handler declared_cursor declared_variables declare_rest not_atomic atomic begin_rest
 all_statements = tt

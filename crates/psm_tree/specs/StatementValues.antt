@@ -33,6 +33,7 @@ use Rattle.psm_tree.specs.declared.statement.Condition.{Condition as SignalCondi
 use Rattle.psm_tree.specs.declared.statement.Condition.TheVariants as signals
 use Rattle.psm_tree.specs.declared.statement.Signalled.{Signalled}
 use Rattle.psm_tree.specs.declared.statement.StatementItem.{StatementItem}
+use Rattle.psm_tree.specs.declared.statement.DiagnosticsArea.{DiagnosticsArea}
 use Rattle.psm_tree.specs.declared.statement.DiagnosticsArea.TheVariants as areas
 use Rattle.psm_tree.specs.declared.statement.ConditionItem.{ConditionItem}
 use Rattle.psm_tree.specs.declared.statement.StatementInformation.{StatementInformation}
@@ -97,6 +98,12 @@ statement_diagnostics items = diagnostics.Statement items
 abbrev pub condition_diagnostics : ConditionNumber → Several ConditionInformation → Diagnostics
 condition_diagnostics number items = diagnostics.Condition number items
 
+abbrev pub stacked_area : Place → DiagnosticsArea
+stacked_area place = areas.Stacked
+
+abbrev pub current_area : Place → DiagnosticsArea
+current_area place = areas.Current
+
 abbrev pub values_of : Place → Several Expr → Values
 values_of place values = record { place = place; values = values }
 
@@ -138,8 +145,8 @@ signal_of place signalled = simples.Signal place signalled
 abbrev pub resignal_of : Place → Option Signalled → Simple
 resignal_of place signalled = simples.Resignal place signalled
 
-abbrev pub diagnostics_of : Place → Diagnostics → Simple
-diagnostics_of place d = simples.GetDiagnostics place areas.Current d
+abbrev pub diagnostics_of : Place → DiagnosticsArea × Diagnostics → Simple
+diagnostics_of place p = simples.GetDiagnostics place p.0 p.1
 
 abbrev pub select_into : Place → Several Pick × Targets × From → Simple
 select_into place p = simples.SelectInto (select_of place (p.0, p.2)) p.1

@@ -334,7 +334,10 @@ impl ConditionNumber {
 /// Which diagnostics area GET DIAGNOSTICS looks at.
 #[derive(Clone, Copy, Debug, PartialEq, Eq)]
 pub enum DiagnosticsArea {
+    /// That of the last statement, which GET DIAGNOSTICS without CURRENT or STACKED reads too.
     Current,
+    /// The one with which the handler was activated whose action runs (ISO/IEC 9075-4:1996).
+    Stacked,
 }
 
 /// What GET DIAGNOSTICS gets.

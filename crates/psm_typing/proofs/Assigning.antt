@@ -10,6 +10,8 @@ use Rattle.psm_cond.specs.Area.{Diagnostics}
 use Rattle.psm_cond.specs.Condition.{alone, «following» as in_front}
 use Rattle.psm_cond.specs.Item.{entries_of, entry_item, statement_item}
 use Rattle.psm_cond.specs.declared.entry.Entry.{Entry}
+use Rattle.psm_cond.specs.declared.item.DiagnosticsArea.{DiagnosticsArea}
+use Rattle.psm_cond.specs.declared.item.DiagnosticsArea.TheVariants as which_area
 use Rattle.psm_exprcode.specs.declared.op.Letter.TheVariants.{T}
 use Rattle.psm_exprcode.specs.Kinds.{are_of, has_letter, letter_of}
 use Rattle.psm_exprcode.proofs.Results.{letter_of-value}
@@ -29,7 +31,7 @@ use Rattle.psm_meaning.specs.State.{State, EvalContext, with_variable}
 use Rattle.psm_meaning.specs.Acts.{Meaning, variable}
 use Rattle.psm_meaning.specs.Assigning.{arguments_given, assign, assign_all, assign_each, call, ended_well, given_back, retrieve, retrieve_all, set}
 use Rattle.psm_meaning.specs.Calls.{procedure_at, returns}
-use Rattle.psm_meaning.specs.Signalling.{activating, assign_items, entry_for, entry_numbered, get_diagnostics, message_text, number_given, numbered, resignal, signal, signalled, with_message}
+use Rattle.psm_meaning.specs.Signalling.{activating, area_read, assign_items, entry_for, entry_numbered, get_diagnostics, message_text, number_given, numbered, resignal, signal, signalled, stacked_area, with_message}
 use Rattle.psm_meaning.specs.Statements.{returned}
 use Rattle.psm_typing.specs.TypingContext.{TypingContext, Among, Begin, Each, IsThere, letters_of, taken_by, variables_of, with_taken}
 use Rattle.psm_typing.specs.Expressions.{IsExpr}
@@ -193,7 +195,15 @@ holds-number_given : {e : TypingContext} {m : Meaning} (n : ResolvedNumber) → 
 holds-number_given (numbers.Constant n) h = holds-got _ tt
 holds-number_given (numbers.Variable slot) h = holds-variable slot h
 
+holds-stacked_area : {e : TypingContext} {m : Meaning} (areas : List Diagnostics) → Holds e m Anything (stacked_area areas)
+holds-stacked_area [] = holds-raises _
+holds-stacked_area (a ∷ areas) = holds-got _ tt
+
+holds-area_read : {e : TypingContext} {m : Meaning} (eval_context : EvalContext) (area : DiagnosticsArea) → Holds e m Anything (area_read eval_context area)
+holds-area_read eval_context which_area.Current = holds-read {P = Anything} (λ st. st.area) (λ st s. tt)
+holds-area_read eval_context which_area.Stacked = holds-stacked_area eval_context.acting
+
 pub holds-get_diagnostics : {e : TypingContext} {m : Meaning} (eval_context : EvalContext) → eval_context.routine ≡ e.routine → (d : ResolvedDiagnostics) → AreDiagnostics e d → Holds e m Anything (get_diagnostics eval_context d)
-holds-get_diagnostics eval_context r (diagnostics.Statement items) h = holds-bind (holds-read {P = Anything} (λ st. st.area) (λ st s. tt)) (λ a u. holds-assign_items eval_context r (statement_item (length (entries_of a.entries)) a.entries.more a.rows) items h)
-holds-get_diagnostics eval_context r (diagnostics.Condition n items) h = holds-bind (holds-read {P = Anything} (λ st. st.area) (λ st s. tt)) (λ a u. holds-bind (holds-number_given n h.0) (λ d w.
+holds-get_diagnostics eval_context r (diagnostics.Statement area items) h = holds-bind (holds-area_read eval_context area) (λ a u. holds-assign_items eval_context r (statement_item (length (entries_of a.entries)) a.entries.more a.rows) items h)
+holds-get_diagnostics eval_context r (diagnostics.Condition area n items) h = holds-bind (holds-number_given n h.0) (λ d w. holds-bind (holds-area_read eval_context area) (λ a u.
     holds-bind (holds-numbered (entry_numbered 1 (entries_of a.entries) d)) (λ entry x. holds-assign_items eval_context r (entry_item entry.0 entry.1) items h.1)))

@@ -1,6 +1,7 @@
 -- Statements that are put together, and what is done where a condition is raised.
 use Rattle.std.proofs.Common.{◌≤◌, ◌<◌, ◌&&◌, ℕ, zero, suc, Bool, true, false, List, [], ◌∷◌, map, nat_lt, nat_le, Option, Some, None, inl, inr, refl, arith, if◌then◌else◌}
 use Rattle.psm_sqlstate.specs.Kind.{kind_of}
+use Rattle.psm_cond.specs.Area.{Diagnostics}
 use Rattle.psm_cond.specs.Choice.{chosen, chosen_in, highest, is_exception, or_else}
 use Rattle.psm_cond.specs.Condition.{Entries}
 use Rattle.psm_cond.specs.declared.entry.Entry.{Entry}
@@ -13,7 +14,7 @@ use Rattle.psm_resolved.specs.declared.statement.ResolvedStatement.{ResolvedStat
 use Rattle.psm_meaning.specs.State.{State, Scope, EvalContext, holding}
 use Rattle.psm_meaning.specs.Acts.{Given, Got, Raises, Ends, Outcome, Normal, Leave, Iterate, Return, Raised, Away, Stopped, Done, Meaning, Act, Deed, all, at_turn, following, changing, ends_as, if_normal, part, spending}
 use Rattle.psm_meaning.specs.Flow.{rounds}
-use Rattle.psm_meaning.specs.Raising.{Candidate, action, after, after_action, answered, candidate_rank, candidates, choice, handled, raised, settled, stated}
+use Rattle.psm_meaning.specs.Raising.{Candidate, action, action_over, after, after_action, answered, candidate_rank, candidates, choice, handled, raised, settled, stated}
 use Rattle.psm_typing.specs.TypingContext.{TypingContext, Each}
 use Rattle.psm_typing.specs.Statements.{AreForItems, AreHandlers, AreStatements, IsCursor, IsStatement, StatementScope, in_action, over_rows}
 use Rattle.psm_typing.specs.Statements as typed
@@ -21,7 +22,7 @@ use Rattle.psm_typing.specs.States.{IsState}
 use Rattle.psm_typing.specs.EvalContexts.{AreScopes, IsEvalContext}
 use Rattle.psm_typing.specs.Ends.{IsAway, IsEnd}
 use Rattle.psm_typing.proofs.Answers.{Perhaps}
-use Rattle.psm_typing.proofs.Holding.{Anything, Holds, Sat, state-cleared}
+use Rattle.psm_typing.proofs.Holding.{Anything, Holds, Sat, state-put_back}
 
 -- ---- deeds
 
@@ -101,19 +102,23 @@ end-action e s level cursors inner scopes f (Raised c) h = tt
 end-action e s level cursors inner scopes f (Away l k c) h = f l k h
 end-action e s level cursors inner scopes f (Stopped stop) h = h
 
-after-goes : {e : TypingContext} {m : Meaning} {s : StatementScope} {scopes : List Scope} (o : Outcome) → IsEnd e s scopes o → Goes e m s scopes (after_action o)
-after-goes Normal f = goes-changing _ state-cleared (goes-ends_as Normal tt)
-after-goes (Leave level) f = goes-ends_as (Leave level) f
-after-goes (Iterate level) f = goes-ends_as (Iterate level) f
-after-goes (Return d) f = goes-ends_as (Return d) f
-after-goes (Raised c) f = goes-ends_as (Raised c) f
-after-goes (Away level k c) f = goes-ends_as (Away level k c) f
-after-goes (Stopped stop) f = goes-ends_as (Stopped stop) f
+after-goes : {e : TypingContext} {m : Meaning} {s : StatementScope} {scopes : List Scope} (area : Diagnostics) (o : Outcome) → IsEnd e s scopes o → Goes e m s scopes (after_action area o)
+after-goes area Normal f = goes-changing _ (state-put_back area) (goes-ends_as Normal tt)
+after-goes area (Leave level) f = goes-ends_as (Leave level) f
+after-goes area (Iterate level) f = goes-ends_as (Iterate level) f
+after-goes area (Return d) f = goes-ends_as (Return d) f
+after-goes area (Raised c) f = goes-ends_as (Raised c) f
+after-goes area (Away level k c) f = goes-ends_as (Away level k c) f
+after-goes area (Stopped stop) f = goes-ends_as (Stopped stop) f
+
+goes-action_over : {e : TypingContext} {m : Meaning} → Parts e m → (s : StatementScope) (eval_context : EvalContext) (h : ResolvedHandler) → IsEvalContext e s eval_context → IsStatement e s (out-ResolvedHandler h).action → (area : Diagnostics)
+    → Goes e m s eval_context.scopes (action_over eval_context h area)
+goes-action_over parts s eval_context h p f area =
+    goes-following s s eval_context.scopes eval_context.scopes
+    (parts.part s (record eval_context { acting = area ∷ eval_context.acting }) (out-ResolvedHandler h).action (record { routine = p.routine; cursors = p.cursors; known = p.known; scopes = p.scopes }) f) (after-goes area)
 
 pub goes-action : {e : TypingContext} {m : Meaning} → Parts e m → (s : StatementScope) (eval_context : EvalContext) (h : ResolvedHandler) → IsEvalContext e s eval_context → IsStatement e s (out-ResolvedHandler h).action → Goes e m s eval_context.scopes (action eval_context h)
-goes-action parts s eval_context h p f =
-    goes-following s s eval_context.scopes eval_context.scopes
-    (record { done = λ st g. (parts.part s (record eval_context { acting = st.area ∷ eval_context.acting }) (out-ResolvedHandler h).action (record { routine = p.routine; cursors = p.cursors; known = p.known; scopes = p.scopes }) f).done st g }) after-goes
+goes-action parts s eval_context h p f = record { done = λ st g. (goes-action_over parts s eval_context h p f st.area).done st g }
 
 -- ---- the choice of a handler
 

@@ -2,13 +2,14 @@
 use Rattle.std.proofs.Common.{◌≡◌, ℕ, zero, suc, Bool, true, false, Option, Some, None, Result, Ok, Err, refl, sym, subst, if◌then◌else◌}
 use Rattle.psm_sqlstate.specs.declared.state.SqlState.{SqlState}
 use Rattle.psm_value.specs.declared.datum.Datum.{Datum}
+use Rattle.psm_cond.specs.Area.{Diagnostics}
 use Rattle.psm_cond.specs.Condition.{Entries}
 use Rattle.psm_exprcode.specs.declared.op.Letter.{Letter}
 use Rattle.psm_exprcode.specs.declared.op.Letter.TheVariants.{B}
 use Rattle.psm_exprcode.specs.declared.operand.Operand.{Operand}
 use Rattle.psm_exprcode.specs.declared.operand.Operand.TheVariants.{Value, Truth}
 use Rattle.psm_exprcode.specs.Kinds.{has_letter, is_of, is_value}
-use Rattle.psm_meaning.specs.State.{State, cleared}
+use Rattle.psm_meaning.specs.State.{State, cleared, put_back}
 use Rattle.psm_meaning.specs.Acts.{Given, Got, Raises, Ends, Evaluated, Meaning, Act, as_truth, as_value, change, go_on, got, present, raises, read, spent, tried, turn, ◌>>=◌}
 use Rattle.psm_typing.specs.TypingContext.{TypingContext, IsThere}
 use Rattle.psm_typing.specs.States.{IsState}
@@ -52,6 +53,9 @@ holds-change f h = record { well = λ st s. record { state = h st s; given = tt 
 
 pub state-cleared : {e : TypingContext} (st : State) → IsState e st → IsState e (cleared st)
 state-cleared st s = record { tables = s.tables; variables = s.variables; cursors = s.cursors }
+
+pub state-put_back : {e : TypingContext} (area : Diagnostics) (st : State) → IsState e st → IsState e (put_back area st)
+state-put_back area st s = record { tables = s.tables; variables = s.variables; cursors = s.cursors }
 
 pub holds-cleared : {e : TypingContext} {m : Meaning} → Holds e m Anything (change cleared)
 holds-cleared = holds-change cleared state-cleared

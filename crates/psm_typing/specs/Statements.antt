@@ -132,8 +132,8 @@ IsNumber e (numbers.Constant n) = Unit {0}
 IsNumber e (numbers.Variable slot) = IsSlot e slot
 
 abbrev pub AreDiagnostics : TypingContext → ResolvedDiagnostics → Type 0
-AreDiagnostics e (diagnostics.Statement items) = Each (λ i. IsSlot e i.0) items
-AreDiagnostics e (diagnostics.Condition number items) = IsNumber e number × Each (λ i. IsSlot e i.0) items
+AreDiagnostics e (diagnostics.Statement area items) = Each (λ i. IsSlot e i.0) items
+AreDiagnostics e (diagnostics.Condition area number items) = IsNumber e number × Each (λ i. IsSlot e i.0) items
 
 -- a row of an INSERT has a value for each of its columns
 pub record IsRowFor (e : TypingContext) (columns : List ℕ) (xs : List ResolvedExpr) : Type 0 where

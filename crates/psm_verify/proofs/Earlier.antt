@@ -6,6 +6,7 @@ use Rattle.std.proofs.lemmas.List.{append-nil}
 use Rattle.std.proofs.lemmas.Option.{get_or_from_slice_get, slice_get_within}
 use Rattle.psm_num.proofs.Literals.{and_first, and_second}
 use Rattle.psm_value.specs.Stored.{stored}
+use Rattle.psm_exprcode.specs.declared.set_item.SetItem.{SetItem}
 use Rattle.psm_exprcode.specs.WellFormed.{is_type}
 use Rattle.psm_table.specs.declared.definition.Column.{Column}
 use Rattle.psm_cond.specs.declared.handlers.ConditionValue.{ConditionValue}
@@ -17,15 +18,17 @@ use Rattle.psm_code.specs.declared.code.RawRoutine.{RawRoutine}
 use Rattle.psm_code.specs.declared.rule.CodeRule.{CodeRule}
 use Rattle.psm_code.specs.declared.rule.CodeRule.TheVariants.{Range, Target, Context, Definition}
 use Rattle.psm_code.specs.Parts.{gives, line_at}
-use Rattle.psm_code.specs.Rules.{each_after, is_same, is_some, is_there, there, unless, where_there}
+use Rattle.psm_code.specs.PlanRules.{set_faults}
+use Rattle.psm_code.specs.Rules.{each_after, is_among, is_same, is_some, is_there, there, unless, where_there}
 use Rattle.psm_code.specs.RoutineRules as rules
 use Rattle.psm_code.specs.TableRules.{column_fault, is_as_stored, name_fault, table_faults}
 use Rattle.psm_code.proofs.Faults.{four_hold, three_hold, two_hold}
 use Rattle.psm_keys.specs.Fresh.{is_new, with_new}
 use Rattle.psm_keys.specs.Handled.{are_all_new, handled_by}
 use Rattle.psm_keys.proofs.Apart.{all_apart}
+use Rattle.psm_keys.proofs.Distinct.{new_number}
 use Rattle.psm_verify.specs.Checked.{checked, item_at, item_in}
-use Rattle.psm_verify.specs.Earlier.{are_new_values, at_place, is_new_column, is_new_parameter, is_new_routine, is_new_table}
+use Rattle.psm_verify.specs.Earlier.{are_new_values, at_place, is_new_column, is_new_parameter, is_new_routine, is_new_set, is_new_table}
 use Rattle.psm_verify.proofs.Each.{after_go, before_next}
 use Rattle.psm_verify.proofs.Placing.{is_at}
 use Rattle.psm_verify.proofs.NewValues.{new_values}
@@ -44,6 +47,9 @@ new_column before c = new_names (λ d. d.name) c.name before
 
 pub new_parameter : (before : List Parameter) (p : Parameter) → is_new_parameter before p ≡ list_all (λ q. not (is_same q.name p.name)) before
 new_parameter before p = new_names (λ q. q.name) p.name before
+
+pub new_set : (before : List SetItem) (s : SetItem) → is_new_set before s ≡ not (is_among s.column (map (λ b. b.column) before))
+new_set before s = new_number s.column (map (λ b. b.column) before)
 
 -- ---- an item that breaks no rule is new
 
@@ -69,6 +75,11 @@ parameter_passed r before p n m h =
     let new = list_all (λ q. not (is_same q.name p.name)) before in
     let taken = not (r.is_function && gives p.mode) in
     new_parameter before p ∙ and_first new taken (two_hold (is_type p.kind) (new && taken) Range Definition (first_none n m _ [] h)).1
+
+pub set_passed : (code : RawCode) (r : RawRoutine) (table : ℕ) (before : List SetItem) (s : SetItem) (n m : ℕ) → checked n (set_faults code r table before s) ≡ Ok m → is_new_set before s ≡ true
+set_passed code r table before s n m h =
+    let there = where_there (slice_get code.tables table) (λ t. is_there t.definition.columns s.column) in
+    new_set before s ∙ (two_hold there (not (is_among s.column (map (λ b. b.column) before))) Range Definition (first_none n m _ _ h)).1
 
 pub routine_passed : (code : RawCode) (before : List RawRoutine) (r : RawRoutine) (n m : ℕ) → checked n (rules.routine_faults code before r) ≡ Ok m → is_new_routine before r ≡ true
 routine_passed code before r n m h =

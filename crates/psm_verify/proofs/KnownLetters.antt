@@ -14,9 +14,9 @@ use Rattle.psm_code.specs.TableRules.{expr_faults}
 use Rattle.psm_verify.specs.declared.calls.Call.{Call}
 use Rattle.psm_verify.specs.VerifyContext.{Known, fits_column}
 
-pub expr_in_is : (code : RawCode) (r : RawRoutine) (letters : List (List Letter)) (variables columns : List Letter) (items : List (List Letter)) (calls : List Call) (table : ℕ) (due : Letter → Bool) (lines : List Line)
-    → Known code r letters variables items calls → columns ≡ columns_at code table → expr_faults columns variables due lines ≡ expr_in code r table due lines
-expr_in_is code r letters variables columns items calls table due lines k e =
+pub expr_in_is : (code : RawCode) (r : RawRoutine) (letters : List (List Letter)) (variables columns : List Letter) (items : List (List Letter)) (rows : List (Option (List Letter))) (calls : List Call) (table : ℕ) (due : Letter → Bool) (lines : List Line)
+    → Known code r letters variables items rows calls → columns ≡ columns_at code table → expr_faults columns variables due lines ≡ expr_in code r table due lines
+expr_in_is code r letters variables columns items rows calls table due lines k e =
     ap (λ c. expr_faults c variables due lines) e ∙ ap (λ v. expr_faults (columns_at code table) v due lines) k.variables_are
 
 -- ---- items for columns

@@ -1,6 +1,7 @@
 -- What is said of an item of a list and of those before it: none of them may be the same.
-use Rattle.std.specs.Prelude.{ℕ, Bool, List, map, slice_get, take}
+use Rattle.std.specs.Prelude.{ℕ, Bool, List, map, nat_eq, slice_get, take}
 use Rattle.std.specs.List.{flat_map}
+use Rattle.psm_exprcode.specs.declared.set_item.SetItem.{SetItem}
 use Rattle.psm_table.specs.declared.definition.Column.{Column}
 use Rattle.psm_cond.specs.declared.handlers.Handler.{Handler}
 use Rattle.psm_code.specs.declared.code.CodeTable.{CodeTable}
@@ -16,6 +17,9 @@ is_new_table before t = is_new is_same t.definition.name (map (λ u. u.definitio
 
 abbrev pub is_new_column : List Column → Column → Bool
 is_new_column before c = is_new is_same c.name (map (λ d. d.name) before)
+
+abbrev pub is_new_set : List SetItem → SetItem → Bool
+is_new_set before s = is_new nat_eq s.column (map (λ b. b.column) before)
 
 abbrev pub is_new_parameter : List Parameter → Parameter → Bool
 is_new_parameter before p = is_new is_same p.name (map (λ q. q.name) before)

@@ -1,5 +1,5 @@
 //! Plans: what INSERT, UPDATE and DELETE do (ISO/IEC 9075:1992, 13.6 to 13.10).
-ghost use Rattle.std.specs.Prelude.{◌≡◌, ◌++◌, ◌&&◌, [], ◌∷◌, map, slice_get};
+ghost use Rattle.std.specs.Prelude.{◌≡◌, ◌++◌, ◌&&◌, [], ◌∷◌, slice_get, IfOk};
 ghost use Rattle.std.specs.List.{flat_map};
 ghost use Rattle.psm_code.specs.declared.rule.CodeRule.TheVariants.{Range, Definition};
 ghost use Rattle.psm_code.specs.Instructions as instructions;
@@ -8,6 +8,7 @@ ghost use Rattle.psm_code.specs.PlanRules as plans;
 ghost use Rattle.psm_code.specs.TableRules as tables;
 ghost use Rattle.psm_code.specs.declared.code.Plan.TheVariants.{InsertQuery};
 ghost use Rattle.psm_verify.specs.Checked.{Finds, checked, item_at};
+ghost use Rattle.psm_verify.specs.Earlier.{at_place, is_new_set};
 ghost use Rattle.psm_verify.specs.Placed.{due_of};
 ghost use Rattle.psm_verify.specs.VerifyContext.{fits_column};
 
@@ -19,7 +20,8 @@ use crate::tables::is_column_list;
 use crate::verify_context::VerifyContext;
 use psm_code::{CodeRule, Plan, RawCode, RawRoutine};
 use psm_exprcode::{ExprCode, Letter, SetItem};
-use std::alloc::Global;
+use psm_keys::NumberSet;
+use std::alloc::{AllocError, Global};
 
 impl<'a> VerifyContext<'a> {
     /// The plans of the routine.
@@ -36,7 +38,8 @@ impl<'a> VerifyContext<'a> {
     fn plan(&self, alloc: Global, line: u64, plan: &Plan) -> Result<u64, Stop>
         ensures { Finds (checked line (plans.plan_faults self.now.code.now self.now.routine.now plan.now)) result }
     {
-        let line = passed(line, self.plan_fault(plan))?;
+        let fault = self.plan_fault(alloc, plan)?;
+        let line = passed(line, fault)?;
         self.plan_parts(alloc, line, plan)
     }
 
@@ -72,9 +75,11 @@ impl<'a> VerifyContext<'a> {
     fn sets(&self, alloc: Global, line: u64, table: usize, sets: &[SetItem]) -> Result<u64, Stop>
         ensures { Finds (checked line (plans.sets_in self.now.code.now self.now.routine.now table sets.now)) result }
     {
+        let mut columns = NumberSet::new(alloc);
         let mut line = line;
         for at in 0..sets.len() {
-            line = self.set_at(alloc, line, table, sets, at)?;
+            let is_new = columns.add(sets[at].column)?;
+            line = self.set_at(alloc, line, table, sets, at, is_new)?;
         }
         Ok(line)
     }
@@ -86,11 +91,13 @@ impl<'a> VerifyContext<'a> {
         table: usize,
         sets: &[SetItem],
         at: usize,
+        is_new: bool,
     ) -> Result<u64, Stop>
+        requires { is_new ≡ at_place is_new_set sets.now at }
         ensures { Finds (checked line (item_at (plans.set_faults self.now.code.now self.now.routine.now table) sets.now at)) result }
     {
         match sets.get(at) {
-            Some(set) => self.set_lines(alloc, line, table, &sets[..at], set),
+            Some(set) => self.set_lines(alloc, line, table, is_new, &sets[..at], set),
             None => Ok(line),
         }
     }
@@ -101,12 +108,14 @@ impl<'a> VerifyContext<'a> {
         alloc: Global,
         line: u64,
         table: usize,
+        is_new: bool,
         before: &[SetItem],
         set: &SetItem,
     ) -> Result<u64, Stop>
+        requires { is_new ≡ is_new_set before.now set.now }
         ensures { Finds (checked line (plans.set_faults self.now.code.now self.now.routine.now table before.now set.now)) result }
     {
-        let line = passed(line, set_fault(self.code, table, before, set))?;
+        let line = passed(line, set_fault(self.code, table, is_new, before, set))?;
         let due = column_due(self.columns_at(table), set.column);
         self.expression(alloc, line, table, due, &set.source)
     }
@@ -121,39 +130,48 @@ impl<'a> VerifyContext<'a> {
         }
     }
 
-    fn plan_fault(&self, plan: &Plan) -> Option<CodeRule>
-        ensures { result ≡ plans.plan_fault self.now.code.now self.now.routine.now plan.now }
+    fn plan_fault(&self, alloc: Global, plan: &Plan) -> Result<Option<CodeRule>, AllocError>
+        ensures { IfOk result (λ fault. fault ≡ plans.plan_fault self.now.code.now self.now.routine.now plan.now) }
     {
         match plan {
             Plan::Insert { table, columns, .. } => {
-                insert_fault(self.code, *table, columns.items())
+                insert_fault(alloc, self.code, *table, columns.items())
             }
             Plan::InsertQuery {
                 table,
                 columns,
                 query,
-            } => self.insert_query_fault(*table, columns.items(), *query),
-            Plan::Update { table, sets, .. } => update_fault(self.code, *table, sets.items()),
-            Plan::Delete { table, .. } => delete_fault(self.code, *table),
-            Plan::UpdateAt { cursor, sets } => {
-                update_at_fault(self.routine, *cursor, sets.items())
+            } => self.insert_query_fault(alloc, *table, columns.items(), *query),
+            Plan::Update { table, sets, .. } => {
+                Ok(update_fault(self.code, *table, sets.items()))
             }
-            Plan::DeleteAt { cursor } => delete_at_fault(self.routine, *cursor),
+            Plan::Delete { table, .. } => Ok(delete_fault(self.code, *table)),
+            Plan::UpdateAt { cursor, sets } => {
+                Ok(update_at_fault(self.routine, *cursor, sets.items()))
+            }
+            Plan::DeleteAt { cursor } => Ok(delete_at_fault(self.routine, *cursor)),
         }
     }
 
-    fn insert_query_fault(&self, table: u32, columns: &[u32], query: u32) -> Option<CodeRule>
-        ensures { result ≡ plans.plan_fault self.now.code.now self.now.routine.now (InsertQuery table columns.now query) }
+    fn insert_query_fault(
+        &self,
+        alloc: Global,
+        table: u32,
+        columns: &[u32],
+        query: u32,
+    ) -> Result<Option<CodeRule>, AllocError>
+        ensures { IfOk result (λ fault. fault ≡ plans.plan_fault self.now.code.now self.now.routine.now (InsertQuery table columns.now query)) }
     {
         if !is_there(self.code.tables.items(), table)
             || !columns_there(self.code, table, columns)
             || !is_there(self.routine.queries.items(), query)
         {
-            Some(CodeRule::Range)
-        } else if is_column_list(columns) && self.fits_columns(table, columns, query) {
-            None
+            return Ok(Some(CodeRule::Range));
+        }
+        if is_column_list(alloc, columns)? && self.fits_columns(table, columns, query) {
+            Ok(None)
         } else {
-            Some(CodeRule::Definition)
+            Ok(Some(CodeRule::Definition))
         }
     }
 
@@ -197,15 +215,21 @@ fn is_item(letters: &[Letter], column: u32, item: Letter) -> bool
     }
 }
 
-fn insert_fault(code: &RawCode, table: u32, columns: &[u32]) -> Option<CodeRule>
-    ensures { result ≡ rules.first_of (rules.unless (rules.is_there code.now.tables table && plans.columns_there code.now table columns.now) Range ∷ rules.unless (tables.is_column_list columns.now) Definition ∷ []) }
+fn insert_fault(
+    alloc: Global,
+    code: &RawCode,
+    table: u32,
+    columns: &[u32],
+) -> Result<Option<CodeRule>, AllocError>
+    ensures { IfOk result (λ fault. fault ≡ rules.first_of (rules.unless (rules.is_there code.now.tables table && plans.columns_there code.now table columns.now) Range ∷ rules.unless (tables.is_column_list columns.now) Definition ∷ [])) }
 {
     if !is_there(code.tables.items(), table) || !columns_there(code, table, columns) {
-        Some(CodeRule::Range)
-    } else if is_column_list(columns) {
-        None
+        return Ok(Some(CodeRule::Range));
+    }
+    if is_column_list(alloc, columns)? {
+        Ok(None)
     } else {
-        Some(CodeRule::Definition)
+        Ok(Some(CodeRule::Definition))
     }
 }
 
@@ -282,15 +306,23 @@ fn cursor_table(routine: &RawRoutine, cursor: u32) -> Option<u32>
     Some(query.table)
 }
 
-fn set_fault(code: &RawCode, table: usize, before: &[SetItem], set: &SetItem) -> Option<CodeRule>
+#[tactic(auto, using(crate::proofs::Earlier::new_set))]
+fn set_fault(
+    code: &RawCode,
+    table: usize,
+    is_new: bool,
+    before: &[SetItem],
+    set: &SetItem,
+) -> Option<CodeRule>
+    requires { is_new ≡ is_new_set before.now set.now }
     ensures { result ≡ plans.set_line code.now table before.now set.now }
 {
     if !column_there(code, table, set.column) {
         Some(CodeRule::Range)
-    } else if is_set(before, set.column) {
-        Some(CodeRule::Definition)
-    } else {
+    } else if is_new {
         None
+    } else {
+        Some(CodeRule::Definition)
     }
 }
 
@@ -301,20 +333,6 @@ fn column_there(code: &RawCode, table: usize, column: u32) -> bool
         Some(table) => is_there(table.definition.columns.items(), column),
         None => true,
     }
-}
-
-// Whether one of them sets the column.
-fn is_set(sets: &[SetItem], column: u32) -> bool
-    ensures { result ≡ rules.is_among column (map (λ b. b.column) sets.now) }
-{
-    let mut rest = sets;
-    while let Some((set, others)) = rest.split_first() {
-        if column == set.column {
-            return true;
-        }
-        rest = others;
-    }
-    false
 }
 
 // A column takes values of its letter; where it isn't there, any value.

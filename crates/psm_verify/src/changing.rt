@@ -1,5 +1,5 @@
 //! Where the instructions of a routine go on, and with which operands.
-ghost use Rattle.std.specs.Prelude.{◌≡◌, ◌<◌, ◌&&◌, ◌||◌, Some, None, length, reverse, option_map, slice_get, IfOk};
+ghost use Rattle.std.specs.Prelude.{◌≡◌, ◌<◌, ◌&&◌, ◌||◌, Some, None, length, option_map, slice_get, IfOk};
 ghost use Rattle.std.specs.Option.{option_copied};
 ghost use Rattle.psm_exprcode.specs.declared.op.Letter.TheVariants.{N};
 ghost use Rattle.psm_exprcode.specs.Kinds.{some_letter, some_value};
@@ -9,26 +9,17 @@ ghost use Rattle.psm_code.specs.Instructions as instructions;
 ghost use Rattle.psm_code.specs.Parts.{routine_at};
 ghost use Rattle.psm_code.specs.RoutineRules as routines;
 ghost use Rattle.psm_verify.specs.Moves.{follows_split, given_rows, moves_at, optional_follow, plan_follows, taken_by_plan};
+ghost use Rattle.psm_verify.specs.VerifyContext.{row_with};
 
 use crate::effects::{follows, goes_on, left_by};
 use crate::instructions::{none, plain};
 use crate::verify_context::VerifyContext;
 use psm_code::{Instruction, Plan};
 use psm_exprcode::{Letter, Op};
+use psm_list::List;
 use std::alloc::{AllocError, Global};
 
 impl<'a> VerifyContext<'a> {
-    // The letters of the columns of a table, if it is there.
-    #[tactic(auto, using(crate::proofs::Each::known_at))]
-    fn table_letters(&self, table: u32) -> Option<&'a [Letter]>
-        ensures { option_copied result ≡ instructions.table_letters self.now.code.now table }
-    {
-        match self.columns.get(table as usize) {
-            Some(letters) => Some(letters.items()),
-            None => None,
-        }
-    }
-
     // ---- operands
 
     /// Whether the operands that an instruction takes are there, and those that it leaves are stated wherever it goes on.
@@ -135,6 +126,7 @@ impl<'a> VerifyContext<'a> {
 
     // ---- plans
 
+    #[tactic(auto, using(crate::proofs::Each::known_at))]
     fn plan_follows(
         &self,
         alloc: Global,
@@ -145,9 +137,10 @@ impl<'a> VerifyContext<'a> {
         requires { at < length self.now.routine.now.lines }
         ensures { IfOk result (λ b. b ≡ plan_follows self.now.routine.now at operands.now (taken_by_plan self.now.code.now self.now.routine.now plan)) }
     {
-        match self.routine.plans.items().get(plan as usize) {
-            Some(plan) => self.letters_follow(alloc, at, operands, plan),
-            None => Ok(false),
+        let plans = self.routine.plans.items();
+        match (plans.get(plan as usize), self.rows.get(plan as usize)) {
+            (Some(plan), Some(row)) => self.letters_follow(alloc, at, operands, plan, row),
+            _ => Ok(false),
         }
     }
 
@@ -157,16 +150,14 @@ impl<'a> VerifyContext<'a> {
         at: usize,
         operands: &[Letter],
         plan: &Plan,
+        row: &Option<List<Letter>>,
     ) -> Result<bool, AllocError>
-        requires { at < length self.now.routine.now.lines }
+        requires line { at < length self.now.routine.now.lines }
+        requires row { row.now ≡ row_with self.now.columns.now plan.now }
         ensures { IfOk result (λ b. b ≡ plan_follows self.now.routine.now at operands.now (instructions.plan_letters self.now.code.now plan.now)) }
     {
         match plan {
-            Plan::Insert {
-                table,
-                columns,
-                rows,
-            } => self.insert_follows(alloc, at, operands, *table, columns.items(), *rows),
+            Plan::Insert { rows, .. } => self.insert_follows(alloc, at, operands, row, *rows),
             _ => follows(alloc, self.routine, at, operands, &plain(none(), none())),
         }
     }
@@ -176,34 +167,14 @@ impl<'a> VerifyContext<'a> {
         alloc: Global,
         at: usize,
         operands: &[Letter],
-        table: u32,
-        columns: &[u32],
+        row: &Option<List<Letter>>,
         rows: u32,
     ) -> Result<bool, AllocError>
         requires { at < length self.now.routine.now.lines }
-        ensures { IfOk result (λ b. b ≡ plan_follows self.now.routine.now at operands.now (instructions.values_letters rows (instructions.letters_in columns.now (instructions.table_letters self.now.code.now table)))) }
+        ensures { IfOk result (λ b. b ≡ plan_follows self.now.routine.now at operands.now (option_map (given_rows rows) row.now)) }
     {
-        match self.table_letters(table) {
-            Some(letters) => self.rows_follow(alloc, at, operands, letters, columns, rows),
-            None => Ok(false),
-        }
-    }
-
-    #[tactic(auto, using(crate::proofs::Rows::rows_reversed))]
-    fn rows_follow(
-        &self,
-        alloc: Global,
-        at: usize,
-        operands: &[Letter],
-        letters: &[Letter],
-        columns: &[u32],
-        rows: u32,
-    ) -> Result<bool, AllocError>
-        requires { at < length self.now.routine.now.lines }
-        ensures { IfOk result (λ b. b ≡ plan_follows self.now.routine.now at operands.now (instructions.values_letters rows (instructions.letters_at letters.now columns.now))) }
-    {
-        match row_letters(alloc, letters, columns)? {
-            Some(row) => self.row_follows(alloc, at, operands, row.as_slice(), rows),
+        match row {
+            Some(row) => self.row_follows(alloc, at, operands, row.items(), rows),
             None => Ok(false),
         }
     }
@@ -224,37 +195,6 @@ impl<'a> VerifyContext<'a> {
             None => Ok(false),
         }
     }
-}
-
-fn letter_at(letters: &[Letter], column: u32) -> Option<Letter>
-    ensures { result ≡ slice_get letters.now column }
-{
-    match letters.get(column as usize) {
-        Some(letter) => Some(*letter),
-        None => None,
-    }
-}
-
-// The letters of some columns, the last one first; none where one of them isn't there.
-#[tactic(auto, using(crate::proofs::Rows::prepend_next, crate::proofs::Rows::prepend_nil))]
-fn row_letters(
-    alloc: Global,
-    letters: &[Letter],
-    columns: &[u32],
-) -> Result<Option<Vec<Letter>>, AllocError>
-    ensures { IfOk result (λ row. option_map (λ v. v.items) row ≡ option_map reverse (instructions.letters_at letters.now columns.now)) }
-{
-    let mut row = Vec::new(alloc);
-    let mut rest = columns;
-    while let Some((column, others)) = rest.split_first() {
-        match letter_at(letters, *column) {
-            Some(letter) => row.push(letter)?,
-            None => return Ok(None),
-        }
-        rest = others;
-    }
-    row.reverse();
-    Ok(Some(row))
 }
 
 // What is left of the operands where n rows are taken.

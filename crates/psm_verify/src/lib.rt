@@ -10,6 +10,7 @@ mod expressions;
 mod fault;
 mod handlers;
 mod handling;
+mod inserts;
 mod instructions;
 mod lines;
 mod listing;

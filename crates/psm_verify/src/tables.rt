@@ -1,5 +1,5 @@
 //! Tables (ISO/IEC 9075:1992, 11.3, 11.4, 11.7 and 11.9).
-ghost use Rattle.std.specs.Prelude.{◌≡◌, [], ◌∷◌, map};
+ghost use Rattle.std.specs.Prelude.{◌≡◌, [], ◌∷◌, map, IfOk};
 ghost use Rattle.std.specs.List.{flat_map, list_all};
 ghost use Rattle.psm_exprcode.specs.Kinds.{is_letter};
 ghost use Rattle.psm_exprcode.specs.declared.op.Letter.TheVariants.{B};
@@ -14,15 +14,15 @@ ghost use Rattle.psm_verify.specs.Earlier.{at_place, is_new_column, is_new_table
 use crate::expressions::{Due, expression};
 use crate::fault::Stop;
 use crate::listing::passed;
-use crate::numbers::{are_distinct, are_there};
+use crate::numbers::are_there;
 use crate::types::is_type;
 use psm_code::{CodeRule, CodeTable};
 use psm_exprcode::{ExprCode, Letter};
-use psm_keys::NameSet;
+use psm_keys::{NameSet, are_distinct};
 use psm_list::List;
 use psm_table::{Column, TableDef};
 use psm_value::{Datum, SqlType, is_stored, storing_is_stable};
-use std::alloc::Global;
+use std::alloc::{AllocError, Global};
 
 /// The tables, the letters of whose columns are known.
 pub(crate) fn tables(
@@ -79,7 +79,7 @@ fn table_lines(
 {
     let line = passed(line, name_fault(is_new, before, table))?;
     let line = columns(alloc, line, &table.definition)?;
-    let line = keys(line, &table.definition)?;
+    let line = keys(alloc, line, &table.definition)?;
     checks(alloc, line, letters, table)
 }
 
@@ -134,32 +134,38 @@ fn is_as_stored(kind: SqlType, value: &Datum) -> bool
 
 // The line of the key, and those of the UNIQUE lists.
 #[tactic(auto, using(crate::proofs::LinesInOrder::going_on, crate::proofs::LinesInOrder::stopped))]
-fn keys(line: u64, def: &TableDef) -> Result<u64, Stop>
+fn keys(alloc: Global, line: u64, def: &TableDef) -> Result<u64, Stop>
     ensures { Finds (checked line (rules.key_fault def.now ∷ map (rules.unique_fault def.now) def.now.unique)) result }
 {
-    let line = passed(line, key_fault(def))?;
-    uniques(line, def)
+    let fault = key_fault(alloc, def)?;
+    let line = passed(line, fault)?;
+    uniques(alloc, line, def)
 }
 
-fn key_fault(def: &TableDef) -> Option<CodeRule>
-    ensures { result ≡ rules.key_fault def.now }
+fn key_fault(alloc: Global, def: &TableDef) -> Result<Option<CodeRule>, AllocError>
+    ensures { IfOk result (λ fault. fault ≡ rules.key_fault def.now) }
 {
     let columns = def.columns.items();
     let key = def.key.items();
     if !are_there(columns, key) {
-        Some(CodeRule::Range)
-    } else if is_column_list(key) && refuse_null(columns, key) {
-        None
+        return Ok(Some(CodeRule::Range));
+    }
+    if is_column_list(alloc, key)? && refuse_null(columns, key) {
+        Ok(None)
     } else {
-        Some(CodeRule::Definition)
+        Ok(Some(CodeRule::Definition))
     }
 }
 
 /// Whether they are some columns, and none of them twice.
-pub(crate) fn is_column_list(places: &[u32]) -> bool
-    ensures { result ≡ rules.is_column_list places.now }
+pub(crate) fn is_column_list(alloc: Global, places: &[u32]) -> Result<bool, AllocError>
+    ensures { IfOk result (λ b. b ≡ rules.is_column_list places.now) }
 {
-    !places.is_empty() && are_distinct(places)
+    if places.is_empty() {
+        Ok(false)
+    } else {
+        are_distinct(alloc, places)
+    }
 }
 
 fn refuse_null(columns: &[Column], places: &[u32]) -> bool
@@ -178,25 +184,30 @@ fn refuses_null(columns: &[Column], place: u32) -> bool
 }
 
 #[tactic(auto, using(crate::proofs::Each::map_next, crate::proofs::LinesInOrder::going_on, crate::proofs::LinesInOrder::stopped))]
-fn uniques(line: u64, def: &TableDef) -> Result<u64, Stop>
+fn uniques(alloc: Global, line: u64, def: &TableDef) -> Result<u64, Stop>
     ensures { Finds (checked line (map (rules.unique_fault def.now) def.now.unique)) result }
 {
     let mut line = line;
     for places in def.unique.items() {
-        line = passed(line, unique_fault(def, places.items()))?;
+        line = passed(line, unique_fault(alloc, def, places.items())?)?;
     }
     Ok(line)
 }
 
-fn unique_fault(def: &TableDef, places: &[u32]) -> Option<CodeRule>
-    ensures { result ≡ rules.unique_fault def.now places.now }
+fn unique_fault(
+    alloc: Global,
+    def: &TableDef,
+    places: &[u32],
+) -> Result<Option<CodeRule>, AllocError>
+    ensures { IfOk result (λ fault. fault ≡ rules.unique_fault def.now places.now) }
 {
     if !are_there(def.columns.items(), places) {
-        Some(CodeRule::Range)
-    } else if is_column_list(places) {
-        None
+        return Ok(Some(CodeRule::Range));
+    }
+    if is_column_list(alloc, places)? {
+        Ok(None)
     } else {
-        Some(CodeRule::Definition)
+        Ok(Some(CodeRule::Definition))
     }
 }
 

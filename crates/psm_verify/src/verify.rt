@@ -13,6 +13,7 @@ ghost use Rattle.psm_code.specs.TableRules.{table_faults};
 use crate::calls::{Call, calls_of};
 use crate::code::Code;
 use crate::fault::{CodeFault, Stop};
+use crate::inserts::rows_of_plans;
 use crate::listing::next;
 use crate::tables::tables;
 use crate::verify_context::{VerifyContext, item_letters, letters_of_tables, letters_of_variables};
@@ -25,8 +26,7 @@ use std::alloc::{AllocError, Global};
 /// The code as code that keeps its rules, or the first line of its listing that breaks one, and which: a line that breaks several is
 /// told by the rule that comes first in [`psm_code::CodeRule`]. Out of memory is the one other answer.
 ///
-/// It reads the listing a few times at most, but for these. Columns in lists and in SETs are compared with all before them. And an
-/// instruction that changes rows looks at the columns of its plan. What else may not stand twice is found by maps.
+/// It reads the listing a few times at most. What may not stand twice is found by maps.
 pub fn verified(alloc: Global, code: RawCode) -> Result<Result<Code, CodeFault>, AllocError>
     ensures { IfOk result (λ answer. Verifies code answer) }
 {
@@ -129,12 +129,14 @@ fn routine_lines(
         variables.as_slice(),
         routine.queries.items(),
     )?;
+    let rows = rows_of_plans(alloc, letters, routine.plans.items())?;
     let verify_context = VerifyContext {
         code,
         routine,
         columns: letters,
         variables: variables.as_slice(),
         items: items.as_slice(),
+        rows: rows.as_slice(),
         calls,
     };
     verify_context.routine(alloc, line, is_apart, before)

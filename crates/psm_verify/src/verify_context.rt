@@ -15,7 +15,7 @@ use psm_value::SqlType;
 use std::alloc::{AllocError, Global};
 
 /// Code and one of its routines, with the letters of the columns of all tables, of the routine's variables, of the items of its
-/// queries, and of what routines are called with.
+/// queries, of the rows that its plans take, and of what routines are called with.
 #[derive(Clone, Copy)]
 pub(crate) struct VerifyContext<'a> {
     pub(crate) code: &'a RawCode,
@@ -23,8 +23,9 @@ pub(crate) struct VerifyContext<'a> {
     pub(crate) columns: &'a [List<Letter>],
     pub(crate) variables: &'a [Letter],
     pub(crate) items: &'a [List<Letter>],
+    pub(crate) rows: &'a [Option<List<Letter>>],
     pub(crate) calls: &'a [Call],
-    ghost known: { Known code.now routine.now columns.now variables.now items.now calls.now },
+    ghost known: { Known code.now routine.now columns.now variables.now items.now rows.now calls.now },
 }
 
 impl<'a> VerifyContext<'a> {

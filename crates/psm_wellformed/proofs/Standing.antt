@@ -126,9 +126,10 @@ module _ (e : TypingContext) (known : Known) (s : StatementScope) (t : fit.Block
   simple-fits letters (simples.Signal x) h p = signal-fits x h p
   simple-fits letters (simples.Resignal None) h p = tt
   simple-fits letters (simples.Resignal (Some x)) h p = signal-fits x h p
-  simple-fits letters (simples.GetDiagnostics (diagnostics.Statement items)) h p = tt
-  simple-fits letters (simples.GetDiagnostics (diagnostics.Condition number [])) h p = absurd (false≢true p.0)
-  simple-fits letters (simples.GetDiagnostics (diagnostics.Condition number (i ∷ items))) h p = tt
+  simple-fits letters (simples.GetDiagnostics (diagnostics.Statement area [])) h p = absurd (false≢true p.0)
+  simple-fits letters (simples.GetDiagnostics (diagnostics.Statement area (i ∷ items))) h p = tt
+  simple-fits letters (simples.GetDiagnostics (diagnostics.Condition area number [])) h p = absurd (false≢true p.0)
+  simple-fits letters (simples.GetDiagnostics (diagnostics.Condition area number (i ∷ items))) h p = tt
   simple-fits letters (simples.SelectInto query slots) h p = subst (λ k. is_query k query ≡ true) is p.0.is
   simple-fits letters (simples.Insert table columns (given.Values rows)) (u, q, h) p = subst (λ k. RowsOutside e.file k (length columns) rows) is (rows-stand e known (letters_of_columns known table columns) columns rows h p.2)
   simple-fits letters (simples.Insert table columns (given.Query query)) h p = subst (λ k. is_query k query ≡ true) is p.2.is

@@ -6,7 +6,7 @@ use crate::shown;
 use psm_sqlstate::{Kind, SqlState};
 use std::alloc::Global;
 
-const LISTED: [(&str, SqlState); 21] = [
+const LISTED: [(&str, SqlState); 22] = [
     ("SUCCESS", SqlState::SUCCESS),
     ("NULL_ELIMINATED", SqlState::NULL_ELIMINATED),
     ("TRUNCATION_WARNING", SqlState::TRUNCATION_WARNING),

@@ -6,5 +6,5 @@ use Rattle.psm_verify.proofs.verify_context.VerifyContext.plan.Goals as goal
 
 pub returns : goal.returns
 returns c =
-    let passed_1 : checked c.args.line (plan_fault c.args.self.now.code.now c.args.self.now.routine.now c.args.plan.now ∷ []) ≡ Ok c.in_ok-line.line = (ap (λ f. checked c.args.line (f ∷ [])) (sym c.plan_fault.ensures) ∙ c.in_ok-line.ensures) in
+    let passed_1 : checked c.args.line (plan_fault c.args.self.now.code.now c.args.self.now.routine.now c.args.plan.now ∷ []) ≡ Ok c.in_ok-line.line = (ap (λ f. checked c.args.line (f ∷ [])) (sym c.in_ok-fault.ensures) ∙ c.in_ok-line.ensures) in
     go (plan_fault c.args.self.now.code.now c.args.self.now.routine.now c.args.plan.now ∷ []) (plan_parts c.args.self.now.code.now c.args.self.now.routine.now c.args.plan.now) c.args.line c.plan_parts.result passed_1 (c.plan_parts.ensures)

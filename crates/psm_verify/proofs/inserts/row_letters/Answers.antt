@@ -1,7 +1,7 @@
 use Rattle.std.proofs.Common.{◌∙◌, rules, sym}
 use Rattle.psm_code.specs.Instructions.{letters_at}
 use Rattle.psm_verify.proofs.Rows.{column_next}
-use Rattle.psm_verify.proofs.changing.row_letters.Goals as goal
+use Rattle.psm_verify.proofs.inserts.row_letters.Goals as goal
 
 pub loop-column-preserved : goal.loop-column-preserved
 loop-column-preserved c =
