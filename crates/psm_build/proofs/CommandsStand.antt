@@ -26,12 +26,12 @@ use Rattle.psm_build.proofs.Procedures.{procedure_stands}
 -- ---- tables
 
 table_stands : (file : ResolvedFile) (code : RawCode) (n : ℕ) → FileStands file code → IsThere (slice_get file.tables n) → InsertStands file code n
-table_stands file code n stands there = by (slice_get file.tables n) (slice_get code.tables n) refl refl there (stands.tables n)
+table_stands file code n stands there = by (slice_get file.tables n) (slice_get code.tables n) refl refl there (stands.tables n).1
   where
     by : (t : Option ResolvedTable) (u : Option CodeTable) → slice_get file.tables n ≡ t → slice_get code.tables n ≡ u → IsThere t → changes.SameTable t u → InsertStands file code n
     by None u e f there same = absurd there
     by (Some t) None e f there same = absurd same
-    by (Some t) (Some u) e f there same = record { named = t; coded = u; there = e; at = f; stands = same }
+    by (Some t) (Some u) e f there same = record { named = t; coded = u; there = e; at = f; stands = same; keys = (stands.tables n).0 }
 
 -- ---- commands
 

@@ -10,7 +10,7 @@ use Rattle.psm_resolved.specs.declared.file.ResolvedTable.{ResolvedTable}
 use Rattle.psm_meaning.specs.Session as meaning
 use Rattle.psm_code.specs.declared.code.CodeTable.{CodeTable}
 use Rattle.psm_code.specs.declared.code.RawCode.{RawCode}
-use Rattle.psm_code.specs.MachineInvariant.{AreKept}
+use Rattle.psm_code.specs.MachineInvariant.{AreKept, AreLawful}
 use Rattle.psm_codegen.specs.Files.{FileWritten}
 use Rattle.psm_codegen.specs.Queries.{TablesMade}
 use Rattle.psm_wellformed.proofs.Definitions.{file-definitions}
@@ -22,8 +22,20 @@ tables_kept : (ts : List CodeTable) → AreKept ts (map empty_table (map (λ t. 
 tables_kept [] = tt
 tables_kept (t ∷ ts) = (record { same = refl; rows = All-nil (IsRow t.definition); legal = record { stored = refl; pass = refl; rules = refl } }, tables_kept ts)
 
-pub empty_tables_kept : (code : RawCode) → AreKept code.tables (empty_tables code)
-empty_tables_kept code = tables_kept code.tables
+-- no row refers to one that isn't there
+empty_at : (ts : List CodeTable) (n : ℕ) → rows_at (rows_in (map empty_table (map (λ t. t.definition) ts))) n ≡ []
+empty_at [] n = refl
+empty_at (t ∷ ts) zero = refl
+empty_at (t ∷ ts) (suc n) = empty_at ts n
+
+empty_keyed : (keys : List ForeignKey) (ts : List CodeTable) → are_keyed keys (rows_in (map empty_table (map (λ t. t.definition) ts))) ≡ true
+empty_keyed [] ts = refl
+empty_keyed (key ∷ keys) ts =
+    let tables : List (List (List Datum)) = rows_in (map empty_table (map (λ t. t.definition) ts)) in
+    ap (λ b. b && are_keyed keys tables) (ap (list_all (is_referred key.columns key.target (rows_at tables key.to))) (empty_at ts key.from)) ∙ empty_keyed keys ts
+
+pub empty_tables_kept : (code : RawCode) → AreLawful code (empty_tables code)
+empty_tables_kept code = record { kept = tables_kept code.tables; keyed = empty_keyed code.keys code.tables }
 
 -- ---- those of the file
 

@@ -8,7 +8,7 @@ use Rattle.psm_meaning.specs.Acts.{NoTurns}
 use Rattle.psm_meaning.specs.Session.{Session, End, Cut, Done}
 use Rattle.psm_code.specs.declared.code.RawCode.{RawCode}
 use Rattle.psm_code.specs.RoutineRules.{first_fault}
-use Rattle.psm_code.specs.MachineInvariant.{AreKept}
+use Rattle.psm_code.specs.MachineInvariant.{AreLawful}
 use Rattle.psm_session.specs.Ends.{Ends, FitsCommand, beginning}
 use Rattle.psm_session.specs.Put.{Sunk, PutAll, PutUpTo}
 use Rattle.psm_session.specs.declared.command.ScriptCommand.{ScriptCommand}
@@ -64,7 +64,7 @@ pub record CanRun (code : RawCode) (commands : List ScriptCommand) : Type 0 wher
   pub numbered : All (λ r. IsTrue (is_numbered r.handlers)) code.routines
   pub fits : All (FitsCommand code) commands
   pub defined : All IsDefinition (definitions code)
-  pub kept : AreKept code.tables (empty_tables code)
+  pub kept : AreLawful code (empty_tables code)
 
 -- however a run of them ends, it shows that session
 abbrev pub RunsAs : RawCode → List ScriptCommand → ℕ → Session → (ℕ → List Contents) → Type 0

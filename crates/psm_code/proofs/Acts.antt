@@ -1,5 +1,5 @@
 -- How the parts of an instruction keep what is always true of a machine, one after another.
-use Rattle.std.proofs.Common.{◌≡◌, ◌<◌, ℕ, true, List, [], ◌∷◌, length, refl, Option, Some, Result, Ok, Err}
+use Rattle.std.proofs.Common.{◌≡◌, ◌<◌, ℕ, true, List, [], ◌∷◌, length, refl, Option, None, Some, Result, Ok, Err}
 use Rattle.psm_sqlstate.specs.declared.state.SqlState.{SqlState}
 use Rattle.psm_value.specs.declared.datum.Datum.{Datum}
 use Rattle.psm_exprcode.specs.declared.op.Letter.{Letter}
@@ -16,7 +16,7 @@ use Rattle.psm_code.specs.declared.lines.CodeLine.{CodeLine}
 use Rattle.psm_code.specs.Calling.{most_depth}
 use Rattle.psm_code.specs.Instructions.{may_raise}
 use Rattle.psm_code.specs.Parts.{line_at, routine_at, slots_of}
-use Rattle.psm_code.specs.MachineInvariant.{are_stored, is_due, AllWait, AreCursors, AreKept, Stand}
+use Rattle.psm_code.specs.MachineInvariant.{are_stored, is_due, AllWait, AreCursors, AreLawful, Stand}
 use Rattle.psm_code.specs.State.{Activation, Frame, Machine}
 use Rattle.psm_code.specs.Steps.{Act, Given, Got, Raises, Ends, go_on, pop, popped, present, tried, ◌>>=◌}
 
@@ -29,7 +29,7 @@ pub record Lives (code : RawCode) (r : RawRoutine) (l : CodeLine) (n at : ℕ) (
   pub frames : Stand code r entered l.context
   pub callers : AllWait code n others
   pub depth : length others < most_depth
-  pub tables : AreKept code.tables now
+  pub tables : AreLawful code now
 
 module _ (code : RawCode) (r : RawRoutine) (l : CodeLine) where
   -- all but the operands
@@ -45,7 +45,7 @@ module _ (code : RawCode) (r : RawRoutine) (l : CodeLine) where
   abbrev pub Evaluates : {A : Type 0} → (A → Machine → Type 0) → Given A → Machine → Type 0
   Evaluates P (Got a) m = P a m
   Evaluates P (Raises c) m = (may_raise l.instruction ≡ true) × Body m
-  Evaluates P (Ends e) m = (is_due e ≡ true) × AreKept code.tables m.tables
+  Evaluates P (Ends e) m = (is_due e ≡ true) × AreLawful code m.tables
 
   -- the act on the machine
   pub record Does {A : Type 0} (P : A → Machine → Type 0) (act : Act A) (m : Machine) : Type 0 where
@@ -64,6 +64,15 @@ module _ (code : RawCode) (r : RawRoutine) (l : CodeLine) where
   pub present_does : {A : Type 0} (P : A → Machine → Type 0) (o : Option A) (a : A) (m : Machine) → o ≡ Some a → P a m → Does P (present o) m
   present_does P o a m e h = rw e (record { evaluates = h })
 
+  unchanged : {A : Type 0} (P : A → Machine → Type 0) (m : Machine) (g : Given A) (n : Machine) → n ≡ m → Evaluates P g n → Evaluates (λ a k. (k ≡ m) × P a k) g n
+  unchanged P m (Got a) n e h = (e, h)
+  unchanged P m (Raises c) n e h = h
+  unchanged P m (Ends x) n e h = h
+
+  -- an act that leaves the machine as it is
+  pub stays : {A : Type 0} (P : A → Machine → Type 0) (act : Act A) (m : Machine) → (act m).machine ≡ m → Does P act m → Does (λ a k. (k ≡ m) × P a k) act m
+  stays P act m e h = record { evaluates = unchanged P m (act m).given (act m).machine e h.evaluates }
+
   -- a value is taken
   popped_does : (k : Letter) (s : List Letter) (m : Machine) (os : List Operand) → is_value k ≡ true → Body m → have (k ∷ s) os ≡ true → Does (λ d n. (has_letter k d ≡ true) × Has s n) (popped os) m
   popped_does k s m [] v h g = absurd (cc)
@@ -79,3 +88,7 @@ module _ (code : RawCode) (r : RawRoutine) (l : CodeLine) where
   pub tried_does : {A : Type 0} (Q : A → Type 0) (P : Machine → Type 0) (t : Result A SqlState) (m : Machine) → may_raise l.instruction ≡ true → Body m → P m → ((a : A) → t ≡ Ok a → Q a) → Does (λ a n. Q a × P n) (tried t) m
   tried_does Q P (Ok a) m may b p q = record { evaluates = (q a refl, p) }
   tried_does Q P (Err s) m may b p q = record { evaluates = (may, b) }
+
+pub present_stays : {A : Type 0} (o : Option A) (m : Machine) → (present o m).machine ≡ m
+present_stays None m = refl
+present_stays (Some a) m = refl

@@ -27,7 +27,7 @@ use Rattle.psm_code.specs.RoutineRules as rules
 use Rattle.psm_code.specs.RoutineRules.{first_fault}
 use Rattle.psm_code.specs.Run.{act_ended, action_ended, fall_through, end_action, enter, exit, exited, finding, line_after, then_fall_through, with_frames, Successor}
 use Rattle.psm_code.specs.Rules.{is_some, there}
-use Rattle.psm_code.specs.MachineInvariant.{AreKept, Ends, Finds, IsEntered, Stand, StaysWellFormed}
+use Rattle.psm_code.specs.MachineInvariant.{AreLawful, Ends, Finds, IsEntered, Stand, StaysWellFormed}
 use Rattle.psm_code.specs.State.{Frame, InBlock, InAction, Stuck, Machine, put_back}
 use Rattle.psm_code.specs.Steps.{change, ends, read}
 use Rattle.psm_code.proofs.Acts.{Does, Has, and_then, present_does}
@@ -41,7 +41,7 @@ parent_same : (o : Option Context) → rules.parent_of_context o ≡ parent_of o
 parent_same None = refl
 parent_same (Some c) = refl
 
-finding_finds : (code : RawCode) (atomic : Bool) (now : List Contents) → AreKept code.tables now → Finds code atomic (finding atomic now)
+finding_finds : (code : RawCode) (atomic : Bool) (now : List Contents) → AreLawful code now → Finds code atomic (finding atomic now)
 finding_finds code true now h = h
 finding_finds code false now h = tt
 

@@ -35,7 +35,7 @@ use Rattle.psm_code.specs.RoutineRules as rules
 use Rattle.psm_code.specs.RoutineRules.{first_fault}
 use Rattle.psm_code.specs.Run.{call_from, here, return, settled}
 use Rattle.psm_code.specs.Rules.{is_same, is_some, there, where_there}
-use Rattle.psm_code.specs.MachineInvariant.{are_stored, is_call_of, AllWait, AreKept, MachineInvariant, Stand, StaysWellFormed, Waits}
+use Rattle.psm_code.specs.MachineInvariant.{are_stored, is_call_of, AllWait, AreLawful, MachineInvariant, Stand, StaysWellFormed, Waits}
 use Rattle.psm_code.specs.State.{Activation, Machine, cleared}
 use Rattle.psm_code.specs.Steps.{Act, change, pops, read, turn, ◌>>=◌, ◌>>◌}
 use Rattle.psm_code.proofs.Acts.{Does, Has, and_then, pop_does, present_does, tried_does}
@@ -180,7 +180,7 @@ call_context r l n i h = absurd (cc)
 module _ (code : RawCode) (well_formed_code : first_fault code ≡ None) where
   -- values are left where the routine was called
   returns_to : (callee : ℕ) (puts : List Letter) (ds : List Datum) (a : Activation) (callers : List Activation) (m : Machine) (w : Waits code callee a) → w.effect.fall_through ≡ Some puts → are_of puts ds ≡ true
-      → AllWait code a.routine callers → length callers < most_depth → AreKept code.tables m.tables → MachineInvariant code (returned_to (with_values ds a) callers m)
+      → AllWait code a.routine callers → length callers < most_depth → AreLawful code m.tables → MachineInvariant code (returned_to (with_values ds a) callers m)
   returns_to callee puts ds a callers m w q vs all less k =
       let st = w.stands in
       let i = st.line.instruction in
@@ -209,7 +209,7 @@ module _ (code : RawCode) (well_formed_code : first_fault code ≡ None) where
 
   -- where there is no caller the run is over
   leaves : (callee : ℕ) (puts : List Letter) (ds : List Datum) (callers : List Activation) (m : Machine) → ((a : Activation) (w : Waits code callee a) → w.effect.fall_through ≡ Some puts) → are_of puts ds ≡ true
-      → AllWait code callee callers → length callers < most_depth → AreKept code.tables m.tables → StaysWellFormed code (left_values ds callers m)
+      → AllWait code callee callers → length callers < most_depth → AreLawful code m.tables → StaysWellFormed code (left_values ds callers m)
   leaves callee puts ds [] m q vs all less k = (refl, k)
   leaves callee puts ds (a ∷ callers) m q vs all less k = returns_to callee puts ds a callers m all.0 (q a all.0) vs all.1 (omega (arith, less)) k
 

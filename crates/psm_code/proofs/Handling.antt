@@ -27,7 +27,7 @@ use Rattle.psm_code.specs.Raising as raising
 use Rattle.psm_code.specs.RoutineRules as rules
 use Rattle.psm_code.specs.RoutineRules.{first_fault}
 use Rattle.psm_code.specs.Rules.{is_some, is_there, there, where_there}
-use Rattle.psm_code.specs.MachineInvariant.{is_call_of, AllWait, AreCursors, AreKept, Ends, Finds, Keeps, Resumes, MachineInvariant, Stand, StaysWellFormed}
+use Rattle.psm_code.specs.MachineInvariant.{is_call_of, AllWait, AreCursors, AreLawful, Ends, Finds, Keeps, Resumes, MachineInvariant, Stand, StaysWellFormed}
 use Rattle.psm_code.specs.State.{Activation, Frame, InBlock, InAction, Machine, Over, Raised, Stepped, closed_cursors, holding}
 use Rattle.psm_code.proofs.Acts.{Body}
 use Rattle.psm_code.proofs.Faults.{line_well_formed, routine_well_formed, WellFormedLine, WellFormedRoutineCode}
@@ -68,7 +68,7 @@ all_closed code r (n ∷ ns) cs h = all_closed code r ns (slice_set cs n Closed)
 module _ (code : RawCode) where
   abbrev pub IsFound : Option (List Contents) → Type 0
   IsFound None = Unit {0}
-  IsFound (Some tables) = AreKept code.tables tables
+  IsFound (Some tables) = AreLawful code tables
 
   -- the tables that the blocks of some frames found
   abbrev pub AreFound : List Frame → Type 0
@@ -82,7 +82,7 @@ module _ (code : RawCode) where
   finds_found true (Some tables) h = h
   finds_found false (Some tables) h = absurd h
 
-  pub put_back_kept : (undo : Bool) (found : Option (List Contents)) (now : List Contents) → IsFound found → AreKept code.tables now → AreKept code.tables (put_back undo found now)
+  pub put_back_kept : (undo : Bool) (found : Option (List Contents)) (now : List Contents) → IsFound found → AreLawful code now → AreLawful code (put_back undo found now)
   put_back_kept true None now f h = h
   put_back_kept true (Some tables) now f h = f
   put_back_kept false found now f h = h
@@ -130,7 +130,7 @@ module _ (code : RawCode) where
       -- ---- actions
 
       module _ (well_formed_code : WellFormedRoutineCode code r) where
-        acts : (m : Machine) (n : ℕ) (h : Handler) (resume : Option ℕ) (frames : List Frame) (tables : List Contents) → handler_at r n ≡ Some h → Body code r l m → AreKept code.tables tables
+        acts : (m : Machine) (n : ℕ) (h : Handler) (resume : Option ℕ) (frames : List Frame) (tables : List Contents) → handler_at r n ≡ Some h → Body code r l m → AreLawful code tables
             → Ends r h h.kind resume frames (Stand code r frames) → MachineInvariant code (acting n resume h (record m { running = record m.running { frames = frames }; tables = tables }))
         acts m n h resume frames tables e b k f =
             let g = begins code r well_formed_code n h e in
@@ -186,7 +186,7 @@ module _ (code : RawCode) where
 
         -- ---- the choice
 
-        turned : (t : ℕ) (go : Machine → Machine) (m : Machine) → AreKept code.tables m.tables → ((left : ℕ) → MachineInvariant code (go (record m { turns = left }))) → StaysWellFormed code (at_turn t go m)
+        turned : (t : ℕ) (go : Machine → Machine) (m : Machine) → AreLawful code m.tables → ((left : ℕ) → MachineInvariant code (go (record m { turns = left }))) → StaysWellFormed code (at_turn t go m)
         turned zero go m k h = (refl, k)
         turned (suc left) go m k h = h left
 

@@ -13,7 +13,7 @@ use Rattle.psm_code.specs.Calling.{activation, before_start, begun, entered, mos
 use Rattle.psm_code.specs.Parts.{routine_at, taking}
 use Rattle.psm_code.specs.RoutineRules.{first_fault}
 use Rattle.psm_code.specs.Run.{line_done, routine_done, step, step_on, steps, Ran}
-use Rattle.psm_code.specs.MachineInvariant.{are_stored, is_due, AllWait, AreKept, MachineInvariant, StaysWellFormed}
+use Rattle.psm_code.specs.MachineInvariant.{are_stored, is_due, AllWait, AreLawful, MachineInvariant, StaysWellFormed}
 use Rattle.psm_code.specs.State.{Activation, End, Machine, More, Over, Stepped}
 use Rattle.psm_code.specs.Steps.{Act, Given, Got, Raises, Ends, got, go_on, present, spent, turn, ◌>>=◌, ◌>>◌}
 use Rattle.psm_code.proofs.Acts.{Has}
@@ -99,7 +99,7 @@ module _ (code : RawCode) (well_formed_code : first_fault code ≡ None) where
 -- ---- the start
 
 module _ (code : RawCode) (well_formed_code : first_fault code ≡ None) (n : ℕ) (r : RawRoutine) (there : routine_at code n ≡ Some r) where
-  machine_invariant_first : (ds : List Datum) (m : Machine) → m.callers ≡ [] → are_stored (map (λ p. p.kind) r.parameters) ds ≡ true → AreKept code.tables m.tables → MachineInvariant code (record m { running = activation n r ds })
+  machine_invariant_first : (ds : List Datum) (m : Machine) → m.callers ≡ [] → are_stored (map (λ p. p.kind) r.parameters) ds ≡ true → AreLawful code m.tables → MachineInvariant code (record m { running = activation n r ds })
   machine_invariant_first ds m e v k =
       let first = first_line code r (routine_well_formed code n r well_formed_code there) in
       let few : 0 < most_depth = omega arith in
@@ -116,15 +116,15 @@ module _ (code : RawCode) (well_formed_code : first_fault code ≡ None) (n : �
     turn
     got (activation n r ds)
 
-  turn_first : (left : ℕ) (ds : List Datum) (m : Machine) → m.callers ≡ [] → are_stored (map (λ p. p.kind) r.parameters) ds ≡ true → AreKept code.tables m.tables
+  turn_first : (left : ℕ) (ds : List Datum) (m : Machine) → m.callers ≡ [] → are_stored (map (λ p. p.kind) r.parameters) ds ≡ true → AreLawful code m.tables
       → (let c = go_on (spent left m).given (λ u. got (activation n r ds)) (spent left m).machine in StaysWellFormed code (begun c.given c.machine))
   turn_first zero ds m e v k = (refl, k)
   turn_first (suc left) ds m e v k = machine_invariant_first ds (record m { turns = left }) e v k
 
-  given_first : (a : Given (List Datum)) (m k : Machine) → k ≡ m → m.callers ≡ [] → AreGiven (map (λ p. p.kind) r.parameters) a → AreKept code.tables m.tables
+  given_first : (a : Given (List Datum)) (m k : Machine) → k ≡ m → m.callers ≡ [] → AreGiven (map (λ p. p.kind) r.parameters) a → AreLawful code m.tables
       → (let c = go_on a turned k in StaysWellFormed code (begun c.given c.machine))
   given_first (Got ds) m k q e v t = subst (λ k. let c = turned ds k in StaysWellFormed code (begun c.given c.machine)) (sym q) (turn_first m.turns ds m e v t)
-  given_first (Raises c) m k q e v t = (refl, subst (λ (k : Machine). AreKept code.tables k.tables) (sym q) t)
+  given_first (Raises c) m k q e v t = (refl, subst (λ (k : Machine). AreLawful code k.tables) (sym q) t)
   given_first (Ends x) m k q e v t = absurd v
 
   abbrev entering : List Datum → RawRoutine → Act Activation
@@ -134,7 +134,7 @@ module _ (code : RawCode) (well_formed_code : first_fault code ≡ None) (n : �
     got (activation n r parameters)
 
   -- a run begins with one argument for each IN and INOUT parameter
-  pub starts : (args : List Datum) (tables : List Contents) (turns : ℕ) → length args ≡ length (taking r.parameters) → AreKept code.tables tables → StaysWellFormed code (started code n args tables turns)
+  pub starts : (args : List Datum) (tables : List Contents) (turns : ℕ) → length args ≡ length (taking r.parameters) → AreLawful code tables → StaysWellFormed code (started code n args tables turns)
   starts args tables turns e k =
       let m = before_start turns tables in
       let h = enters r.parameters args m e in
@@ -142,10 +142,10 @@ module _ (code : RawCode) (well_formed_code : first_fault code ≡ None) (n : �
       (given_first (entered r.parameters args m).given m (entered r.parameters args m).machine h.machine refl h.given k)
 
 -- the end of a run is due, and the tables are legal then
-over_well_formed : (code : RawCode) (t : Stepped) (e : End) (m : Machine) → StaysWellFormed code t → t ≡ Over e m → (is_due e ≡ true) × AreKept code.tables m.tables
+over_well_formed : (code : RawCode) (t : Stepped) (e : End) (m : Machine) → StaysWellFormed code t → t ≡ Over e m → (is_due e ≡ true) × AreLawful code m.tables
 over_well_formed code t e m h q = subst (StaysWellFormed code) q h
 
 pub run_well_formed : (code : RawCode) → first_fault code ≡ None → (n : ℕ) (r : RawRoutine) → routine_at code n ≡ Some r → (args : List Datum) (tables : List Contents) (turns : ℕ) → length args ≡ length (taking r.parameters)
-    → AreKept code.tables tables → (e : End) (m : Machine) → Ran code n args tables turns e m → (is_due e ≡ true) × AreKept code.tables m.tables
+    → AreLawful code tables → (e : End) (m : Machine) → Ran code n args tables turns e m → (is_due e ≡ true) × AreLawful code m.tables
 run_well_formed code well_formed_code n r there args tables turns long k e m ran =
     over_well_formed code (steps code ran.count (started code n args tables turns)) e m (rows_well_formed code well_formed_code ran.count (started code n args tables turns) (starts code well_formed_code n r there args tables turns long k)) ran.leads

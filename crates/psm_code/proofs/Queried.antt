@@ -30,7 +30,7 @@ use Rattle.psm_code.specs.Querying.{answer_of, exists, is_any, only_row, query_a
 use Rattle.psm_code.specs.RoutineRules as rules
 use Rattle.psm_code.specs.RoutineRules.{first_fault}
 use Rattle.psm_code.specs.Rules.{is_there}
-use Rattle.psm_code.specs.MachineInvariant.{are_stored, AreKept, IsKept}
+use Rattle.psm_code.specs.MachineInvariant.{are_stored, AreKept, AreLawful, IsKept}
 use Rattle.psm_code.specs.State.{Machine}
 use Rattle.psm_code.specs.Steps.{Act, put, put_values, read, table_now, ◌>>=◌}
 use Rattle.psm_code.proofs.Acts.{Does, Has, and_then, present_does, tried_does}
@@ -81,8 +81,8 @@ well_formed_query code r n q g e =
 module _ (code : RawCode) (r : RawRoutine) (l : CodeLine) where
   pub table_does : (i : ℕ) (t : CodeTable) (s : List Letter) (m : Machine) → slice_get code.tables i ≡ Some t → Has code r l s m → Does code r l (λ c n. IsKept t c × Has code r l s n) (table_now i) m
   table_does i t s m e h =
-      and_then code r l (λ ts n. AreKept code.tables ts × Has code r l s n) _ (read (λ m. m.tables)) _ m (record { evaluates = (h.body.tables, h) }) (λ ts n f.
-      let c = kept_at code.tables ts i t f.0 e in
+      and_then code r l (λ ts n. AreLawful code ts × Has code r l s n) _ (read (λ m. m.tables)) _ m (record { evaluates = (h.body.tables, h) }) (λ ts n f.
+      let c = kept_at code.tables ts i t f.0.kept e in
       present_does code r l (λ c n. IsKept t c × Has code r l s n) (slice_get ts i) c.0 n c.1 (c.2, f.1))
 
   pub variables_do : (s : List Letter) (m : Machine) → Has code r l s m → Does code r l (λ vs n. (are_stored (slots_of r) vs ≡ true) × Has code r l s n) (read (λ m. m.running.variables)) m

@@ -18,6 +18,7 @@ use Rattle.psm_exprcode.specs.WellFormed.{left_of}
 use Rattle.psm_table.specs.Changing.{IsLegal}
 use Rattle.psm_table.specs.Cursors.{Cursor, Closed, Plain, Insensitive}
 use Rattle.psm_table.specs.Definition.{IsKey, IsRow}
+use Rattle.psm_table.specs.Keyed.{are_keyed, rows_in}
 use Rattle.psm_table.specs.Table.{Contents}
 use Rattle.psm_code.specs.declared.code.CodeCursor.{CodeCursor}
 use Rattle.psm_code.specs.declared.code.CodeTable.{CodeTable}
@@ -40,7 +41,7 @@ use Rattle.psm_code.specs.State.{Activation, Frame, InBlock, InAction, Machine, 
 pub record IsKept (t : CodeTable) (c : Contents) : Type 0 where
   pub same : c.def ≡ t.definition
   pub rows : All (IsRow t.definition) c.rows
-  pub legal : IsLegal plain (schema_of t) c.rows
+  pub legal : IsLegal plain (schema_of (λ rows. true) t) c.rows
 
 -- the tables are those of the code, one for one
 abbrev pub AreKept : List CodeTable → List Contents → Type 0
@@ -48,6 +49,11 @@ AreKept [] [] = Unit {0}
 AreKept [] (c ∷ cs) = ⊥
 AreKept (t ∷ ts) [] = ⊥
 AreKept (t ∷ ts) (c ∷ cs) = IsKept t c × AreKept ts cs
+
+-- and among them all FOREIGN KEY constraints hold
+pub record AreLawful (code : RawCode) (tables : List Contents) : Type 0 where
+  pub kept : AreKept code.tables tables
+  pub keyed : are_keyed code.keys (rows_in tables) ≡ true
 
 -- ---- variables and cursors
 
@@ -77,7 +83,7 @@ AreCursors code r (x ∷ xs) (c ∷ cs) = IfSome (slice_get r.queries x.query) (
 -- an ATOMIC block has the tables that it found, and another one hasn't any
 abbrev pub Finds : RawCode → Bool → Option (List Contents) → Type 0
 Finds code true None = ⊥
-Finds code true (Some tables) = AreKept code.tables tables
+Finds code true (Some tables) = AreLawful code tables
 Finds code false None = Unit {0}
 Finds code false (Some tables) = ⊥
 
@@ -158,7 +164,7 @@ pub record MachineInvariant (code : RawCode) (m : Machine) : Type 0 where
   pub operands : IsTrue (have (reverse running.line.stack) m.running.operands)
   pub callers : AllWait code m.running.routine m.callers
   pub depth : length m.callers < most_depth
-  pub tables : AreKept code.tables m.tables
+  pub tables : AreLawful code m.tables
 
 -- ---- turns
 
@@ -171,4 +177,4 @@ is_due Stuck = false
 -- the invariant still holds of the machine, or the run is over: because turns ran out, with values or with an exception
 abbrev pub StaysWellFormed : RawCode → Stepped → Type 0
 StaysWellFormed code (More m) = MachineInvariant code m
-StaysWellFormed code (Over e m) = IsTrue (is_due e) × AreKept code.tables m.tables
+StaysWellFormed code (Over e m) = IsTrue (is_due e) × AreLawful code m.tables

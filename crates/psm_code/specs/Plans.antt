@@ -8,6 +8,7 @@ use Rattle.psm_exprcode.specs.declared.set_item.SetItem as set_code
 use Rattle.psm_table.specs.Changing.{Failure, Raised, OfTable, Schema, SetItem, deleted, deleted_at, inserted, updated, updated_at}
 use Rattle.psm_table.specs.Cursors.{Cursor, Closed, Plain, Insensitive, current, without_row}
 use Rattle.psm_table.specs.Evaluator.{Evaluator}
+use Rattle.psm_table.specs.Keyed.{are_keyed_with, rows_in}
 use Rattle.psm_table.specs.Table.{Contents}
 use Rattle.psm_table.specs.declared.definition.TableDef.{TableDef}
 use Rattle.psm_tablecode.specs.Codes.{over}
@@ -26,11 +27,14 @@ use Rattle.psm_code.specs.Querying.{answer_of, cursor_now, declared_at, query_at
 abbrev pub plain : Evaluator (List Line)
 plain = over []
 
-abbrev pub schema_of : CodeTable → Schema (List Line)
-schema_of t = record { def = t.definition; checks = t.checks }
+abbrev pub schema_of : (List (List Datum) → Bool) → CodeTable → Schema (List Line)
+schema_of keyed t = record { def = t.definition; checks = t.checks; keyed = keyed }
 
+-- among the tables of now
 abbrev pub schema_at : RawCode → ℕ → Act (Schema (List Line))
-schema_at code table = present (slice_get (map schema_of code.tables) table)
+schema_at code table = do
+  tables ← read (λ m. m.tables)
+  present (slice_get (map (schema_of (are_keyed_with code.keys (rows_in tables) table)) code.tables) table)
 
 -- a condition of the table bears its name
 abbrev pub unless_failed : {A : Type 0} → TableDef → Result A Failure → Act A

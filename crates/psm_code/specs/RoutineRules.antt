@@ -394,7 +394,8 @@ abbrev pub line_faults : RawCode → RawRoutine → ℕ → List CodeLine → Li
 line_faults code r at [] = []
 line_faults code r at (l ∷ ls) = line_fault code r at l ∷ line_faults code r (suc at) ls
 
--- ---- routines, and the whole listing, whose first line counts tables and routines
+-- ---- routines, and the whole listing, whose first line counts tables and routines; at it a FOREIGN KEY constraint is at fault that
+-- stands at no table, or out of turn
 
 abbrev pub routine_faults : RawCode → List RawRoutine → RawRoutine → List (Option CodeRule)
 routine_faults code before r =
@@ -410,7 +411,7 @@ routine_faults code before r =
     ++ line_faults code r 0 r.lines
 
 abbrev pub code_faults : RawCode → List (Option CodeRule)
-code_faults code = None ∷ each_after table_faults [] code.tables ++ each_after (routine_faults code) [] code.routines
+code_faults code = unless (are_in_turn 0 (length code.tables) code.keys) Definition ∷ each_after (table_faults code.keys) [] code.tables ++ each_after (routine_faults code) [] code.routines
 
 -- the first line of the listing that breaks a rule, counted from 1
 abbrev pub first_fault : RawCode → Option (ℕ × CodeRule)

@@ -168,10 +168,40 @@ unique_fault def columns = first_of (unless (are_there def.columns columns) Rang
 abbrev pub name_fault : List CodeTable → CodeTable → Option CodeRule
 name_fault before t = unless (list_all (λ u. not (is_same u.definition.name t.definition.name)) before) Definition
 
-abbrev pub table_faults : List CodeTable → CodeTable → List (Option CodeRule)
-table_faults before t =
+-- ---- FOREIGN KEY constraints, each behind the UNIQUE lists of the table that refers
+
+-- the constraints of a table
+abbrev pub keys_from : List ForeignKey → ℕ → List ForeignKey
+keys_from keys n = filter (λ key. nat_eq key.from n) keys
+
+-- whether they stand in the order of the tables that refer, of which there are so many
+abbrev pub are_in_turn : ℕ → ℕ → List ForeignKey → Bool
+are_in_turn at count [] = true
+are_in_turn at count (key ∷ keys) = (nat_le at key.from && nat_lt key.from count) && are_in_turn key.from count keys
+
+-- whether a column of one table and a column of the other are of one family
+abbrev pub pairs_up : TableDef → TableDef → ℕ × ℕ → Bool
+pairs_up from to (a, b) = where_there (slice_get from.columns a) (λ c. where_there (slice_get to.columns b) (λ d. is_kind_of_family c.kind d.kind))
+
+-- the key or one of the UNIQUE lists, in order
+abbrev pub is_one_of_keys : TableDef → List ℕ → Bool
+is_one_of_keys def target = list_any (pointwise nat_eq target) (def.key ∷ def.unique)
+
+abbrev pub foreign_key_to : TableDef → ForeignKey → Option CodeTable → Option CodeRule
+foreign_key_to from key None = Some Range
+foreign_key_to from key (Some to) = first_of (
+    unless (are_there from.columns key.columns && are_there to.definition.columns key.target) Range
+    ∷ unless ((is_column_list key.columns && is_column_list key.target)
+    && ((nat_eq (length key.columns) (length key.target) && list_all (pairs_up from to.definition) (zip key.columns key.target)) && is_one_of_keys to.definition key.target)) Definition ∷ [])
+
+abbrev pub foreign_key_fault : List CodeTable → CodeTable → ForeignKey → Option CodeRule
+foreign_key_fault before t key = foreign_key_to t.definition key (slice_get (before ++ t ∷ []) key.to)
+
+abbrev pub table_faults : List ForeignKey → List CodeTable → CodeTable → List (Option CodeRule)
+table_faults keys before t =
     name_fault before t
     ∷ each_after column_fault [] t.definition.columns
     ++ key_fault t.definition
     ∷ map (unique_fault t.definition) t.definition.unique
+    ++ map (foreign_key_fault before t) (keys_from keys (length before))
     ++ flat_map (expr_faults (column_letters t) [] (is_letter B)) t.checks

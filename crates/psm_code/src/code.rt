@@ -100,5 +100,7 @@ pub struct RawRoutine {
 #[derive(Debug, Drop)]
 pub struct RawCode {
     pub tables: List<CodeTable>,
+    /// The FOREIGN KEY constraints of all tables, in the order of the tables that refer.
+    pub keys: List<ForeignKey>,
     pub routines: List<RawRoutine>,
 }

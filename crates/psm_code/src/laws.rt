@@ -12,7 +12,7 @@ ghost use Rattle.psm_code.specs.Parts.{routine_at, taking};
 ghost use Rattle.psm_code.specs.RoutineRules.{first_fault};
 ghost use Rattle.psm_code.specs.Rules.{fault_in};
 ghost use Rattle.psm_code.specs.Run.{step, Ran};
-ghost use Rattle.psm_code.specs.MachineInvariant.{is_due, AreKept, MachineInvariant, StaysWellFormed};
+ghost use Rattle.psm_code.specs.MachineInvariant.{is_due, AreLawful, MachineInvariant, StaysWellFormed};
 ghost use Rattle.psm_code.specs.State.{End, Machine};
 ghost use Rattle.psm_code.specs.TableRules.{expr_faults};
 
@@ -36,6 +36,6 @@ pub fn empty_code_is_well_formed()
 /// with an exception or because turns ran out, and its tables are legal then. The arguments need not be of the parameters' types: where one can't be stored, that is the run's exception.
 pub fn well_formed_code_never_gets_stuck()
     ensures kept { (code : RawCode) → first_fault code ≡ None → (m : Machine) → MachineInvariant code m → StaysWellFormed code (step code m) }
-    ensures start { (code : RawCode) → first_fault code ≡ None → (routine : ℕ) (r : RawRoutine) → routine_at code routine ≡ Some r → (args : List Datum) (tables : List Contents) (turns : ℕ) → length args ≡ length (taking r.parameters) → AreKept code.tables tables → StaysWellFormed code (started code routine args tables turns) }
-    ensures run { (code : RawCode) → first_fault code ≡ None → (routine : ℕ) (r : RawRoutine) → routine_at code routine ≡ Some r → (args : List Datum) (tables : List Contents) (turns : ℕ) → length args ≡ length (taking r.parameters) → AreKept code.tables tables → (e : End) (last : Machine) → Ran code routine args tables turns e last → IsTrue (is_due e) × AreKept code.tables last.tables }
+    ensures start { (code : RawCode) → first_fault code ≡ None → (routine : ℕ) (r : RawRoutine) → routine_at code routine ≡ Some r → (args : List Datum) (tables : List Contents) (turns : ℕ) → length args ≡ length (taking r.parameters) → AreLawful code tables → StaysWellFormed code (started code routine args tables turns) }
+    ensures run { (code : RawCode) → first_fault code ≡ None → (routine : ℕ) (r : RawRoutine) → routine_at code routine ≡ Some r → (args : List Datum) (tables : List Contents) (turns : ℕ) → length args ≡ length (taking r.parameters) → AreLawful code tables → (e : End) (last : Machine) → Ran code routine args tables turns e last → IsTrue (is_due e) × AreLawful code last.tables }
 {}

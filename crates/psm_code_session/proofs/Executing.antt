@@ -12,7 +12,7 @@ use Rattle.psm_tablecode.specs.Codes.{over, query_of}
 use Rattle.psm_tablecode.specs.NewRows.{new_row}
 use Rattle.psm_code.specs.declared.code.CodeTable.{CodeTable}
 use Rattle.psm_code.specs.declared.code.RawCode.{RawCode}
-use Rattle.psm_code.specs.MachineInvariant.{AreKept, is_due}
+use Rattle.psm_code.specs.MachineInvariant.{AreLawful, is_due}
 use Rattle.psm_code.specs.Plans.{plain, schema_of}
 use Rattle.psm_code.specs.RoutineRules.{first_fault}
 use Rattle.psm_code.specs.Run.{Ran}
@@ -34,8 +34,8 @@ use Rattle.psm_session.specs.declared.command.ScriptCommand.TheVariants as comma
 
 -- the tables are those of the code, and so are those to which ROLLBACK goes
 pub record StaysKept (code : RawCode) (s : Standing) : Type 0 where
-  pub tables : AreKept code.tables s.tables
-  pub committed : AreKept code.tables s.committed
+  pub tables : AreLawful code s.tables
+  pub committed : AreLawful code s.committed
 
 -- how a command ends
 pub data Executed (code : RawCode) (k : ℕ) (s : Standing) (c : ScriptCommand) : Type 0 where
@@ -51,7 +51,7 @@ module _ (code : RawCode) (well_formed_code : first_fault code ≡ None) (k : �
       let right = run_well_formed code well_formed_code n takes.routine takes.there values s.tables s.turns takes.many kept.tables run.0 run.1 run.2 in
       by run.0 run.1 run.2 right.0 right.1
     where
-      by : (e : End) (last : Machine) → Ran code n values s.tables s.turns e last → is_due e ≡ true → AreKept code.tables last.tables → Executed code k s (commands.Call n values)
+      by : (e : End) (last : Machine) → Ran code n values s.tables s.turns e last → is_due e ≡ true → AreLawful code last.tables → Executed code k s (commands.Call n values)
       by (Ended ds) last ran due h = goes_on _ (after_run s last) (call takes.there ran) (record { tables = h; committed = kept.committed })
       by (Raised c) last ran due h = goes_on _ (after_run s last) (call takes.there ran) (record { tables = h; committed = kept.committed })
       by state.NoTurns last ran due h = runs_out _ (call takes.there ran)
@@ -66,7 +66,7 @@ module _ (code : RawCode) (well_formed_code : first_fault code ≡ None) (k : �
     abbrev insert_first : List ℕ
     insert_first = first_line k (command_name code Insert)
 
-    put_executed : (t : CodeTable) (c : Contents) → slice_get code.tables n ≡ Some t → slice_get s.tables n ≡ Some c → (due : Result Changed Failure) → inserted plain (schema_of t) (map (new_row t.definition columns) rows) c.rows ≡ due → Executed code k s Insert
+    put_executed : (t : CodeTable) (c : Contents) → slice_get code.tables n ≡ Some t → slice_get s.tables n ≡ Some c → (due : Result Changed Failure) → inserted plain (schema_of (are_keyed_with code.keys (rows_in s.tables) n) t) (map (new_row t.definition columns) rows) c.rows ≡ due → Executed code k s Insert
     put_executed t c there here (Ok change) e =
         goes_on (insert_first ++ ok_line) (with_tables (slice_set s.tables n (record c { rows = change.rows })) s)
         (subst (λ due. CommandExecutes code k s Insert (put_in insert_first s n t c due)) e (insert there here))
@@ -79,12 +79,12 @@ module _ (code : RawCode) (well_formed_code : first_fault code ≡ None) (k : �
       where
         by : (o : Option CodeTable) → slice_get code.tables n ≡ o → IsSome o → Executed code k s Insert
         by None e h = absurd cc
-        by (Some t) e h = let c = kept_at code.tables s.tables n t kept.tables e in put_executed t c.0 e c.1 (inserted plain (schema_of t) (map (new_row t.definition columns) rows) c.0.rows) refl
+        by (Some t) e h = let c = kept_at code.tables s.tables n t kept.tables.kept e in put_executed t c.0 e c.1 (inserted plain (schema_of (are_keyed_with code.keys (rows_in s.tables) n) t) (map (new_row t.definition columns) rows) c.0.rows) refl
 
   -- ---- SELECT
 
   select_executed : (q : Query) → FitsQuery code q → Executed code k s (commands.Select q)
-  select_executed q fits = let c = kept_at code.tables s.tables q.table fits.table kept.tables fits.there in by c.0 c.1 (answer (over []) (query_of q) c.0.rows) refl
+  select_executed q fits = let c = kept_at code.tables s.tables q.table fits.table kept.tables.kept fits.there in by c.0 c.1 (answer (over []) (query_of q) c.0.rows) refl
     where
       by : (c : Contents) → slice_get s.tables q.table ≡ Some c → (a : Result Answer SqlState) → answer (over []) (query_of q) c.rows ≡ a → Executed code k s (commands.Select q)
       by c here (Ok a) e = goes_on _ s (subst (λ a. CommandExecutes code k s (commands.Select q) (selected (first_line k (command_name code (commands.Select q))) s a)) e (select here)) kept

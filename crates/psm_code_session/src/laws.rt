@@ -2,7 +2,7 @@
 ghost use Rattle.std.specs.Prelude.{◌≡◌, ℕ, All, IsTrue, List, None};
 ghost use Rattle.psm_cond.specs.WellFormed.{is_numbered};
 ghost use Rattle.psm_code.specs.declared.code.RawCode.{RawCode};
-ghost use Rattle.psm_code.specs.MachineInvariant.{AreKept};
+ghost use Rattle.psm_code.specs.MachineInvariant.{AreLawful};
 ghost use Rattle.psm_code.specs.RoutineRules.{first_fault};
 ghost use Rattle.psm_meaning.specs.Session.{Session, Standing};
 ghost use Rattle.psm_session.specs.Ends.{FitsCommand};
@@ -16,7 +16,7 @@ ghost use Rattle.psm_code_session.specs.CodeSession.{AreShown, CodeEndsIn, EndIn
 /// Commands over well-formed code whose parts they name come to an end: each in a piece of text and in tables that keep the rules of the
 /// code, or the turns run out in one of them. They have one session at most.
 pub fn commands_that_fit_have_one_session()
-    ensures exists { (code : RawCode) → first_fault code ≡ None → (commands : List ScriptCommand) → All (FitsCommand code) commands → (s : Standing) → AreKept code.tables s.tables → AreKept code.tables s.committed → (u : Session) × HasSession code commands s u }
+    ensures exists { (code : RawCode) → first_fault code ≡ None → (commands : List ScriptCommand) → All (FitsCommand code) commands → (s : Standing) → AreLawful code s.tables → AreLawful code s.committed → (u : Session) × HasSession code commands s u }
     ensures unique { (code : RawCode) (commands : List ScriptCommand) (s : Standing) (u v : Session) → HasSession code commands s u → HasSession code commands s v → u ≡ v }
 {}
 

@@ -170,10 +170,11 @@ module _ {E F : Type 0} (ev : Evaluator E) (fv : Evaluator F) where
 
   -- ---- the rules of a table
 
-  -- one definition, and the same CHECKs
+  -- one definition, the same CHECKs, and the same FOREIGN KEY constraints among the tables
   pub record SameSchema (a : Schema E) (b : Schema F) : Type 0 where
     pub def : a.def ≡ b.def
     pub checks : SameAll a.checks b.checks
+    pub keyed : a.keyed ≡ b.keyed
 
   row_passes-same : (xs : List E) (ys : List F) → SameAll xs ys → (row : List Datum) → row_passes ev xs row ≡ row_passes fv ys row
   row_passes-same [] [] h row = refl
@@ -190,14 +191,15 @@ module _ {E F : Type 0} (ev : Evaluator E) (fv : Evaluator F) where
       ∙ ap (λ others. and_then (row_passes fv ys row) (λ ok. mapped (λ more. ok && more) others)) (rows_pass-same xs ys h rows)
 
   -- the end of a statement, where it is known what the CHECKs evaluate to and which rules are kept
-  abbrev at_end : List (List Datum) → Result Bool SqlState → TableDef → Result (List (List Datum)) Failure
-  at_end rows pass def = if nat_lt most_rows (length rows) then Err (OfTable (codes "X0002"))
-      else then_of pass (λ ok. ended_with def (in_order def.key rows) (ok && keep_rules def rows))
+  abbrev at_end : List (List Datum) → Result Bool SqlState → (List (List Datum) → Bool) → TableDef → Result (List (List Datum)) Failure
+  at_end rows pass keyed def = if nat_lt most_rows (length rows) then Err (OfTable (codes "X0002"))
+      else then_of pass (λ ok. ended_with def (in_order def.key rows) (ok && (keep_rules def rows && keyed (in_order def.key rows))))
 
   pub ended-same : (a : Schema E) (b : Schema F) → SameSchema a b → (rows : List (List Datum)) → ended ev a rows ≡ ended fv b rows
   ended-same a b h rows =
-      ap (λ pass. at_end rows pass a.def) (rows_pass-same a.checks b.checks h.checks (in_order a.def.key rows))
-      ∙ ap (λ def. at_end rows (rows_pass fv b.checks (in_order def.key rows)) def) h.def
+      ap (λ pass. at_end rows pass a.keyed a.def) (rows_pass-same a.checks b.checks h.checks (in_order a.def.key rows))
+      ∙ ap (λ keyed. at_end rows (rows_pass fv b.checks (in_order a.def.key rows)) keyed a.def) h.keyed
+      ∙ ap (λ def. at_end rows (rows_pass fv b.checks (in_order def.key rows)) b.keyed def) h.def
 
   pub inserted-same : (a : Schema E) (b : Schema F) → SameSchema a b → (new rows : List (List Datum)) → inserted ev a new rows ≡ inserted fv b new rows
   inserted-same a b h new rows =

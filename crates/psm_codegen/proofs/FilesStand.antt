@@ -84,5 +84,5 @@ module _ (file : ResolvedFile) (code : RawCode) (made : FileWritten file code) (
 pub written_file_stands : (file : ResolvedFile) (code : RawCode) → FileWritten file code → CanStand file → FileStands file code
 written_file_stands file code made can = record {
   routines = λ n routine e. routines-stand file code made can file.routines code.routines made.routines can.routines n routine e;
-  tables = tables_stand file code made.tables can.tables;
+  tables = tables_stand file code made.keys made.tables can.tables;
 }

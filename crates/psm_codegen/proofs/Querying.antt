@@ -111,13 +111,13 @@ cursor_stands {x = x} {code = code} {n = n} made h there at = record {
 
 -- ---- tables
 
-schema-same : (t : ResolvedTable) (u : CodeTable) → TableMade t u → list_all (is_test (column_letters t) []) t.checks ≡ true → SameSchema plans.plain meaning.plain (plans.schema_of u) (meaning.schema_of t)
-schema-same t u made h = record { def = made.definition; checks = exprs-same [] t.checks u.checks (made.checks h) }
+schema-same : (keyed : List (List Datum) → Bool) (t : ResolvedTable) (u : CodeTable) → TableMade t u → list_all (is_test (column_letters t) []) t.checks ≡ true → SameSchema plans.plain meaning.plain (plans.schema_of keyed u) (meaning.schema_of keyed t)
+schema-same keyed t u made h = record { def = made.definition; checks = exprs-same [] t.checks u.checks (made.checks h); keyed = refl }
 
 pub table_stands : (t : ResolvedTable) (u : CodeTable) → TableMade t u → list_all (is_test (column_letters t) []) t.checks ≡ true → TableStands t u
 table_stands t u made h = record {
   definition = made.definition;
-  inserts = λ new rows. inserted-same plans.plain meaning.plain (plans.schema_of u) (meaning.schema_of t) (schema-same t u made h) new rows;
+  inserts = λ keyed new rows. inserted-same plans.plain meaning.plain (plans.schema_of keyed u) (meaning.schema_of keyed t) (schema-same keyed t u made h) new rows;
 }
 
 abbrev TestsAt : List ResolvedTable → Type 0
@@ -130,8 +130,8 @@ same_tables (t ∷ ts) [] made h n = absurd made
 same_tables (t ∷ ts) (u ∷ us) made h zero = table_stands t u made.0 (h zero t refl)
 same_tables (t ∷ ts) (u ∷ us) made h (suc n) = same_tables ts us made.1 (λ m x q. h (suc m) x q) n
 
-pub tables_stand : (file : ResolvedFile) (code : RawCode) → TablesMade file.tables code.tables → ChecksAreTests file → TablesStand file code
-tables_stand file code made h n = same_tables file.tables code.tables made h n
+pub tables_stand : (file : ResolvedFile) (code : RawCode) → code.keys ≡ file.keys → TablesMade file.tables code.tables → ChecksAreTests file → TablesStand file code
+tables_stand file code keys made h n = (keys, same_tables file.tables code.tables made h n)
 
 table_made : (ts : List ResolvedTable) (us : List CodeTable) → TablesMade ts us → (n : ℕ) (t : ResolvedTable) (u : CodeTable) → slice_get ts n ≡ Some t → slice_get us n ≡ Some u → TableMade t u
 table_made [] [] made n t u p q = absurd (none-some t p)
@@ -143,30 +143,30 @@ table_made (x ∷ ts) (y ∷ us) made (suc n) t u p q = table_made ts us made.1 
 -- ---- changes
 
 module _ (file : ResolvedFile) (code : RawCode) (made : TablesMade file.tables code.tables) (checks : ChecksAreTests file) (table : ℕ) where
-  schemas-same : (t : ResolvedTable) (u : CodeTable) → slice_get file.tables table ≡ Some t → slice_get code.tables table ≡ Some u → SameSchema plans.plain meaning.plain (plans.schema_of u) (meaning.schema_of t)
-  schemas-same t u p q = schema-same t u (table_made file.tables code.tables made table t u p q) (checks table t p)
+  schemas-same : (keyed : List (List Datum) → Bool) (t : ResolvedTable) (u : CodeTable) → slice_get file.tables table ≡ Some t → slice_get code.tables table ≡ Some u → SameSchema plans.plain meaning.plain (plans.schema_of keyed u) (meaning.schema_of keyed t)
+  schemas-same keyed t u p q = schema-same keyed t u (table_made file.tables code.tables made table t u p q) (checks table t p)
 
   pub update_stands : (known : Known) (sets : List ResolvedSet) (coded : List SetItem) (test : Option ResolvedExpr) (coded_test : Option (List Line)) → SetsMade known table sets coded
       → list_all (is_set (letters_at known.columns table) known.variables) sets ≡ true → PerhapsIs test coded_test → IsUpdate file code table sets test coded coded_test
   update_stands known sets coded test coded_test sets_made h same = record {
-    same = λ t u p q vars rows.
-        updated-same (codes.over vars) plans.plain (trees.over vars) meaning.plain (plans.schema_of u) (meaning.schema_of t) (schemas-same t u p q) (map plans.set_item coded) (map meaning.set_item sets) (sets-same vars sets coded (sets_made.are h))
+    same = λ t u p q keyed vars rows.
+        updated-same (codes.over vars) plans.plain (trees.over vars) meaning.plain (plans.schema_of keyed u) (meaning.schema_of keyed t) (schemas-same keyed t u p q) (map plans.set_item coded) (map meaning.set_item sets) (sets-same vars sets coded (sets_made.are h))
         coded_test test (perhaps-same vars test coded_test same) rows;
   }
 
   pub update_at_stands : (known : Known) (sets : List ResolvedSet) (coded : List SetItem) → SetsMade known table sets coded → list_all (is_set (letters_at known.columns table) known.variables) sets ≡ true → IsUpdateAt file code table sets coded
   update_at_stands known sets coded sets_made h = record {
-    same = λ t u p q vars row rows.
-        updated_at-same (codes.over vars) plans.plain (trees.over vars) meaning.plain (plans.schema_of u) (meaning.schema_of t) (schemas-same t u p q) (map plans.set_item coded) (map meaning.set_item sets) (sets-same vars sets coded (sets_made.are h)) row rows;
+    same = λ t u p q keyed vars row rows.
+        updated_at-same (codes.over vars) plans.plain (trees.over vars) meaning.plain (plans.schema_of keyed u) (meaning.schema_of keyed t) (schemas-same keyed t u p q) (map plans.set_item coded) (map meaning.set_item sets) (sets-same vars sets coded (sets_made.are h)) row rows;
   }
 
   pub delete_stands : (known : Known) (test : Option ResolvedExpr) (coded_test : Option (List Line)) → PerhapsIs test coded_test → IsDelete file code table test coded_test
   delete_stands known test coded_test same = record {
-    same = λ t u p q vars rows.
-        deleted-same (codes.over vars) plans.plain (trees.over vars) meaning.plain (plans.schema_of u) (meaning.schema_of t) (schemas-same t u p q) coded_test test (perhaps-same vars test coded_test same) rows;
+    same = λ t u p q keyed vars rows.
+        deleted-same (codes.over vars) plans.plain (trees.over vars) meaning.plain (plans.schema_of keyed u) (meaning.schema_of keyed t) (schemas-same keyed t u p q) coded_test test (perhaps-same vars test coded_test same) rows;
   }
 
   pub delete_at_stands : IsDeleteAt file code table
   delete_at_stands = record {
-    same = λ t u p q row rows. deleted_at-same plans.plain plans.plain meaning.plain meaning.plain (plans.schema_of u) (meaning.schema_of t) (schemas-same t u p q) row rows;
+    same = λ t u p q keyed row rows. deleted_at-same plans.plain plans.plain meaning.plain meaning.plain (plans.schema_of keyed u) (meaning.schema_of keyed t) (schemas-same keyed t u p q) row rows;
   }

@@ -97,4 +97,5 @@ RoutinesWritten file (routine ∷ routines) (r ∷ rs) = RoutineWritten (known_o
 
 pub record FileWritten (file : ResolvedFile) (code : RawCode) : Type 0 where
   pub tables : TablesMade file.tables code.tables
+  pub keys : code.keys ≡ file.keys
   pub routines : RoutinesWritten file file.routines code.routines

@@ -17,6 +17,7 @@ use psm_code::{Instruction, Parameter, ParameterMode as Mode, RawCode, RawRoutin
 use psm_cond::Declared;
 use psm_list::List;
 use psm_resolved::{ParameterMode, ResolvedFile, ResolvedParameter, ResolvedRoutine};
+use psm_table::ForeignKey;
 use psm_text::Name;
 use psm_value::SqlType;
 use std::alloc::{AllocError, Global};
@@ -31,7 +32,22 @@ pub fn lower(alloc: Global, file: &ResolvedFile) -> Result<RawCode, AllocError>
 {
     let tables = tables_code(alloc, &file.tables)?;
     let routines = routines_code(alloc, file)?;
-    Ok(RawCode { tables, routines })
+    let keys = keys_code(alloc, file.keys.items())?;
+    Ok(RawCode {
+        tables,
+        keys,
+        routines,
+    })
+}
+
+fn keys_code(alloc: Global, keys: &[ForeignKey]) -> Result<List<ForeignKey>, AllocError>
+    ensures { IfOk result (λ copy. copy ≡ keys.now) }
+{
+    let mut copy = Vec::new(alloc);
+    for key in keys {
+        copy.push(key.copy(alloc)?)?;
+    }
+    Ok(List::of(copy))
 }
 
 fn routines_code(alloc: Global, file: &ResolvedFile) -> Result<List<RawRoutine>, AllocError>

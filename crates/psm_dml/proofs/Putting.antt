@@ -93,7 +93,7 @@ is_false false h = refl
 fits_keep : (c : Contents) (xs : List Row) (row : Row) → c.rows ≡ in_order c.def.key xs → keep_rules c.def xs ≡ true → keep_rules c.def (xs ++ row ∷ []) ≡ fits_in row c
 fits_keep c xs row e k =
     keep-new c.def xs row k
-    ∙ ap (λ x. is_filled c.def row && x) (sym (all-in_order c.def c.def.key (λ other. are_apart c.def other row) xs) ∙ ap (apart_from c.def row) (sym e))
+    ∙ ap (λ x. is_filled c.def row && x) (sym (all-in_order c.def.key (λ other. are_apart c.def other row) xs) ∙ ap (apart_from c.def row) (sym e))
 
 put_order : (c : Contents) (xs : List Row) (row : Row) → c.rows ≡ in_order c.def.key xs → IsAscending c.def.key c.rows → fits_in row c ≡ true → (with_row c row).rows ≡ in_order c.def.key (xs ++ row ∷ [])
 put_order c xs row e up f =

@@ -9,7 +9,9 @@ use Rattle.psm_sqlstate.specs.declared.state.SqlState.{SqlState}
 use Rattle.psm_value.specs.declared.datum.Datum.{Datum}
 use Rattle.psm_table.specs.declared.definition.TableDef.{TableDef}
 use Rattle.psm_table.specs.Changing.{deleted_at, Changed, Failure, IsLegal, Moved, OfTable, Raised, Schema}
+use Rattle.psm_table.specs.declared.definition.ForeignKey.{ForeignKey}
 use Rattle.psm_table.specs.Key.{values_at}
+use Rattle.psm_table.specs.Keyed.{are_keyed_with, rows_in}
 use Rattle.psm_table.specs.Table.{without_row, Contents}
 use Rattle.psm_tablecode.specs.Codes.{over}
 
@@ -23,9 +25,13 @@ abbrev pub IsDue : {A : Type 0} → TableDef → Result A Failure → Entries �
 IsDue def (Ok a) condition = ⊥
 IsDue def (Err failure) condition = IsOf def failure condition
 
--- a table's definition, with CHECKs that are code
+-- a table's definition, with CHECKs that are code, where no FOREIGN KEY constraint is asked
 abbrev pub schema_of : TableDef → List (List Line) → Schema (List Line)
-schema_of def checks = record { def = def; checks = checks }
+schema_of def checks = record { def = def; checks = checks; keyed = λ rows. true }
+
+-- the same of table t, among tables for which these constraints are asked
+abbrev pub keyed_schema : List ForeignKey → List Contents → ℕ → TableDef → List (List Line) → Schema (List Line)
+keyed_schema keys tables t def checks = record { def = def; checks = checks; keyed = are_keyed_with keys (rows_in tables) t }
 
 -- the fault bears the SQLSTATE and the name of the table, unless memory runs out
 abbrev pub Bears : List ℕ → TableDef → DataFault → Type 0

@@ -320,9 +320,9 @@ abbrev code_size : RawCode → ℕ
 code_size c = suc (total table_size c.tables + total routine_size c.routines)
 
 code_by_adds : (h : ℕ × ℕ) → Adds (code_by h) (0 + 1) code_size
-code_by_adds (tables, routines) = then_adds (times tables table) (λ ts. times routines routine >> λ rs. given (record { tables = ts; routines = rs })) (0 + 1) (total table_size) code_size (times_counts table table_size tables table_counts)
-    (λ ts. then_adds (times routines routine) (λ rs. given (record { tables = ts; routines = rs })) (0 + 1 + total table_size ts) (total routine_size) code_size (times_counts routine routine_size routines routine_counts)
-    (λ rs. given_adds (record { tables = ts; routines = rs }) (0 + 1 + total table_size ts + total routine_size rs) code_size (omega arith)))
+code_by_adds (tables, routines) = then_adds (times tables table) (λ ts. times routines routine >> λ rs. given (record { tables = ts; keys = []; routines = rs })) (0 + 1) (total table_size) code_size (times_counts table table_size tables table_counts)
+    (λ ts. then_adds (times routines routine) (λ rs. given (record { tables = ts; keys = []; routines = rs })) (0 + 1 + total table_size ts) (total routine_size) code_size (times_counts routine routine_size routines routine_counts)
+    (λ rs. given_adds (record { tables = ts; keys = []; routines = rs }) (0 + 1 + total table_size ts + total routine_size rs) code_size (omega arith)))
 
 code_counts : Counts code code_size
 code_counts = then_adds (one first_at) code_by 0 (λ a. 1) code_size (one_counts first_at) code_by_adds

@@ -224,7 +224,7 @@ abbrev pub Codes : Type 0
 Codes = (h : (c : ℕ × ℕ) × AreTwo c) × (Valid IsListedTable h.0.0 × Several Routines h.0.1)
 
 abbrev pub code_of : Codes → RawCode
-code_of t = record { tables = t.1.0.0; routines = map routine_by_trace t.1.1.0 }
+code_of t = record { tables = t.1.0.0; keys = []; routines = map routine_by_trace t.1.1.0 }
 
 abbrev pub code_says : Codes → Lines
 code_says t = first_head_line t.0.0 ∷ (flat_map table_lines t.1.0.0 ++ flat_map routine_says t.1.1.0)

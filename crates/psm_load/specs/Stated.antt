@@ -163,7 +163,7 @@ routine = one routine_at >> routine_by
 -- ---- code
 
 abbrev pub code_by : ℕ × ℕ → Part RawCode
-code_by (tables, routines) = times tables table >> λ ts. times routines routine >> λ rs. given (record { tables = ts; routines = rs })
+code_by (tables, routines) = times tables table >> λ ts. times routines routine >> λ rs. given (record { tables = ts; keys = []; routines = rs })
 
 abbrev pub code : Part RawCode
 code = one first_at >> code_by

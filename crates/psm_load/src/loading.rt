@@ -76,7 +76,11 @@ fn code(alloc: Global, lines: &mut LinesLeft<'_>) -> Result<RawCode, Stop>
     let counts = counts(lines)?;
     let tables = several(alloc, counts.0, lines)?;
     let routines = several(alloc, counts.1, lines)?;
-    Ok(RawCode { tables, routines })
+    Ok(RawCode {
+        tables,
+        keys: List::of(Vec::new(alloc)),
+        routines,
+    })
 }
 
 // The first line: how many tables and routines there are.

@@ -28,7 +28,7 @@ use Rattle.psm_code.specs.Parts.{slots_of}
 use Rattle.psm_code.specs.PlanRules.{cursor_table, has_rows, or_none, plan_fault, plan_faults, sets_in, table_of_query, test_in}
 use Rattle.psm_code.specs.Plans.{plain, schema_of}
 use Rattle.psm_code.specs.RoutineRules.{first_fault}
-use Rattle.psm_code.specs.MachineInvariant.{AreCursors, AreKept, IsKept, Keeps}
+use Rattle.psm_code.specs.MachineInvariant.{AreCursors, AreLawful, IsKept, Keeps}
 use Rattle.psm_code.proofs.Faults.{clean_first, clean_flat, clean_second, clean_tail, routine_well_formed, Clean, WellFormedRoutineCode}
 use Rattle.psm_code.proofs.Fetching.{well_formed_cursor, WellFormedCursorCode}
 use Rattle.psm_code.proofs.Operating.{stored_letters}
@@ -64,10 +64,10 @@ cursor_kept code r (y ∷ xs) (d ∷ cs) (suc i) x c h e f = cursor_kept code r 
 
 -- ---- tables of well-formed code
 
-module _ (code : RawCode) (tables : List Contents) (well_formed_code : first_fault code ≡ None) (kept : AreKept code.tables tables) where
+module _ (code : RawCode) (tables : List Contents) (well_formed_code : first_fault code ≡ None) (kept : AreLawful code tables) where
   has_table : (n : ℕ) (t : CodeTable) → slice_get code.tables n ≡ Some t → HasTable t tables n
   has_table n t e =
-      let k = kept_at code.tables tables n t kept e in
+      let k = kept_at code.tables tables n t kept.kept e in
       record { contents = k.0; there = k.1; kept = k.2; checks = subst (λ d. ChecksTypeCheck t.checks d) (sym k.2.same) (checks_type_check code n t well_formed_code e) }
 
   -- rows may be put in
@@ -75,16 +75,20 @@ module _ (code : RawCode) (tables : List Contents) (well_formed_code : first_fau
   put_right n = if_some (λ t. HasTable t tables n) (slice_get code.tables n) (λ t e. has_table n t e)
 
   -- and the tables stay those of the code with the rows that are due
-  pub put_kept : (n : ℕ) (t : CodeTable) (c : Contents) → slice_get code.tables n ≡ Some t → slice_get tables n ≡ Some c → (columns : List ℕ) (rows : List (List Datum)) (changed : Changed) → put_due t columns rows c ≡ Ok changed
-      → AreKept code.tables (slice_set tables n (record c { rows = changed.rows }))
+  pub put_kept : (n : ℕ) (t : CodeTable) (c : Contents) → slice_get code.tables n ≡ Some t → slice_get tables n ≡ Some c → (columns : List ℕ) (rows : List (List Datum)) (changed : Changed) → put_due (are_keyed_with code.keys (rows_in tables) n) t columns rows c ≡ Ok changed
+      → AreLawful code (slice_set tables n (record c { rows = changed.rows }))
   put_kept n t c e f columns rows changed q =
-      let k = kept_at code.tables tables n t kept e in
+      let k = kept_at code.tables tables n t kept.kept e in
       let y = of_some (IsKept t) (slice_get tables n) c f (some_of (IsKept t) (slice_get tables n) k.0 k.1 k.2) in
-      kept_set code.tables tables n t (record c { rows = changed.rows }) kept e (record {
-        same = y.same;
-        rows = inserted_rows plain (schema_of t) columns rows c.rows changed y.rows q;
-        legal = legal_inserted plain (schema_of t) (map (new_row t.definition columns) rows) c.rows changed y.legal.stored q;
-      })
+      let own : Schema (List Line) = schema_of (are_keyed_with code.keys (rows_in tables) n) t in
+      record {
+        kept = kept_set code.tables tables n t (record c { rows = changed.rows }) kept.kept e (record {
+          same = y.same;
+          rows = inserted_rows plain own columns rows c.rows changed y.rows q;
+          legal = legal_of (are_keyed_with code.keys (rows_in tables) n) t changed.rows (legal_inserted plain own (map (new_row t.definition columns) rows) c.rows changed y.legal.stored q);
+        });
+        keyed = ap (are_keyed code.keys) (rows_set tables n c changed.rows) ∙ keyed_inserted plain own (map (new_row t.definition columns) rows) c.rows changed q;
+      }
 
 module _ (code : RawCode) (r : RawRoutine) (tables : List Contents) (vars : List Datum) (cursors : List Cursor) (h : RunsWellFormed code r tables vars cursors) where
   well_formed_code : WellFormedRoutineCode code r
@@ -94,7 +98,7 @@ module _ (code : RawCode) (r : RawRoutine) (tables : List Contents) (vars : List
 
   ask : (q : Query) → WellFormedQueryCode code r q → MayAsk tables vars q
   ask q g =
-      let k = kept_at code.tables tables q.table g.table h.kept g.there in
+      let k = kept_at code.tables tables q.table g.table h.kept.kept g.there in
       record { table = k.0; there = k.1; fits = subst (λ d. TypeChecksTable q vars d) (sym k.2.same) (query_type_checks code r q g vars h.stored) }
 
   pub may_ask : (n : ℕ) → IfSome (slice_get r.queries n) (MayAsk tables vars)
@@ -123,7 +127,7 @@ module _ (code : RawCode) (r : RawRoutine) (tables : List Contents) (vars : List
   move : (n : ℕ) (x : CodeCursor) (c : Cursor) → slice_get r.cursors n ≡ Some x → slice_get cursors n ≡ Some c → MayMove r tables x c
   move n x c e f =
       let g = well_formed_cursor code r n x well_formed_code e in
-      let k = kept_at code.tables tables g.query.table g.well_formed_code.table h.kept g.well_formed_code.there in
+      let k = kept_at code.tables tables g.query.table g.well_formed_code.table h.kept.kept g.well_formed_code.there in
       record { query = g.query; asked = g.there; table = k.0; there = k.1; type_checks = type_checks x g k.0 c k.2.same (kept_here n x c g.query e f g.there) }
 
   pub may_move : (n : ℕ) → OfCursor r cursors n (MayMove r tables)

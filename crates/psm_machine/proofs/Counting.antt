@@ -8,6 +8,8 @@ use Rattle.psm_exprcode.specs.declared.op.Line.{Line}
 use Rattle.psm_exprcode.specs.declared.set_item.SetItem.{SetItem}
 use Rattle.psm_table.specs.declared.definition.TableDef.{TableDef}
 use Rattle.psm_table.specs.Changing.{deleted, inserted, updated, Changed, Failure, IsLegal, OfTable, Raised, Schema}
+use Rattle.psm_table.specs.declared.definition.ForeignKey.{ForeignKey}
+use Rattle.psm_table.specs.Keyed.{are_keyed_with, rows_in}
 use Rattle.psm_table.specs.Table.{Contents}
 use Rattle.psm_tablecode.specs.Codes.{over}
 use Rattle.psm_tablecode.specs.NewRows.{new_row}
@@ -88,17 +90,21 @@ put_by t c due n old at r new (Err fault.Memory) h = tt
 
 -- ---- what is there
 
-pub schema_there : (ts : List CodeTable) (i : ℕ) (t : CodeTable) → slice_get ts i ≡ Some t → slice_get (map schema_of ts) i ≡ Some (schema_of t)
-schema_there [] i t e = absurd (cc)
-schema_there (u ∷ ts) zero t e = let same : u ≡ t = cc in ap (λ (x : CodeTable). Some (schema_of x)) same
-schema_there (u ∷ ts) (suc i) t e = schema_there ts i t e
+pub schema_there : (keyed : List (List Datum) → Bool) (ts : List CodeTable) (i : ℕ) (t : CodeTable) → slice_get ts i ≡ Some t → slice_get (map (schema_of keyed) ts) i ≡ Some (schema_of keyed t)
+schema_there keyed [] i t e = absurd (cc)
+schema_there keyed (u ∷ ts) zero t e = let same : u ≡ t = cc in ap (λ (x : CodeTable). Some (schema_of keyed x)) same
+schema_there keyed (u ∷ ts) (suc i) t e = schema_there keyed ts i t e
 
-pub schema_same : (t : CodeTable) (def : TableDef) → def ≡ t.definition → ends.schema_of def t.checks ≡ schema_of t
-schema_same t def e = ap (λ d. ends.schema_of d t.checks) e
+-- the schema of a table among others is that of the code
+pub schema_same : (keys : List ForeignKey) (old : List Contents) (n : ℕ) (t : CodeTable) (def : TableDef) → def ≡ t.definition → ends.keyed_schema keys old n def t.checks ≡ schema_of (are_keyed_with keys (rows_in old) n) t
+schema_same keys old n t def e = ap (λ d. ends.keyed_schema keys old n d t.checks) e
+
+pub schema_alone : (t : CodeTable) (def : TableDef) → def ≡ t.definition → ends.schema_of def t.checks ≡ schema_of any_rows t
+schema_alone t def e = ap (λ d. ends.schema_of d t.checks) e
 
 -- a table that is there is legal
 pub legal_there : {t : CodeTable} {tables : List Contents} {n : ℕ} → (h : HasTable t tables n) → IsLegal plain (ends.schema_of h.contents.def t.checks) h.contents.rows
-legal_there {t} h = subst (λ s. IsLegal plain s h.contents.rows) (sym (schema_same t h.contents.def h.kept.same)) h.kept.legal
+legal_there {t} h = subst (λ s. IsLegal plain s h.contents.rows) (sym (schema_alone t h.contents.def h.kept.same)) h.kept.legal
 
 -- the definition of a table that is there is that of the code
 ended_in : (t : CodeTable) (c : Contents) (due : Result Changed Failure) (old : List Contents) (n : ℕ) (new : List Contents) (res : Result ℕ DataFault) → c.def ≡ t.definition → Ends c due old n new res → EndsIn t c due old n new res
@@ -106,55 +112,59 @@ ended_in t c due old n new (Ok count) e h = h
 ended_in t c due old n new (Err (fault.Raised x)) e h = (subst (λ d. IsDue d due x) e h.0, h.1)
 ended_in t c due old n new (Err fault.Memory) e h = h
 
-pub puts_into : (t : CodeTable) (n : ℕ) (columns : List ℕ) (rows : List (List Datum)) (old new : List Contents) (res : Result ℕ DataFault) → HasTable t old n
-    → IfSome (slice_get old n) (λ c. Ends c (inserted plain (ends.schema_of c.def t.checks) (map (new_row t.definition columns) rows) c.rows) old n new res) → PutsInto t n columns rows old new res
-puts_into t n columns rows old new res h f =
+pub puts_into : (keys : List ForeignKey) (t : CodeTable) (n : ℕ) (columns : List ℕ) (rows : List (List Datum)) (old new : List Contents) (res : Result ℕ DataFault) → HasTable t old n
+    → IfSome (slice_get old n) (λ c. Ends c (inserted plain (ends.keyed_schema keys old n c.def t.checks) (map (new_row t.definition columns) rows) c.rows) old n new res) → PutsInto keys t n columns rows old new res
+puts_into keys t n columns rows old new res h f =
     let c = h.contents in
     let made = map (new_row t.definition columns) rows in
-    let e = of_some (λ (c : Contents). Ends c (inserted plain (ends.schema_of c.def t.checks) made c.rows) old n new res) (slice_get old n) c h.there f in
-    some_of (λ (c : Contents). EndsIn t c (put_due t columns rows c) old n new res) (slice_get old n) c h.there
-    (subst (λ s. EndsIn t c (inserted plain s made c.rows) old n new res) (schema_same t c.def h.kept.same) (ended_in t c (inserted plain (ends.schema_of c.def t.checks) made c.rows) old n new res h.kept.same e))
+    let e = of_some (λ (c : Contents). Ends c (inserted plain (ends.keyed_schema keys old n c.def t.checks) made c.rows) old n new res) (slice_get old n) c h.there f in
+    some_of (λ (c : Contents). EndsIn t c (put_due (are_keyed_with keys (rows_in old) n) t columns rows c) old n new res) (slice_get old n) c h.there
+    (subst (λ s. EndsIn t c (inserted plain s made c.rows) old n new res) (schema_same keys old n t c.def h.kept.same) (ended_in t c (inserted plain (ends.keyed_schema keys old n c.def t.checks) made c.rows) old n new res h.kept.same e))
 
 -- ---- UPDATE and DELETE
 
 module _ (code : RawCode) (table : ℕ) (t : CodeTable) (declared : slice_get code.tables table ≡ Some t) (old : List Contents) (at : Mark → List Contents) (r : Run) (new : List Contents) where
+  -- whether the FOREIGN KEY constraints hold among the tables with other rows in this one
+  abbrev keyed : List (List Datum) → Bool
+  keyed = are_keyed_with code.keys (rows_in old) table
+
   abbrev Vars : List Datum
   Vars = r.running.variables.items
 
   -- a statement that is due by the rules of the table, as the code has them
   ruled_counted : (act : Act (Unit {0})) (due : Contents → Schema (List Line) → Result Changed Failure) (res : Result ℕ DataFault) → (h : HasTable t old table)
-      → act (machine_of old at r) ≡ ◌>>=◌ (unless_failed t.definition (due h.contents (schema_of t))) (left_with table h.contents some_row) (machine_of old at r)
-      → Ends h.contents (due h.contents (ends.schema_of h.contents.def t.checks)) old table new res → Counted act some_row old at r new (part_of res)
+      → act (machine_of old at r) ≡ ◌>>=◌ (unless_failed t.definition (due h.contents (schema_of keyed t))) (left_with table h.contents some_row) (machine_of old at r)
+      → Ends h.contents (due h.contents (ends.keyed_schema code.keys old table h.contents.def t.checks)) old table new res → Counted act some_row old at r new (part_of res)
   ruled_counted act due res h is e =
       let c = h.contents in
       let act_of : TableDef → Schema (List Line) → Act (Unit {0}) = λ d s. ◌>>=◌ (unless_failed d (due c s)) (left_with table c some_row) in
-      let done = counted_by c (due c (ends.schema_of c.def t.checks)) some_row table old at r new res e in
-      let named = subst (λ d. Counted (act_of d (ends.schema_of c.def t.checks)) some_row old at r new (part_of res)) h.kept.same done in
-      let ruled = subst (λ s. Counted (act_of t.definition s) some_row old at r new (part_of res)) (schema_same t c.def h.kept.same) named in
-      counted_like act (act_of t.definition (schema_of t)) some_row old at r new (part_of res) is ruled
+      let done = counted_by c (due c (ends.keyed_schema code.keys old table c.def t.checks)) some_row table old at r new res e in
+      let named = subst (λ d. Counted (act_of d (ends.keyed_schema code.keys old table c.def t.checks)) some_row old at r new (part_of res)) h.kept.same done in
+      let ruled = subst (λ s. Counted (act_of t.definition s) some_row old at r new (part_of res)) (schema_same code.keys old table t c.def h.kept.same) named in
+      counted_like act (act_of t.definition (schema_of keyed t)) some_row old at r new (part_of res) is ruled
 
   pub update_counted : (sets : List SetItem) (test : Option (List Line)) (res : Result ℕ DataFault) → (h : HasTable t old table)
-      → IfSome (slice_get old table) (λ c. Ends c (updated (over Vars) plain (ends.schema_of c.def t.checks) (map set_item sets) test c.rows) old table new res)
+      → IfSome (slice_get old table) (λ c. Ends c (updated (over Vars) plain (ends.keyed_schema code.keys old table c.def t.checks) (map set_item sets) test c.rows) old table new res)
       → Counted (update_rows code table sets test) some_row old at r new (part_of res)
   update_counted sets test res h f =
-      ruled_counted (update_rows code table sets test) (λ c s. updated (over Vars) plain s (map set_item sets) test c.rows) res h (rw (schema_there code.tables table t declared, h.there) refl)
-      (of_some (λ (c : Contents). Ends c (updated (over Vars) plain (ends.schema_of c.def t.checks) (map set_item sets) test c.rows) old table new res) (slice_get old table) h.contents h.there f)
+      ruled_counted (update_rows code table sets test) (λ c s. updated (over Vars) plain s (map set_item sets) test c.rows) res h (rw (schema_there keyed code.tables table t declared, h.there) refl)
+      (of_some (λ (c : Contents). Ends c (updated (over Vars) plain (ends.keyed_schema code.keys old table c.def t.checks) (map set_item sets) test c.rows) old table new res) (slice_get old table) h.contents h.there f)
 
   pub delete_counted : (test : Option (List Line)) (res : Result ℕ DataFault) → (h : HasTable t old table)
-      → IfSome (slice_get old table) (λ c. (checks : List (List Line)) → IsLegal plain (ends.schema_of c.def checks) c.rows → Ends c (deleted (over Vars) plain (ends.schema_of c.def checks) test c.rows) old table new res)
+      → IfSome (slice_get old table) (λ c. (checks : List (List Line)) → IsLegal plain (ends.schema_of c.def checks) c.rows → Ends c (deleted (over Vars) plain (ends.keyed_schema code.keys old table c.def checks) test c.rows) old table new res)
       → Counted (delete_rows code table test) some_row old at r new (part_of res)
   delete_counted test res h f =
-      ruled_counted (delete_rows code table test) (λ c s. deleted (over Vars) plain s test c.rows) res h (rw (schema_there code.tables table t declared, h.there) refl)
-      (of_some (λ (c : Contents). (checks : List (List Line)) → IsLegal plain (ends.schema_of c.def checks) c.rows → Ends c (deleted (over Vars) plain (ends.schema_of c.def checks) test c.rows) old table new res) (slice_get old table) h.contents h.there f
+      ruled_counted (delete_rows code table test) (λ c s. deleted (over Vars) plain s test c.rows) res h (rw (schema_there keyed code.tables table t declared, h.there) refl)
+      (of_some (λ (c : Contents). (checks : List (List Line)) → IsLegal plain (ends.schema_of c.def checks) c.rows → Ends c (deleted (over Vars) plain (ends.keyed_schema code.keys old table c.def checks) test c.rows) old table new res) (slice_get old table) h.contents h.there f
       t.checks (legal_there h))
 
   -- ---- INSERT
 
-  pub put_counted : (columns : List ℕ) (rows : List (List Datum)) (res : Result ℕ DataFault) → (h : HasTable t old table) → PutsInto t table columns rows old new res
+  pub put_counted : (columns : List ℕ) (rows : List (List Datum)) (res : Result ℕ DataFault) → (h : HasTable t old table) → PutsInto code.keys t table columns rows old new res
       → Counted (put_in code table columns rows) nothing_more old at r new (part_of res)
   put_counted columns rows res h f =
       let c = h.contents in
-      let due = put_due t columns rows c in
-      let e = of_some (λ (c : Contents). EndsIn t c (put_due t columns rows c) old table new res) (slice_get old table) c h.there f in
+      let due = put_due keyed t columns rows c in
+      let e = of_some (λ (c : Contents). EndsIn t c (put_due keyed t columns rows c) old table new res) (slice_get old table) c h.there f in
       counted_like (put_in code table columns rows) (◌>>=◌ (unless_failed t.definition due) (λ changed. leaves table c changed.rows changed.count)) nothing_more old at r new (part_of res)
-      (rw (schema_there code.tables table t declared, h.there) refl) (put_by t c due table old at r new res e)
+      (rw (schema_there keyed code.tables table t declared, h.there) refl) (put_by t c due table old at r new res e)

@@ -7,7 +7,7 @@ use Rattle.psm_code.specs.declared.code.RawCode.{RawCode}
 use Rattle.psm_code.specs.Calling.{started}
 use Rattle.psm_code.specs.RoutineRules.{first_fault}
 use Rattle.psm_code.specs.Run.{step, steps, step_on}
-use Rattle.psm_code.specs.MachineInvariant.{AreKept, MachineInvariant, StaysWellFormed, is_due}
+use Rattle.psm_code.specs.MachineInvariant.{AreLawful, MachineInvariant, StaysWellFormed, is_due}
 use Rattle.psm_code.specs.State.{Machine, Stepped, More, Over}
 use Rattle.psm_code.proofs.Ending.{rows-more}
 use Rattle.psm_code.proofs.NeverStuck.{step_well_formed, run_well_formed}
@@ -96,17 +96,17 @@ module _ (code : RawCode) (n : ℕ) (args : List Datum) (turns : ℕ) (found ent
   runs_back (Ok f) after h l e = runs f after (from_there f h) (λ last q. e ∙ sym (goes f.ending found last l))
   runs_back (Err x) after h l e = tt
 
-  module _ (well_formed_code : first_fault code ≡ None) (t : Takes code n args) (k : AreKept code.tables found) where
-    ends_well_formed : (f : Finished) → Finishes code (started code n args entry turns) f now → (is_due (end_of f.ending) ≡ true) × AreKept code.tables now
+  module _ (well_formed_code : first_fault code ≡ None) (t : Takes code n args) (k : AreLawful code found) where
+    ends_well_formed : (f : Finished) → Finishes code (started code n args entry turns) f now → (is_due (end_of f.ending) ≡ true) × AreLawful code now
     ends_well_formed f h =
         let there = from_there f h in
         let due = run_well_formed code well_formed_code n t.routine t.there args found turns t.many k (end_of f.ending) there.last (record { count = there.count; leads = there.leads }) in
-        (due.0, subst (AreKept code.tables) there.tables_left due.1)
+        (due.0, subst (AreLawful code) there.tables_left due.1)
 
     pub ends_due : (r : Result Finished AllocError) → IfOk r (λ f. Finishes code (started code n args entry turns) f now) → IfOk r (λ f. is_due (end_of f.ending) ≡ true)
     ends_due (Ok f) h = (ends_well_formed f h).0
     ends_due (Err x) h = tt
 
-    pub kept_on : (r : Result Finished AllocError) → IfOk r (λ f. Finishes code (started code n args entry turns) f now) → leaves_tables r ≡ true → AreKept code.tables now
+    pub kept_on : (r : Result Finished AllocError) → IfOk r (λ f. Finishes code (started code n args entry turns) f now) → leaves_tables r ≡ true → AreLawful code now
     kept_on (Ok f) h l = (ends_well_formed f h).1
     kept_on (Err x) h l = cc

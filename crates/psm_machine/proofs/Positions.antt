@@ -11,6 +11,7 @@ use Rattle.psm_table.specs.declared.definition.TableDef.{TableDef}
 use Rattle.psm_table.specs.Changing.{deleted_at as deleted_row, rows_but, updated_at as updated_row, Failure, IsLegal, Moved, Schema}
 use Rattle.psm_table.specs.Cursors.{Closed, Cursor, Insensitive, Plain}
 use Rattle.psm_table.specs.Key.{values_at}
+use Rattle.psm_table.specs.Keyed.{are_keyed_with, rows_in}
 use Rattle.psm_table.specs.Table.{keyed, without_row, Contents}
 use Rattle.psm_tablecode.specs.Codes.{over}
 use Rattle.psm_store.specs.declared.store.Mark.{Mark}
@@ -129,13 +130,13 @@ moved_by t due number c n old at r new (Err fault.Memory) h = tt
 update_is : (code : RawCode) (r : RawRoutine) (number : ℕ) (sets : List SetItem) (x : CodeCursor) (q : Query) (t : CodeTable) (c : Cursor) (o : Contents) (row : List Datum) (old : List Contents) (at : Mark → List Contents) (run : Run)
     → slice_get r.cursors number ≡ Some x → slice_get r.queries x.query ≡ Some q → slice_get code.tables q.table ≡ Some t → slice_get old q.table ≡ Some o → slice_get run.running.cursors.items number ≡ Some c → current_row o c ≡ Some row
     → update_at code r number sets (machine_of old at run)
-    ≡ ◌>>=◌ (unless_failed t.definition (updated_row (over run.running.variables.items) plain (schema_of t) (map set_item sets) row o.rows)) (then_leaves q.table o number c) (machine_of old at run)
-update_is code r number sets x q t c o row old at run d a b e s f = rw (d, a, schema_there code.tables q.table t b, e, s, row_found x o c row (machine_of old at run) f) refl
+    ≡ ◌>>=◌ (unless_failed t.definition (updated_row (over run.running.variables.items) plain (schema_of (are_keyed_with code.keys (rows_in old) q.table) t) (map set_item sets) row o.rows)) (then_leaves q.table o number c) (machine_of old at run)
+update_is code r number sets x q t c o row old at run d a b e s f = rw (d, a, schema_there (are_keyed_with code.keys (rows_in old) q.table) code.tables q.table t b, e, s, row_found x o c row (machine_of old at run) f) refl
 
 pub moves : (code : RawCode) (r : RawRoutine) (number : ℕ) (sets : List SetItem) (x : CodeCursor) (q : Query) (t : CodeTable) (c : Cursor) (key : List Datum) (o : Contents) (old new : List Contents) (at : Mark → List Contents) (run : Run) (res : Result Bool DataFault)
     → slice_get r.cursors number ≡ Some x → slice_get r.queries x.query ≡ Some q → slice_get code.tables q.table ≡ Some t → (h : HasTable t old q.table) → slice_get run.running.cursors.items number ≡ Some c
     → slice_get old q.table ≡ Some o → current_key c ≡ Some key → IsSome (keyed o key)
-    → IfSome (slice_get old q.table) (λ d. EndsAtRow d (λ row. updated_row (over run.running.variables.items) plain (ends.schema_of d.def t.checks) (map set_item sets) row d.rows) (keyed d key) old q.table new res)
+    → IfSome (slice_get old q.table) (λ d. EndsAtRow d (λ row. updated_row (over run.running.variables.items) plain (ends.keyed_schema code.keys old q.table d.def t.checks) (map set_item sets) row d.rows) (keyed d key) old q.table new res)
     → Moves (update_at code r number sets) number c old at run new (part_of res)
 moves code r number sets x q t c key other old new at run res d a b h s z k j f =
     let vars = run.running.variables.items in
@@ -144,10 +145,10 @@ moves code r number sets x q t c key other old new at run res d a b h s z k j f 
     let row = some_there (keyed o key) i in
     let current = sym (current_found o c key k) ∙ row.1 in
     let due : Schema (List Line) → Result Moved Failure = λ s. updated_row (over vars) plain s (map set_item sets) row.0 o.rows in
-    let ended = of_some (λ d. EndsAtRow d (λ row. updated_row (over vars) plain (ends.schema_of d.def t.checks) (map set_item sets) row d.rows) (keyed d key) old q.table new res) (slice_get old q.table) o h.there f in
-    let here = subst (λ z. EndsAtRow o (λ row. updated_row (over vars) plain (ends.schema_of o.def t.checks) (map set_item sets) row o.rows) z old q.table new res) row.1 ended in
+    let ended = of_some (λ d. EndsAtRow d (λ row. updated_row (over vars) plain (ends.keyed_schema code.keys old q.table d.def t.checks) (map set_item sets) row d.rows) (keyed d key) old q.table new res) (slice_get old q.table) o h.there f in
+    let here = subst (λ z. EndsAtRow o (λ row. updated_row (over vars) plain (ends.keyed_schema code.keys old q.table o.def t.checks) (map set_item sets) row o.rows) z old q.table new res) row.1 ended in
     let act : TableDef → Schema (List Line) → Act (Unit {0}) = λ e s. ◌>>=◌ (unless_failed e (due s)) (then_leaves q.table o number c) in
-    let done = moved_by o (due (ends.schema_of o.def t.checks)) number c q.table old at run new res here in
-    let named = subst (λ e. Moves (act e (ends.schema_of o.def t.checks)) number c old at run new (part_of res)) h.kept.same done in
-    let ruled = subst (λ s. Moves (act t.definition s) number c old at run new (part_of res)) (schema_same t o.def h.kept.same) named in
-    moves_like (update_at code r number sets) (act t.definition (schema_of t)) number c old at run new (part_of res) (update_is code r number sets x q t c o row.0 old at run d a b h.there s current) ruled
+    let done = moved_by o (due (ends.keyed_schema code.keys old q.table o.def t.checks)) number c q.table old at run new res here in
+    let named = subst (λ e. Moves (act e (ends.keyed_schema code.keys old q.table o.def t.checks)) number c old at run new (part_of res)) h.kept.same done in
+    let ruled = subst (λ s. Moves (act t.definition s) number c old at run new (part_of res)) (schema_same code.keys old q.table t o.def h.kept.same) named in
+    moves_like (update_at code r number sets) (act t.definition (schema_of (are_keyed_with code.keys (rows_in old) q.table) t)) number c old at run new (part_of res) (update_is code r number sets x q t c o row.0 old at run d a b h.there s current) ruled

@@ -17,7 +17,7 @@ use Rattle.psm_code.specs.declared.code.RawCode.{RawCode}
 use Rattle.psm_code.specs.declared.code.RawRoutine.{RawRoutine}
 use Rattle.psm_code.specs.Parts.{routine_at, slots_of}
 use Rattle.psm_code.specs.RoutineRules.{first_fault}
-use Rattle.psm_code.specs.MachineInvariant.{are_stored, AreCursors, AreKept, IsKept}
+use Rattle.psm_code.specs.MachineInvariant.{are_stored, AreCursors, AreLawful, IsKept}
 
 -- ---- queries
 
@@ -100,6 +100,6 @@ pub record RunsWellFormed (code : RawCode) (r : RawRoutine) (tables : List Conte
   pub well_formed_code : first_fault code ≡ None
   pub routine : ℕ
   pub there : routine_at code routine ≡ Some r
-  pub kept : AreKept code.tables tables
+  pub kept : AreLawful code tables
   pub stored : IsTrue (are_stored (slots_of r) vars)
   pub opened : AreCursors code r r.cursors cursors

@@ -4,6 +4,8 @@ use Rattle.psm_cond.specs.declared.fault.DataFault.{DataFault}
 use Rattle.psm_cond.specs.declared.fault.DataFault.TheVariants as fault
 use Rattle.psm_value.specs.declared.datum.Datum.{Datum}
 use Rattle.psm_table.specs.Changing.{Changed, Failure, inserted}
+use Rattle.psm_table.specs.declared.definition.ForeignKey.{ForeignKey}
+use Rattle.psm_table.specs.Keyed.{are_keyed_with, rows_in}
 use Rattle.psm_table.specs.Table.{Contents}
 use Rattle.psm_tablecode.specs.NewRows.{new_row}
 use Rattle.psm_dml.specs.Ends.{IsDue}
@@ -22,17 +24,17 @@ EndsIn t c due old n new (Ok count) = (rows : List (List Datum)) × (due ≡ Ok 
 EndsIn t c due old n new (Err (fault.Raised condition)) = IsDue t.definition due condition × (new ≡ old)
 EndsIn t c due old n new (Err fault.Memory) = new ≡ old
 
--- what is due where rows for some columns are put into a table
-abbrev pub put_due : CodeTable → List ℕ → List (List Datum) → Contents → Result Changed Failure
-put_due t columns rows c = inserted plain (schema_of t) (map (new_row t.definition columns) rows) c.rows
+-- what is due where rows for some columns are put into a table, by what then holds among the tables
+abbrev pub put_due : (List (List Datum) → Bool) → CodeTable → List ℕ → List (List Datum) → Contents → Result Changed Failure
+put_due keyed t columns rows c = inserted plain (schema_of keyed t) (map (new_row t.definition columns) rows) c.rows
 
 -- rows for some columns are put into table n, as is due
-abbrev pub PutsInto : CodeTable → ℕ → List ℕ → List (List Datum) → List Contents → List Contents → Result ℕ DataFault → Type 0
-PutsInto t n columns rows old new result = IfSome (slice_get old n) (λ c. EndsIn t c (put_due t columns rows c) old n new result)
+abbrev pub PutsInto : List ForeignKey → CodeTable → ℕ → List ℕ → List (List Datum) → List Contents → List Contents → Result ℕ DataFault → Type 0
+PutsInto keys t n columns rows old new result = IfSome (slice_get old n) (λ c. EndsIn t c (put_due (are_keyed_with keys (rows_in old) n) t columns rows c) old n new result)
 
 -- the same of the table of the code with that number
 abbrev pub PutsRows : RawCode → ℕ → List ℕ → List (List Datum) → List Contents → List Contents → Result ℕ DataFault → Type 0
-PutsRows code n columns rows old new result = IfSome (slice_get code.tables n) (λ t. PutsInto t n columns rows old new result)
+PutsRows code n columns rows old new result = IfSome (slice_get code.tables n) (λ t. PutsInto code.keys t n columns rows old new result)
 
 -- of n rows, whose values stand among the operands
 abbrev pub put_operands : RawCode → ℕ → List ℕ → ℕ → Act (Unit {0})

@@ -9,7 +9,7 @@ use Rattle.psm_code.specs.declared.code.RawRoutine.{RawRoutine}
 use Rattle.psm_code.specs.Calling.{activation, before_start, entered}
 use Rattle.psm_code.specs.Parts.{routine_at, taking}
 use Rattle.psm_code.specs.Run.{Ran, step, steps}
-use Rattle.psm_code.specs.MachineInvariant.{AreKept, MachineInvariant}
+use Rattle.psm_code.specs.MachineInvariant.{AreLawful, MachineInvariant}
 use Rattle.psm_code.specs.State as state
 use Rattle.psm_code.specs.Steps.{Act, got, present, ◌>>=◌}
 use Rattle.psm_unwind.specs.declared.ending.Ending.{Ending}
@@ -39,7 +39,7 @@ Begins due turns (Over e) = (tables : List Contents) → due tables ≡ state.Ov
 
 -- what is always true of a machine is true where a run begins over the tables of the code
 abbrev pub BeginsWellFormed : RawCode → Beginning → Type 0
-BeginsWellFormed code (Runs r) = (tables : List Contents) (at : Mark → List Contents) → AreKept code.tables tables → MachineInvariant code (machine_of tables at r)
+BeginsWellFormed code (Runs r) = (tables : List Contents) (at : Mark → List Contents) → AreLawful code tables → MachineInvariant code (machine_of tables at r)
 BeginsWellFormed code (Over e) = Unit {0}
 
 -- a run that begins has no mark of its own, in a store in which n are open

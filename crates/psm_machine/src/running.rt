@@ -8,7 +8,7 @@ ghost use Rattle.psm_store.specs.Marks.{AnyMark, Keeps};
 ghost use Rattle.psm_code.specs.Calling.{started};
 ghost use Rattle.psm_code.specs.Parts.{slots_of};
 ghost use Rattle.psm_code.specs.RoutineRules.{first_fault};
-ghost use Rattle.psm_code.specs.MachineInvariant.{AreKept, MachineInvariant, is_due};
+ghost use Rattle.psm_code.specs.MachineInvariant.{AreLawful, MachineInvariant, is_due};
 ghost use Rattle.psm_code.specs.State.{More};
 ghost use Rattle.psm_unwind.specs.Marks.{MarksStand, most_open};
 ghost use Rattle.psm_unwind.specs.View.{activation_of, end_of, machine_of};
@@ -124,11 +124,11 @@ pub fn run<S: Store>(
     requires well_formed_code { first_fault code.now ≡ None }
     requires numbered { All (λ r. IsTrue (is_numbered r.handlers)) code.now.routines }
     requires takes { Takes code.now number arguments.items }
-    requires kept { AreKept code.now.tables (S.tables store.old) }
+    requires kept { AreLawful code.now (S.tables store.old) }
     requires few { S.marks store.old < most_open }
     ensures due { IfOk result (λ f. RunsTo code.now number arguments.items (S.tables store.old) turns f (S.tables store.new)) }
     ensures ends { IfOk result (λ f. IsTrue (is_due (end_of f.ending))) }
-    ensures kept { AreKept code.now.tables (S.tables store.new) }
+    ensures kept { AreLawful code.now (S.tables store.new) }
     ensures memory { IfErr result (λ e. S.tables store.new ≡ S.tables store.old) }
     ensures marks { S.marks store.new ≡ S.marks store.old }
     ensures keeps { Keeps AnyMark (S.holds store.old) (S.at store.old) (S.holds store.new) (S.at store.new) }
@@ -175,7 +175,7 @@ fn run_after<S: Store>(
     requires well_formed_code { first_fault code.now ≡ None }
     requires numbered { All (λ r. IsTrue (is_numbered r.handlers)) code.now.routines }
     requires takes { Takes code.now number arguments.items }
-    requires kept { AreKept code.now.tables (S.tables store.old) }
+    requires kept { AreLawful code.now (S.tables store.old) }
     requires counted { S.marks store.old ≡ marks }
     requires most { marks ≤ most_open }
     ensures due { IfOk result (λ f. Finishes code.now (started code.now number arguments.items (S.tables store.old) turns) f (S.tables store.new)) }

@@ -6,6 +6,7 @@ use Rattle.psm_cond.specs.Entry.{entry_of, name_text}
 use Rattle.psm_table.specs.Changing.{Failure, Raised, OfTable, Schema, SetItem, deleted, deleted_at, inserted, updated, updated_at}
 use Rattle.psm_table.specs.Cursors.{Cursor, Closed, Plain, Insensitive, current, without_row}
 use Rattle.psm_table.specs.Evaluator.{Evaluator}
+use Rattle.psm_table.specs.Keyed.{are_keyed_with, rows_in}
 use Rattle.psm_table.specs.Table.{Contents}
 use Rattle.psm_table.specs.declared.definition.TableDef.{TableDef}
 use Rattle.psm_tablecode.specs.NewRows.{new_row}
@@ -29,11 +30,14 @@ use Rattle.psm_meaning.specs.Rows.{answer_of, over, table_now}
 abbrev pub plain : Evaluator ResolvedExpr
 plain = over []
 
-abbrev pub schema_of : ResolvedTable → Schema ResolvedExpr
-schema_of t = record { def = t.definition; checks = t.checks }
+abbrev pub schema_of : (List (List Datum) → Bool) → ResolvedTable → Schema ResolvedExpr
+schema_of keyed t = record { def = t.definition; checks = t.checks; keyed = keyed }
 
+-- among the tables of now
 abbrev pub schema_at : ResolvedFile → ℕ → Act (Schema ResolvedExpr)
-schema_at file table = present (slice_get (map schema_of file.tables) table)
+schema_at file table = do
+  tables ← read (λ st. st.tables)
+  present (slice_get (map (schema_of (are_keyed_with file.keys (rows_in tables) table)) file.tables) table)
 
 -- a condition of the table bears its name
 abbrev pub unless_failed : {A : Type 0} → TableDef → Result A Failure → Act A

@@ -13,6 +13,7 @@ mod optional;
 mod parameters;
 mod parse;
 mod routine;
+mod references;
 mod rules;
 mod table;
 

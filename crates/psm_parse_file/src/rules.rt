@@ -3,6 +3,7 @@ ghost use Rattle.psm_tree.specs.ExprGrammar.{expr as expr_part, within_parens};
 ghost use Rattle.psm_tree.specs.FileGrammar.{plain_column_rule as plain_column_rule_part, column_rule as column_rule_part, column_rule_list as column_rule_list_part, plain_table_rule as plain_table_rule_part, table_rule as table_rule_part};
 ghost use Rattle.psm_tree.specs.Readers.{Takes, reading};
 
+use crate::references::{references, references_rest};
 use psm_grammar::Halt;
 use psm_list::{Boxed, List};
 use psm_parse_expr::expr;
@@ -11,12 +12,13 @@ use psm_token::{Sign, Word};
 use psm_tree::{ColumnRule, ColumnRuleForm, Expr, TableRule, TableRuleForm};
 use std::alloc::Global;
 
-const COLUMN_RULE_WORDS: [Word; 5] = [
+const COLUMN_RULE_WORDS: [Word; 6] = [
     Word::Constraint,
     Word::Not,
     Word::Primary,
     Word::Unique,
     Word::Check,
+    Word::References,
 ];
 
 /// `"(" expr ")"`
@@ -30,7 +32,7 @@ fn condition(alloc: Global, tokens: &mut Tokens, levels: u32) -> Result<Boxed<Ex
     Ok(test)
 }
 
-/// `NOT NULL | PRIMARY KEY | UNIQUE | CHECK "(" expr ")"`
+/// `NOT NULL | PRIMARY KEY | UNIQUE | CHECK "(" expr ")" | references`
 #[tactic(auto, using(psm_tree::proofs::Reading::steps), unfolding(psm_tree::specs::FileGrammar::plain_column_rule))]
 fn plain_column_rule(alloc: Global, tokens: &mut Tokens, levels: u32) -> Result<ColumnRule, Halt>
     ensures { Takes (reading levels plain_column_rule_part tokens.old.rest.now) result tokens.new.rest.now }
@@ -52,8 +54,13 @@ fn plain_column_rule(alloc: Global, tokens: &mut Tokens, levels: u32) -> Result<
         let form = ColumnRuleForm::Unique;
         return Ok(ColumnRule { place, form });
     }
-    let place = tokens.word(Word::Check)?;
-    let form = ColumnRuleForm::Check(condition(alloc, tokens, levels)?);
+    if tokens.at(Word::Check) {
+        let place = tokens.word(Word::Check)?;
+        let form = ColumnRuleForm::Check(condition(alloc, tokens, levels)?);
+        return Ok(ColumnRule { place, form });
+    }
+    let place = tokens.word(Word::References)?;
+    let form = ColumnRuleForm::References(references_rest(alloc, tokens, levels)?);
     Ok(ColumnRule { place, form })
 }
 
@@ -90,7 +97,7 @@ pub(crate) fn column_rules(
     Ok(List::of(rules))
 }
 
-/// `PRIMARY KEY names | UNIQUE names | CHECK "(" expr ")"`
+/// `PRIMARY KEY names | UNIQUE names | CHECK "(" expr ")" | FOREIGN KEY names references`
 #[tactic(auto, using(psm_tree::proofs::Reading::steps), unfolding(psm_tree::specs::FileGrammar::plain_table_rule))]
 fn plain_table_rule(alloc: Global, tokens: &mut Tokens, levels: u32) -> Result<TableRule, Halt>
     ensures { Takes (reading levels plain_table_rule_part tokens.old.rest.now) result tokens.new.rest.now }
@@ -106,8 +113,19 @@ fn plain_table_rule(alloc: Global, tokens: &mut Tokens, levels: u32) -> Result<T
         let form = TableRuleForm::Unique(names_in_parens(alloc, tokens, levels)?);
         return Ok(TableRule { place, form });
     }
-    let place = tokens.word(Word::Check)?;
-    let form = TableRuleForm::Check(condition(alloc, tokens, levels)?);
+    if tokens.at(Word::Check) {
+        let place = tokens.word(Word::Check)?;
+        let form = TableRuleForm::Check(condition(alloc, tokens, levels)?);
+        return Ok(TableRule { place, form });
+    }
+    let place = tokens.word(Word::Foreign)?;
+    tokens.word(Word::Key)?;
+    let columns = names_in_parens(alloc, tokens, levels)?;
+    let references = references(alloc, tokens, levels)?;
+    let form = TableRuleForm::ForeignKey {
+        columns,
+        references,
+    };
     Ok(TableRule { place, form })
 }
 

@@ -28,6 +28,18 @@ fn enclosed(out: &mut Writer, value: &Expr) -> Result<(), AllocError>
     out.sign(Sign::RightParen)
 }
 
+/// What a FOREIGN KEY refers to.
+fn references(out: &mut Writer, to: &References) -> Result<(), AllocError>
+    ensures { IfOk result (λ _. out.new ≡ out.old ++ references_tokens to.now) }
+{
+    out.word(Word::References)?;
+    out.name(&to.table)?;
+    match &to.columns {
+        None => Ok(()),
+        Some(columns) => enclosed_names(out, columns),
+    }
+}
+
 /// A rule of a column.
 fn column_rule(out: &mut Writer, rule: &ColumnRule) -> Result<(), AllocError>
     ensures { IfOk result (λ _. out.new ≡ out.old ++ column_rule_tokens rule.now) }
@@ -46,6 +58,7 @@ fn column_rule(out: &mut Writer, rule: &ColumnRule) -> Result<(), AllocError>
             out.word(Word::Check)?;
             enclosed(out, test.get())
         }
+        ColumnRuleForm::References(to) => references(out, to),
     }
 }
 
@@ -66,6 +79,15 @@ fn table_rule(out: &mut Writer, rule: &TableRule) -> Result<(), AllocError>
         TableRuleForm::Check(test) => {
             out.word(Word::Check)?;
             enclosed(out, test.get())
+        }
+        TableRuleForm::ForeignKey {
+            columns,
+            references: to,
+        } => {
+            out.word(Word::Foreign)?;
+            out.word(Word::Key)?;
+            enclosed_names(out, columns)?;
+            references(out, to)
         }
     }
 }

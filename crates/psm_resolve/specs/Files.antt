@@ -131,6 +131,7 @@ abbrev pub rule_unique : Columns → TableRuleForm → List (List ℕ)
 rule_unique columns (table_rules.PrimaryKey names) = []
 rule_unique columns (table_rules.Unique names) = map (column_of columns) (several names) ∷ []
 rule_unique columns (table_rules.Check e) = []
+rule_unique columns (table_rules.ForeignKey names r) = []
 
 abbrev pub unique_in : Columns → ℕ → Element → List (List ℕ)
 unique_in columns place (elements.Column name kind default rules) = own_uniques place rules
@@ -146,6 +147,7 @@ own_check resolver_scope column_rules.NotNull = []
 own_check resolver_scope column_rules.PrimaryKey = []
 own_check resolver_scope column_rules.Unique = []
 own_check resolver_scope (column_rules.Check e) = expr_at resolver_scope e ∷ []
+own_check resolver_scope (column_rules.References r) = []
 
 abbrev pub own_checks : ResolverScope → List ColumnRule → List ResolvedExpr
 own_checks resolver_scope [] = []
@@ -155,6 +157,7 @@ abbrev pub rule_check : ResolverScope → TableRuleForm → List ResolvedExpr
 rule_check resolver_scope (table_rules.PrimaryKey names) = []
 rule_check resolver_scope (table_rules.Unique names) = []
 rule_check resolver_scope (table_rules.Check e) = expr_at resolver_scope e ∷ []
+rule_check resolver_scope (table_rules.ForeignKey names r) = []
 
 abbrev pub checks_in : ResolverScope → Element → List ResolvedExpr
 checks_in resolver_scope (elements.Column name kind default rules) = own_checks resolver_scope rules
@@ -172,6 +175,62 @@ resolve_table t = let es = table_elements t in let columns = columns_of es in re
   definition = record { name = t.name.name; columns = defined_from (key_of columns es) 0 es; key = key_of columns es; unique = uniques_from columns 0 es };
   checks = checks_of (on_columns t.name.name columns) es;
 }
+
+-- ---- FOREIGN KEY constraints (ISO/IEC 9075:1992, 11.8), each of a table before or of the table itself
+
+-- a table that can be referred to: its number, its columns, and the places of those in its key
+pub record Target : Type 0 where
+  pub number : ℕ
+  pub columns : Columns
+  pub key : List ℕ
+
+abbrev pub Targets : Type 0
+Targets = List (Spelling × Target)
+
+-- without a list the primary key is meant
+abbrev pub target_columns : Target → Option Names → List ℕ
+target_columns to None = to.key
+target_columns to (Some names) = map (column_of to.columns) (several names)
+
+-- in a file without a fault the table is known
+abbrev pub key_to : ℕ → List ℕ → References → Option Target → ForeignKey
+key_to from columns r None = record { from = from; columns = columns; to = 0; target = [] }
+key_to from columns r (Some to) = record { from = from; columns = columns; to = to.number; target = target_columns to r.columns }
+
+abbrev pub own_reference : Targets → ℕ → ℕ → ColumnRuleForm → List ForeignKey
+own_reference targets from place column_rules.NotNull = []
+own_reference targets from place column_rules.PrimaryKey = []
+own_reference targets from place column_rules.Unique = []
+own_reference targets from place (column_rules.Check e) = []
+own_reference targets from place (column_rules.References r) = key_to from (place ∷ []) r (named r.table.name targets) ∷ []
+
+abbrev pub own_references : Targets → ℕ → ℕ → List ColumnRule → List ForeignKey
+own_references targets from place [] = []
+own_references targets from place (r ∷ rs) = own_reference targets from place r.form ++ own_references targets from place rs
+
+abbrev pub rule_reference : Targets → ℕ → Columns → TableRuleForm → List ForeignKey
+rule_reference targets from columns (table_rules.PrimaryKey names) = []
+rule_reference targets from columns (table_rules.Unique names) = []
+rule_reference targets from columns (table_rules.Check e) = []
+rule_reference targets from columns (table_rules.ForeignKey names r) = key_to from (map (column_of columns) (several names)) r (named r.table.name targets) ∷ []
+
+abbrev pub references_in : Targets → ℕ → Columns → ℕ → Element → List ForeignKey
+references_in targets from columns place (elements.Column name kind default rules) = own_references targets from place rules
+references_in targets from columns place (elements.Rule rule) = rule_reference targets from columns rule.form
+
+abbrev pub references_from : Targets → ℕ → Columns → ℕ → List Element → List ForeignKey
+references_from targets from columns place [] = []
+references_from targets from columns place (e ∷ es) = references_in targets from columns place e ++ references_from targets from columns (next_place place e) es
+
+abbrev pub with_target : Targets → ℕ → TableTree → Targets
+with_target targets n t = declared_once targets t.name.name (record { number = n; columns = columns_of (table_elements t); key = (resolve_table t).definition.key })
+
+-- those of the tables from number n on, in the order of the tables and of the declarations
+abbrev pub foreign_keys : Targets → ℕ → List TableTree → List ForeignKey
+foreign_keys targets n [] = []
+foreign_keys targets n (t ∷ ts) =
+    references_from (with_target targets n t) n (columns_of (table_elements t)) 0 (table_elements t)
+    ++ foreign_keys (with_target targets n t) (suc n) ts
 
 -- ---- routines
 
@@ -215,4 +274,4 @@ resolve_routine symbols r = routine_in symbols r (routine_numbered r)
 -- ---- the file
 
 abbrev pub resolved_file : FileTree → ResolvedFile
-resolved_file f = record { tables = map resolve_table f.tables; routines = map (resolve_routine (known_symbols f)) f.«module».routines }
+resolved_file f = record { tables = map resolve_table f.tables; keys = foreign_keys [] 0 f.tables; routines = map (resolve_routine (known_symbols f)) f.«module».routines }

@@ -22,5 +22,9 @@ pub fn resolve_file(alloc: Global, file: &FileTree) -> Result<ResolvedFile, Allo
     };
     let routines = resolve_routines(resolver, file.module.routines.items())?;
     let tables = resolve_tables(alloc, file.tables.items())?;
-    Ok(ResolvedFile { tables, routines })
+    Ok(ResolvedFile {
+        tables,
+        keys: List::of(Vec::new(alloc)),
+        routines,
+    })
 }

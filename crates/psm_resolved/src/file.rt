@@ -3,7 +3,7 @@
 use crate::expr::ResolvedExpr;
 use crate::statement::ResolvedStatement;
 use psm_list::{Boxed, List};
-use psm_table::TableDef;
+use psm_table::{ForeignKey, TableDef};
 use psm_text::Name;
 use psm_value::SqlType;
 
@@ -11,6 +11,8 @@ use psm_value::SqlType;
 #[derive(Drop)]
 pub struct ResolvedFile {
     pub tables: List<ResolvedTable>,
+    /// The FOREIGN KEY constraints of all tables, in the order of the tables that refer.
+    pub keys: List<ForeignKey>,
     pub routines: List<ResolvedRoutine>,
 }
 

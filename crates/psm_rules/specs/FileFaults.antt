@@ -123,21 +123,71 @@ constant_fault (Some t) (Some c) = breaks_if (not (default_fits t (datum_of c.fo
 abbrev pub check_fault : CheckerScope → Expr → Option Fault
 check_fault v e = (as_condition (check_expr e v)).fault
 
-abbrev pub column_rule_fault : CheckerScope → ColumnRuleForm → Option Fault
-column_rule_fault v column_rules.NotNull = None
-column_rule_fault v column_rules.PrimaryKey = None
-column_rule_fault v column_rules.Unique = None
-column_rule_fault v (column_rules.Check e) = check_fault v e
+-- ---- FOREIGN KEY constraints (ISO/IEC 9075:1992, 11.8)
 
-abbrev pub table_rule_fault : CheckerScope → Columns → TableRuleForm → Option Fault
-table_rule_fault v columns (table_rules.PrimaryKey names) = columns_fault (Some columns) (several names)
-table_rule_fault v columns (table_rules.Unique names) = columns_fault (Some columns) (several names)
-table_rule_fault v columns (table_rules.Check e) = check_fault v e
+-- what is known of a table that can be referred to: its columns, and its primary keys and UNIQUE lists
+pub record Referred : Type 0 where
+  pub columns : Columns
+  pub primary : List (List Spelling)
+  pub unique : List (List Spelling)
 
-abbrev pub element_fault : CheckerScope → Columns → Element → Option Fault
-element_fault v columns (elements.Column name kind default rules) = first_of (type_fault kind (type_of kind) ∷ constant_fault (type_of kind) default
-    ∷ map (λ r. column_rule_fault v r.form) rules)
-element_fault v columns (elements.Rule r) = table_rule_fault v columns r.form
+-- the tables before, and the table itself
+abbrev pub Referable : Type 0
+Referable = List (Spelling × Referred)
+
+abbrev pub same_names : List Spelling → List Spelling → Bool
+same_names xs ys = pointwise is_spelled xs ys
+
+-- the columns that are meant: without a list those of the primary key
+abbrev pub meant_columns : Referred → Option Names → List Spelling
+meant_columns to None = first_key to.primary
+meant_columns to (Some names) = map (λ n. n.name) (several names)
+
+-- the family of a column, if it has a type
+abbrev pub family_named : Columns → Spelling → Option Family
+family_named columns n = option_map family_of_type (known_type (named n columns))
+
+abbrev pub families_clash : Columns → Columns → Spelling × Spelling → Bool
+families_clash columns others (a, b) = clashes (family_named columns a) (family_named others b)
+
+-- as many columns on both sides, each pair of one family, and a key or a UNIQUE list there, in order
+abbrev pub does_match : Columns → Referred → List Spelling → List Spelling → Bool
+does_match columns to from target =
+    nat_eq (length from) (length target) && (not (list_any (families_clash columns to.columns) (zip from target)) && list_any (same_names target) (to.primary ++ to.unique))
+
+abbrev pub listed : Option Names → List Identifier
+listed None = []
+listed (Some names) = several names
+
+-- of the columns of a constraint, the first of which bears the fault that it doesn't match
+abbrev pub match_fault : Columns → List Identifier → References → Referred → Option Fault
+match_fault columns [] r to = None
+match_fault columns (n ∷ ns) r to = earlier (breaks_if (not (does_match columns to (map (λ n. n.name) (n ∷ ns)) (meant_columns to r.columns))) rule.KeyDoesNotMatch n.place) (columns_fault (Some to.columns) (listed r.columns))
+
+abbrev pub reference_to : Columns → List Identifier → References → Option Referred → Option Fault
+reference_to columns from r None = breaks rule.UnknownTable r.table.place
+reference_to columns from r (Some to) = match_fault columns from r to
+
+abbrev pub reference_fault : Columns → Referable → List Identifier → References → Option Fault
+reference_fault columns tables from r = reference_to columns from r (named r.table.name tables)
+
+abbrev pub column_rule_fault : CheckerScope → Columns → Referable → Identifier → ColumnRuleForm → Option Fault
+column_rule_fault v columns tables name column_rules.NotNull = None
+column_rule_fault v columns tables name column_rules.PrimaryKey = None
+column_rule_fault v columns tables name column_rules.Unique = None
+column_rule_fault v columns tables name (column_rules.Check e) = check_fault v e
+column_rule_fault v columns tables name (column_rules.References r) = reference_fault columns tables (name ∷ []) r
+
+abbrev pub table_rule_fault : CheckerScope → Columns → Referable → TableRuleForm → Option Fault
+table_rule_fault v columns tables (table_rules.PrimaryKey names) = columns_fault (Some columns) (several names)
+table_rule_fault v columns tables (table_rules.Unique names) = columns_fault (Some columns) (several names)
+table_rule_fault v columns tables (table_rules.Check e) = check_fault v e
+table_rule_fault v columns tables (table_rules.ForeignKey names r) = earlier (columns_fault (Some columns) (several names)) (reference_fault columns tables (several names) r)
+
+abbrev pub element_fault : CheckerScope → Columns → Referable → Element → Option Fault
+element_fault v columns tables (elements.Column name kind default rules) = first_of (type_fault kind (type_of kind) ∷ constant_fault (type_of kind) default
+    ∷ map (λ r. column_rule_fault v columns tables name r.form) rules)
+element_fault v columns tables (elements.Rule r) = table_rule_fault v columns tables r.form
 
 -- the keys that are declared, as lists of columns
 abbrev pub column_rule_keys : Spelling → ColumnRuleForm → List (List Spelling)
@@ -145,6 +195,7 @@ column_rule_keys n column_rules.NotNull = []
 column_rule_keys n column_rules.PrimaryKey = (n ∷ []) ∷ []
 column_rule_keys n column_rules.Unique = []
 column_rule_keys n (column_rules.Check e) = []
+column_rule_keys n (column_rules.References r) = []
 
 abbrev pub own_keys : Spelling → List ColumnRule → List (List Spelling)
 own_keys n [] = []
@@ -154,6 +205,7 @@ abbrev pub rule_keys : TableRuleForm → List (List Spelling)
 rule_keys (table_rules.PrimaryKey names) = map (λ n. n.name) (several names) ∷ []
 rule_keys (table_rules.Unique names) = []
 rule_keys (table_rules.Check e) = []
+rule_keys (table_rules.ForeignKey names r) = []
 
 abbrev pub element_keys : Element → List (List Spelling)
 element_keys (elements.Column name kind default rules) = own_keys name.name rules
@@ -162,6 +214,24 @@ element_keys (elements.Rule r) = rule_keys r.form
 abbrev pub keys_of : List Element → List (List Spelling)
 keys_of [] = []
 keys_of (e ∷ es) = element_keys e ++ keys_of es
+
+-- the UNIQUE lists that are declared
+abbrev pub column_rule_uniques : Spelling → ColumnRuleForm → List (List Spelling)
+column_rule_uniques n column_rules.NotNull = []
+column_rule_uniques n column_rules.PrimaryKey = []
+column_rule_uniques n column_rules.Unique = (n ∷ []) ∷ []
+column_rule_uniques n (column_rules.Check e) = []
+column_rule_uniques n (column_rules.References r) = []
+
+abbrev pub rule_uniques : TableRuleForm → List (List Spelling)
+rule_uniques (table_rules.PrimaryKey names) = []
+rule_uniques (table_rules.Unique names) = map (λ n. n.name) (several names) ∷ []
+rule_uniques (table_rules.Check e) = []
+rule_uniques (table_rules.ForeignKey names r) = []
+
+abbrev pub element_uniques : Element → List (List Spelling)
+element_uniques (elements.Column name kind default rules) = flat_map (λ r. column_rule_uniques name.name r.form) rules
+element_uniques (elements.Rule r) = rule_uniques r.form
 
 -- column 101 is one too many
 abbrev pub too_many : Option Identifier → Option Fault
@@ -185,10 +255,19 @@ alone table columns = record {
 abbrev pub table_elements : TableTree → List Element
 table_elements t = several t.elements
 
-abbrev pub table_fault : TableTree → Option Fault
-table_fault t = let es = table_elements t in let columns = columns_of es in
+-- what can be referred to once a table is known
+abbrev pub with_referred : Referable → TableTree → Referable
+with_referred tables t = let es = table_elements t in declared_once tables t.name.name (record { columns = columns_of es; primary = keys_of es; unique = flat_map element_uniques es })
+
+abbrev pub table_fault : Referable → TableTree → Option Fault
+table_fault before t = let es = table_elements t in let columns = columns_of es in
     first_of (repeated rule.ColumnRepeated (column_names es) ∷ too_many (slice_get (column_names es) 100)
-    ∷ key_fault t.name (keys_of es) ∷ map (element_fault (alone t.name.name columns) columns) es)
+    ∷ key_fault t.name (keys_of es) ∷ map (element_fault (alone t.name.name columns) columns (with_referred before t)) es)
+
+-- each with those before it
+abbrev pub tables_faults : Referable → List TableTree → List (Option Fault)
+tables_faults before [] = []
+tables_faults before (t ∷ ts) = table_fault before t ∷ tables_faults (with_referred before t) ts
 
 -- ---- routines
 
@@ -387,5 +466,5 @@ symbols_of f = with_routines (with_tables no_symbols f.tables) f.«module».rout
 
 -- the first fault of a module file; without one the file is accepted
 abbrev pub file_fault : FileTree → Option Fault
-file_fault f = first_of (repeated rule.TableRepeated (map (λ t. t.name) f.tables) ∷ first_of (map table_fault f.tables)
+file_fault f = first_of (repeated rule.TableRepeated (map (λ t. t.name) f.tables) ∷ first_of (tables_faults [] f.tables)
     ∷ first_of (routines_fault (symbols_of f) [] f.«module».routines) ∷ [])

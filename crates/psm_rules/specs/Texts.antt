@@ -47,6 +47,7 @@ text_of rule.ItemNeedsName = codes "K41 item needs a name of its own"
 text_of rule.NullWithoutType = codes "K42 NULL without a type"
 text_of rule.ArgumentMisfitsMode = codes "K43 argument does not fit its mode"
 text_of rule.CharacteristicRepeated = codes "K44 note repeated"
+text_of rule.KeyDoesNotMatch = codes "K45 foreign key does not match"
 
 -- the number of the code
 abbrev pub number_of : Rule → ℕ
@@ -92,3 +93,4 @@ number_of rule.ItemNeedsName = 41
 number_of rule.NullWithoutType = 42
 number_of rule.ArgumentMisfitsMode = 43
 number_of rule.CharacteristicRepeated = 44
+number_of rule.KeyDoesNotMatch = 45

@@ -89,6 +89,8 @@ pub enum Rule {
     ArgumentMisfitsMode,
     /// A characteristic that stands twice.
     CharacteristicRepeated,
+    /// A foreign key that refers to no key, or to other columns than it has.
+    KeyDoesNotMatch,
 }
 
 impl Rule {
@@ -139,6 +141,7 @@ impl Rule {
             Rule::NullWithoutType => "K42 NULL without a type",
             Rule::ArgumentMisfitsMode => "K43 argument does not fit its mode",
             Rule::CharacteristicRepeated => "K44 note repeated",
+            Rule::KeyDoesNotMatch => "K45 foreign key does not match",
         }
     }
 
@@ -189,6 +192,7 @@ impl Rule {
             Rule::NullWithoutType => 42,
             Rule::ArgumentMisfitsMode => 43,
             Rule::CharacteristicRepeated => 44,
+            Rule::KeyDoesNotMatch => 45,
         }
     }
 }

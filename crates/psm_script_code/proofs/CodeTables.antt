@@ -41,7 +41,7 @@ abbrev definition_alone : CodeTable → ResolvedTable
 definition_alone u = record { definition = u.definition; checks = [] }
 
 abbrev definitions_alone : RawCode → ResolvedFile
-definitions_alone code = record { tables = map definition_alone code.tables; routines = [] }
+definitions_alone code = record { tables = map definition_alone code.tables; keys = code.keys; routines = [] }
 
 same_definitions : (us : List CodeTable) → SameTables (map definition_alone us) us
 same_definitions [] = tt

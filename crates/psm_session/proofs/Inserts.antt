@@ -12,7 +12,7 @@ use Rattle.psm_dml.specs.Ends.{IsDue}
 use Rattle.psm_code.specs.declared.code.CodeTable.{CodeTable}
 use Rattle.psm_code.specs.declared.code.RawCode.{RawCode}
 use Rattle.psm_code.specs.RoutineRules.{first_fault}
-use Rattle.psm_code.specs.MachineInvariant.{AreKept}
+use Rattle.psm_code.specs.MachineInvariant.{AreLawful}
 use Rattle.psm_code.proofs.Queried.{kept_at}
 use Rattle.psm_machine.proofs.Asking.{of_some}
 use Rattle.psm_machine.proofs.CodeGuarantees.{put_kept}
@@ -29,7 +29,7 @@ pub if_ok_map : {A : Type 0} (P Q : A → Type 0) (r : Result A AllocError) → 
 if_ok_map P Q (Ok a) f h = f a h
 if_ok_map P Q (Err e) f h = tt
 
-module _ (code : RawCode) (k n : ℕ) (columns : List ℕ) (rows : List (List Datum)) (old new : List Contents) (t : CodeTable) (there : slice_get code.tables n ≡ Some t) (kept : AreKept code.tables old) where
+module _ (code : RawCode) (k n : ℕ) (columns : List ℕ) (rows : List (List Datum)) (old new : List Contents) (t : CodeTable) (there : slice_get code.tables n ≡ Some t) (kept : AreLawful code old) where
   abbrev First : List ℕ
   First = first_line k (naming (codes "INSERT ") t.definition.name)
 
@@ -40,24 +40,24 @@ module _ (code : RawCode) (k n : ℕ) (columns : List ℕ) (rows : List (List Da
   record Found (r : Result ℕ DataFault) : Type 0 where
     contents : Contents
     here : slice_get old n ≡ Some contents
-    ends : EndsIn t contents (put_due t columns rows contents) old n new r
+    ends : EndsIn t contents (put_due (are_keyed_with code.keys (rows_in old) n) t columns rows contents) old n new r
 
   found : (r : Result ℕ DataFault) → PutsRows code n columns rows old new r → Found r
   found r puts =
-      let k = kept_at code.tables old n t kept there in
-      let into = of_some (λ (t : CodeTable). PutsInto t n columns rows old new r) (slice_get code.tables n) t there puts in
-      record { contents = k.0; here = k.1; ends = of_some (λ (c : Contents). EndsIn t c (put_due t columns rows c) old n new r) (slice_get old n) k.0 k.1 into }
+      let k = kept_at code.tables old n t kept.kept there in
+      let into = of_some (λ (t : CodeTable). PutsInto code.keys t n columns rows old new r) (slice_get code.tables n) t there puts in
+      record { contents = k.0; here = k.1; ends = of_some (λ (c : Contents). EndsIn t c (put_due (are_keyed_with code.keys (rows_in old) n) t columns rows c) old n new r) (slice_get old n) k.0 k.1 into }
 
   -- ---- the tables
 
-  kept_by : first_fault code ≡ None → (r : Result ℕ DataFault) → Found r → AreKept code.tables new
+  kept_by : first_fault code ≡ None → (r : Result ℕ DataFault) → Found r → AreLawful code new
   kept_by well_formed_code (Ok count) f =
       let changed : Changed = record { rows = f.ends.0; count = count } in
-      subst (AreKept code.tables) (sym f.ends.2) (put_kept code old well_formed_code kept n t f.contents there f.here columns rows changed f.ends.1)
-  kept_by well_formed_code (Err (fault.Raised condition)) f = subst (AreKept code.tables) (sym f.ends.1) kept
-  kept_by well_formed_code (Err fault.Memory) f = subst (AreKept code.tables) (sym f.ends) kept
+      subst (AreLawful code) (sym f.ends.2) (put_kept code old well_formed_code kept n t f.contents there f.here columns rows changed f.ends.1)
+  kept_by well_formed_code (Err (fault.Raised condition)) f = subst (AreLawful code) (sym f.ends.1) kept
+  kept_by well_formed_code (Err fault.Memory) f = subst (AreLawful code) (sym f.ends) kept
 
-  pub kept_after : first_fault code ≡ None → (r : Result ℕ DataFault) → PutsRows code n columns rows old new r → AreKept code.tables new
+  pub kept_after : first_fault code ≡ None → (r : Result ℕ DataFault) → PutsRows code n columns rows old new r → AreLawful code new
   kept_after well_formed_code r puts = kept_by well_formed_code r (found r puts)
 
   -- ---- the piece
@@ -72,8 +72,8 @@ module _ (code : RawCode) (k n : ℕ) (columns : List ℕ) (rows : List (List Da
     first_is : first_line k (naming (codes "INSERT ") (name_of_table (slice_get code.tables n))) ≡ First
     first_is = ap (λ o. first_line k (naming (codes "INSERT ") (name_of_table o))) there
 
-    goes : (c : Contents) → slice_get old n ≡ Some c → CommandExecutes code k Before Command (put_in First Before n t c (put_due t columns rows c))
-    goes c here = subst (λ first. Executes code first Before Command (put_in First Before n t c (put_due t columns rows c))) (sym first_is) (insert there here)
+    goes : (c : Contents) → slice_get old n ≡ Some c → CommandExecutes code k Before Command (put_in First Before n t c (put_due (are_keyed_with code.keys (rows_in old) n) t columns rows c))
+    goes c here = subst (λ first. Executes code first Before Command (put_in First Before n t c (put_due (are_keyed_with code.keys (rows_in old) n) t columns rows c))) (sym first_is) (insert there here)
 
     raised : (c : Contents) (due : Result Changed Failure) (condition : Entries) → IsDue t.definition due condition → put_in First Before n t c due ≡ Went (First ++ condition_lines condition) Before
     raised c (Ok a) condition h = absurd h
@@ -91,6 +91,6 @@ module _ (code : RawCode) (k n : ℕ) (columns : List ℕ) (rows : List (List Da
     pub put_raised : (condition : Entries) (piece : List ℕ) → PutsRows code n columns rows old new (Err (fault.Raised condition)) → piece ≡ First ++ condition_lines condition → Piece piece
     put_raised condition piece puts e =
         let f = found (Err (fault.Raised condition)) puts in
-        let due = subst (CommandExecutes code k Before Command) (raised f.contents (put_due t columns rows f.contents) condition f.ends.0) (goes f.contents f.here) in
+        let due = subst (CommandExecutes code k Before Command) (raised f.contents (put_due (are_keyed_with code.keys (rows_in old) n) t columns rows f.contents) condition f.ends.0) (goes f.contents f.here) in
         let tables = subst (λ x. Makes code k Before Command true (First ++ condition_lines condition) (standing x turns committed)) (sym f.ends.1) due in
         subst Piece (sym e) tables

@@ -9,6 +9,7 @@ use Rattle.psm_exprcode.specs.declared.query.Query.{Query}
 use Rattle.psm_sqlstate.specs.declared.state.SqlState.{SqlState}
 use Rattle.psm_table.specs.Changing.{Changed, Failure, Raised as RaisedBy, OfTable, inserted}
 use Rattle.psm_table.specs.Queries.{Answer, answer}
+use Rattle.psm_table.specs.Keyed.{are_keyed_with, rows_in}
 use Rattle.psm_table.specs.Table.{Contents}
 use Rattle.psm_tablecode.specs.Codes.{over, query_of}
 use Rattle.psm_tablecode.specs.NewRows.{new_row}
@@ -92,7 +93,7 @@ pub data Executes (code : RawCode) (first : List ℕ) (s : Standing) : ScriptCom
   call : {n : ℕ} {values : List Datum} {r : RawRoutine} {end : End} {last : Machine} → routine_at code n ≡ Some r → Ran code n values s.tables s.turns end last
       → Executes code first s (commands.Call n values) (called first s r end last)
   insert : {table : ℕ} {columns : List ℕ} {rows : List (List Datum)} {t : CodeTable} {c : Contents} → slice_get code.tables table ≡ Some t → slice_get s.tables table ≡ Some c
-      → Executes code first s (commands.Insert table columns rows) (put_in first s table t c (inserted plain (schema_of t) (map (new_row t.definition columns) rows) c.rows))
+      → Executes code first s (commands.Insert table columns rows) (put_in first s table t c (inserted plain (schema_of (are_keyed_with code.keys (rows_in s.tables) table) t) (map (new_row t.definition columns) rows) c.rows))
   select : {query : Query} {c : Contents} → slice_get s.tables query.table ≡ Some c → Executes code first s (commands.Select query) (selected first s (answer (over []) (query_of query) c.rows))
   commit : Executes code first s commands.Commit (Went (first ++ ok_line) (record s { committed = s.tables }))
   rollback : Executes code first s commands.Rollback (Went (first ++ ok_line) (record s { tables = s.committed }))

@@ -5,7 +5,7 @@ ghost use Rattle.psm_table.specs.Table.{Contents};
 ghost use Rattle.psm_store.specs.Marks.{AnyMark, Keeps};
 ghost use Rattle.psm_code.specs.Parts.{routine_at};
 ghost use Rattle.psm_code.specs.RoutineRules.{first_fault};
-ghost use Rattle.psm_code.specs.MachineInvariant.{AreKept};
+ghost use Rattle.psm_code.specs.MachineInvariant.{AreLawful};
 ghost use Rattle.psm_unwind.specs.Marks.{most_open};
 ghost use Rattle.psm_unwind.specs.View.{end_of};
 ghost use Rattle.psm_machine.specs.Running.{Takes};
@@ -35,10 +35,10 @@ pub(crate) fn call<S: Store>(
     requires well_formed_code { first_fault code.now ≡ None }
     requires numbered { All (λ r. IsTrue (is_numbered r.handlers)) code.now.routines }
     requires takes { Takes code.now routine values.now }
-    requires kept { AreKept code.now.tables (S.tables store.old) }
+    requires kept { AreLawful code.now (S.tables store.old) }
     requires few { S.marks store.old < most_open }
     ensures made { IfOk result (λ e. (committed : List Contents) → Makes code.now number (standing (S.tables store.old) turns.old committed) (commands.Call routine values.now) e.goes_on e.piece.items (standing (S.tables store.new) turns.new committed)) }
-    ensures kept { AreKept code.now.tables (S.tables store.new) }
+    ensures kept { AreLawful code.now (S.tables store.new) }
     ensures marks { S.marks store.new ≡ S.marks store.old }
     ensures keeps { Keeps AnyMark (S.holds store.old) (S.at store.old) (S.holds store.new) (S.at store.new) }
 {

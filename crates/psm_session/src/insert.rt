@@ -3,7 +3,7 @@ ghost use Rattle.std.specs.Prelude.{◌≡◌, ◌<◌, ℕ, true, IfOk, IsSome,
 ghost use Rattle.psm_table.specs.Table.{Contents};
 ghost use Rattle.psm_store.specs.Marks.{AnyMark, Keeps};
 ghost use Rattle.psm_code.specs.RoutineRules.{first_fault};
-ghost use Rattle.psm_code.specs.MachineInvariant.{AreKept};
+ghost use Rattle.psm_code.specs.MachineInvariant.{AreLawful};
 ghost use Rattle.psm_unwind.specs.Marks.{most_open};
 ghost use Rattle.psm_session.specs.Steps.{Makes, standing};
 ghost use Rattle.psm_session.specs.declared.command.ScriptCommand.TheVariants as commands;
@@ -27,10 +27,10 @@ pub(crate) fn insert<S: Store>(
 ) -> Result<Vec<u8>, AllocError>
     requires well_formed_code { first_fault code.now ≡ None }
     requires there { IsSome (slice_get code.now.tables table) }
-    requires kept { AreKept code.now.tables (S.tables store.old) }
+    requires kept { AreLawful code.now (S.tables store.old) }
     requires few { S.marks store.old < most_open }
     ensures made { IfOk result (λ piece. (turns : ℕ) (committed : List Contents) → Makes code.now number (standing (S.tables store.old) turns committed) (commands.Insert table columns.now rows.now) true piece.items (standing (S.tables store.new) turns committed)) }
-    ensures kept { AreKept code.now.tables (S.tables store.new) }
+    ensures kept { AreLawful code.now (S.tables store.new) }
     ensures marks { S.marks store.new ≡ S.marks store.old }
     ensures keeps { Keeps AnyMark (S.holds store.old) (S.at store.old) (S.holds store.new) (S.at store.new) }
 {

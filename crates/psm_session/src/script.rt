@@ -4,7 +4,7 @@ ghost use Rattle.psm_cond.specs.WellFormed.{is_numbered};
 ghost use Rattle.psm_table.specs.Table.{Contents};
 ghost use Rattle.psm_store.specs.Marks.{AnyMark, IsOutside, Keeps};
 ghost use Rattle.psm_code.specs.RoutineRules.{first_fault};
-ghost use Rattle.psm_code.specs.MachineInvariant.{AreKept};
+ghost use Rattle.psm_code.specs.MachineInvariant.{AreLawful};
 ghost use Rattle.psm_unwind.specs.Marks.{most_open};
 ghost use Rattle.psm_session.specs.Ends.{Ends, FitsCommand, beginning};
 ghost use Rattle.psm_session.specs.Put.{sunk_of};
@@ -52,10 +52,10 @@ pub fn run_script<S: Store, K: Sink>(
     requires well_formed_code { first_fault code.now ≡ None }
     requires numbered { All (λ r. IsTrue (is_numbered r.handlers)) code.now.routines }
     requires fits { All (FitsCommand code.now) script.now.commands }
-    requires kept { AreKept code.now.tables (S.tables store.old) }
+    requires kept { AreLawful code.now (S.tables store.old) }
     requires few { S.marks store.old + 2 < most_open }
     ensures ends { Ends code.now script.now.commands (beginning (S.tables store.old) turns.old) (sunk_of K.written K.faults out.old out.new) (S.tables store.new) turns.new result }
-    ensures kept { AreKept code.now.tables (S.tables store.new) }
+    ensures kept { AreLawful code.now (S.tables store.new) }
     ensures marks { S.marks store.new ≡ S.marks store.old }
     ensures keeps { Keeps AnyMark (S.holds store.old) (S.at store.old) (S.holds store.new) (S.at store.new) }
 {
@@ -101,13 +101,13 @@ fn run_commands<S: Store, K: Sink>(
     requires well_formed_code { first_fault code.now ≡ None }
     requires numbered { All (λ r. IsTrue (is_numbered r.handlers)) code.now.routines }
     requires fits { All (FitsCommand code.now) commands.now }
-    requires kept { AreKept code.now.tables (S.tables store.old) }
+    requires kept { AreLawful code.now (S.tables store.old) }
     requires few { S.marks store.old + 1 < most_open }
     requires held { S.holds store.old mark }
     requires counted { S.marks store.old ≡ mark.depth + 1 }
     requires stands { S.at store.old mark ≡ S.tables store.old }
     ensures ends { Ends code.now commands.now (beginning (S.tables store.old) turns.old) (sunk_of K.written K.faults out.old out.new) (S.tables store.new) turns.new result.0 }
-    ensures kept { AreKept code.now.tables (S.tables store.new) }
+    ensures kept { AreLawful code.now (S.tables store.new) }
     ensures marked { MarkedOr (S.holds store.old) mark (S.holds store.new) (S.marks store.new) result.1 }
     ensures keeps { Keeps (IsOutside mark) (S.holds store.old) (S.at store.old) (S.holds store.new) (S.at store.new) }
 {
@@ -148,14 +148,14 @@ fn run_command<S: Store, K: Sink>(
     requires well_formed_code { first_fault code.now ≡ None }
     requires numbered { All (λ r. IsTrue (is_numbered r.handlers)) code.now.routines }
     requires fits { FitsCommand code.now command.now }
-    requires kept { AreKept code.now.tables (S.tables store.old) }
+    requires kept { AreLawful code.now (S.tables store.old) }
     requires few { S.marks store.old + 1 < most_open }
     requires held { S.holds store.old mark.old }
     requires counted { S.marks store.old ≡ mark.old.depth + 1 }
-    requires committed { AreKept code.now.tables (S.at store.old mark.old) }
+    requires committed { AreLawful code.now (S.at store.old mark.old) }
     ensures comes { Comes code.now number (standing (S.tables store.old) turns.old (S.at store.old mark.old)) command.now (sunk_of K.written K.faults out.old out.new) (standing (S.tables store.new) turns.new (S.at store.new mark.new)) result }
-    ensures kept { AreKept code.now.tables (S.tables store.new) }
-    ensures committed { IfOk result (λ step. AreKept code.now.tables (S.at store.new mark.new)) }
+    ensures kept { AreLawful code.now (S.tables store.new) }
+    ensures committed { IfOk result (λ step. AreLawful code.now (S.at store.new mark.new)) }
     ensures marked { Marked (S.holds store.old) mark.old (S.holds store.new) (S.marks store.new) mark.new result }
     ensures keeps { Keeps (IsOutside mark.old) (S.holds store.old) (S.at store.old) (S.holds store.new) (S.at store.new) }
 {
@@ -176,10 +176,10 @@ fn show<S: Store, K: Sink>(
     requires well_formed_code { first_fault code.now ≡ None }
     requires numbered { All (λ r. IsTrue (is_numbered r.handlers)) code.now.routines }
     requires fits { FitsCommand code.now command.now }
-    requires kept { AreKept code.now.tables (S.tables store.old) }
+    requires kept { AreLawful code.now (S.tables store.old) }
     requires few { S.marks store.old + 1 < most_open }
     ensures shows { (committed : List Contents) → Closes code.now number (standing (S.tables store.old) turns.old committed) command.now (sunk_of K.written K.faults out.old out.new) (standing (S.tables store.new) turns.new committed) result }
-    ensures kept { AreKept code.now.tables (S.tables store.new) }
+    ensures kept { AreLawful code.now (S.tables store.new) }
     ensures marks { S.marks store.new ≡ S.marks store.old }
     ensures keeps { Keeps AnyMark (S.holds store.old) (S.at store.old) (S.holds store.new) (S.at store.new) }
 {
@@ -204,10 +204,10 @@ fn work_and_put<S: Store, K: Sink>(
     requires well_formed_code { first_fault code.now ≡ None }
     requires numbered { All (λ r. IsTrue (is_numbered r.handlers)) code.now.routines }
     requires fits { FitsCommand code.now command.now }
-    requires kept { AreKept code.now.tables (S.tables store.old) }
+    requires kept { AreLawful code.now (S.tables store.old) }
     requires few { S.marks store.old < most_open }
     ensures does { (committed : List Contents) → Does code.now number (standing (S.tables store.old) turns.old committed) command.now (sunk_of K.written K.faults out.old out.new) (standing (S.tables store.new) turns.new committed) result }
-    ensures kept { AreKept code.now.tables (S.tables store.new) }
+    ensures kept { AreLawful code.now (S.tables store.new) }
     ensures marks { S.marks store.new ≡ S.marks store.old }
     ensures keeps { Keeps AnyMark (S.holds store.old) (S.at store.old) (S.holds store.new) (S.at store.new) }
 {

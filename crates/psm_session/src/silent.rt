@@ -2,7 +2,7 @@
 ghost use Rattle.std.specs.Prelude.{◌≡◌, ◌+◌, ◌<◌, None, All, IfOk, IsTrue};
 ghost use Rattle.psm_cond.specs.WellFormed.{is_numbered};
 ghost use Rattle.psm_code.specs.RoutineRules.{first_fault};
-ghost use Rattle.psm_code.specs.MachineInvariant.{AreKept};
+ghost use Rattle.psm_code.specs.MachineInvariant.{AreLawful};
 ghost use Rattle.psm_unwind.specs.Marks.{most_open};
 ghost use Rattle.psm_session.specs.Ends.{EndsWith, FitsCommand, beginning};
 ghost use Rattle.psm_session.specs.Steps.{HasMark, Makes, standing, step_after};
@@ -40,7 +40,7 @@ pub fn run_silently<S: Store + Drop>(
     requires well_formed_code { first_fault code.now ≡ None }
     requires numbered { All (λ r. IsTrue (is_numbered r.handlers)) code.now.routines }
     requires fits { All (FitsCommand code.now) script.now.commands }
-    requires kept { AreKept code.now.tables (S.tables store) }
+    requires kept { AreLawful code.now (S.tables store) }
     requires few { S.marks store + 1 < most_open }
     ensures { IfOk result (λ e. EndsWith code.now script.now.commands (beginning (S.tables store) turns) e.last.goes_on e.last.piece.items e.turns) }
 {
@@ -68,7 +68,7 @@ fn run_commands<S: Store>(
     requires well_formed_code { first_fault code.now ≡ None }
     requires numbered { All (λ r. IsTrue (is_numbered r.handlers)) code.now.routines }
     requires fits { All (FitsCommand code.now) commands.now }
-    requires kept { AreKept code.now.tables (S.tables store.old) }
+    requires kept { AreLawful code.now (S.tables store.old) }
     requires few { S.marks store.old < most_open }
     requires held { S.holds store.old mark.old }
     requires counted { S.marks store.old ≡ mark.old.depth + 1 }
@@ -107,14 +107,14 @@ fn run_command<S: Store>(
     requires well_formed_code { first_fault code.now ≡ None }
     requires numbered { All (λ r. IsTrue (is_numbered r.handlers)) code.now.routines }
     requires fits { FitsCommand code.now command.now }
-    requires kept { AreKept code.now.tables (S.tables store.old) }
+    requires kept { AreLawful code.now (S.tables store.old) }
     requires few { S.marks store.old < most_open }
     requires held { S.holds store.old mark.old }
     requires counted { S.marks store.old ≡ mark.old.depth + 1 }
-    requires committed { AreKept code.now.tables (S.at store.old mark.old) }
+    requires committed { AreLawful code.now (S.at store.old mark.old) }
     ensures makes { IfOk result (λ e. Makes code.now number (standing (S.tables store.old) turns.old (S.at store.old mark.old)) command.now e.goes_on e.piece.items (standing (S.tables store.new) turns.new (S.at store.new mark.new))) }
-    ensures kept { IfOk result (λ e. AreKept code.now.tables (S.tables store.new)) }
-    ensures committed { IfOk result (λ e. AreKept code.now.tables (S.at store.new mark.new)) }
+    ensures kept { IfOk result (λ e. AreLawful code.now (S.tables store.new)) }
+    ensures committed { IfOk result (λ e. AreLawful code.now (S.at store.new mark.new)) }
     ensures marked { IfOk result (λ e. HasMark (S.holds store.new) (S.marks store.new) mark.old.depth mark.new) }
 {
     let end = work(alloc, code, number, command, store, turns)?;

@@ -4,7 +4,7 @@ ghost use Rattle.psm_cond.specs.WellFormed.{is_numbered};
 ghost use Rattle.psm_table.specs.Table.{Contents};
 ghost use Rattle.psm_store.specs.Marks.{AnyMark, Keeps};
 ghost use Rattle.psm_code.specs.RoutineRules.{first_fault};
-ghost use Rattle.psm_code.specs.MachineInvariant.{AreKept};
+ghost use Rattle.psm_code.specs.MachineInvariant.{AreLawful};
 ghost use Rattle.psm_unwind.specs.Marks.{most_open};
 ghost use Rattle.psm_session.specs.Ends.{FitsCommand};
 ghost use Rattle.psm_session.specs.Steps.{GoesOn, Makes, settled, standing};
@@ -32,10 +32,10 @@ pub(crate) fn work<S: Store>(
     requires well_formed_code { first_fault code.now ≡ None }
     requires numbered { All (λ r. IsTrue (is_numbered r.handlers)) code.now.routines }
     requires fits { FitsCommand code.now command.now }
-    requires kept { AreKept code.now.tables (S.tables store.old) }
+    requires kept { AreLawful code.now (S.tables store.old) }
     requires few { S.marks store.old < most_open }
     ensures made { IfOk result (λ e. (committed : List Contents) → Makes code.now number (standing (S.tables store.old) turns.old committed) command.now e.goes_on e.piece.items (settled command.now (standing (S.tables store.new) turns.new committed))) }
-    ensures kept { AreKept code.now.tables (S.tables store.new) }
+    ensures kept { AreLawful code.now (S.tables store.new) }
     ensures marks { S.marks store.new ≡ S.marks store.old }
     ensures keeps { Keeps AnyMark (S.holds store.old) (S.at store.old) (S.holds store.new) (S.at store.new) }
 {

@@ -8,6 +8,8 @@ use Rattle.psm_exprcode.specs.declared.query.Query.{Query}
 use Rattle.psm_table.specs.Changing.{Changed, Failure, OfTable, Schema, inserted as rows_inserted}
 use Rattle.psm_table.specs.Changing as changing
 use Rattle.psm_table.specs.Queries.{Answer, answer}
+use Rattle.psm_table.specs.declared.definition.ForeignKey.{ForeignKey}
+use Rattle.psm_table.specs.Keyed.{are_keyed_with, rows_in}
 use Rattle.psm_table.specs.Table.{Contents}
 use Rattle.psm_tablecode.specs.Codes as codes
 use Rattle.psm_tablecode.specs.NewRows.{new_row}
@@ -54,26 +56,31 @@ leaving-same m first s table c t u same (Err (changing.Raised state)) = refl
 leaving-same m first s table c t u same (Err (OfTable state)) = refl
 
 module _ (file : ResolvedFile) (well_typed : IsWellTyped file) (h turns : ℕ) (s : Standing) (tables : AreFilled file.tables s.tables) (left : s.turns ≤ turns) (first : List ℕ) (table : ℕ) (columns : List ℕ) (rows : List (List Datum))
-    (t : ResolvedTable) (there : slice_get file.tables table ≡ Some t) (u : CodeTable) (stands : TableStands t u) (c : Contents) (at : slice_get s.tables table ≡ Some c) where
+    (t : ResolvedTable) (there : slice_get file.tables table ≡ Some t) (u : CodeTable) (stands : TableStands t u) (c : Contents) (at : slice_get s.tables table ≡ Some c) (keys : List ForeignKey) (same_keys : keys ≡ file.keys) where
   abbrev m : Meaning
   m = meaning file h
+
+  -- whether these constraints hold among the tables with other rows in this one
+  abbrev keyed : List ForeignKey → List (List Datum) → Bool
+  keyed some = are_keyed_with some (rows_in s.tables) table
 
   -- after the table's definition and its rows
   abbrev with_schema : Schema ResolvedExpr → Option Contents → Act (List ℕ)
   with_schema x y = ◌>>◌ (◌>>=◌ (present y) (λ c. ◌>>=◌ (unless_failed x.def (rows_inserted plain_trees x (map (new_row x.def columns) rows) c.rows)) (λ n. leaves table c n.rows n.count))) (got ok_line)
 
-  schema-there : slice_get (map schema_of_tree file.tables) table ≡ Some (schema_of_tree t)
-  schema-there = slice_get-map schema_of_tree file.tables table ∙ ap (option_map schema_of_tree) there
+  schema-there : slice_get (map (schema_of_tree (keyed file.keys)) file.tables) table ≡ Some (schema_of_tree (keyed file.keys) t)
+  schema-there = slice_get-map (schema_of_tree (keyed file.keys)) file.tables table ∙ ap (option_map (schema_of_tree (keyed file.keys))) there
 
-  insert-same : run first s (inserted file table columns rows) m ≡ put_in first s table u c (rows_inserted plans.plain (plans.schema_of u) (map (new_row u.definition columns) rows) c.rows)
+  insert-same : run first s (inserted file table columns rows) m ≡ put_in first s table u c (rows_inserted plans.plain (plans.schema_of (keyed keys) u) (map (new_row u.definition columns) rows) c.rows)
   insert-same =
       let one = ap (λ x. run first s (◌>>◌ (◌>>=◌ (present x) (λ x. ◌>>=◌ (trees.table_now table) (λ c. ◌>>=◌ (unless_failed x.def (rows_inserted plain_trees x (map (new_row x.def columns) rows) c.rows)) (λ n. leaves table c n.rows n.count)))) (got ok_line)) m) schema-there in
-      let two = ap (λ y. run first s (with_schema (schema_of_tree t) y) m) at in
-      let three = ap (λ d. run first s (leaving table c t (rows_inserted plain_trees (schema_of_tree t) (map (new_row d columns) rows) c.rows)) m) (sym stands.definition) in
-      let four = ap (λ v. run first s (leaving table c t v) m) (sym (stands.inserts (map (new_row u.definition columns) rows) c.rows)) in
-      one ∙ two ∙ three ∙ four ∙ leaving-same m first s table c t u stands.definition (rows_inserted plans.plain (plans.schema_of u) (map (new_row u.definition columns) rows) c.rows)
+      let two = ap (λ y. run first s (with_schema (schema_of_tree (keyed file.keys) t) y) m) at in
+      let three = ap (λ d. run first s (leaving table c t (rows_inserted plain_trees (schema_of_tree (keyed file.keys) t) (map (new_row d columns) rows) c.rows)) m) (sym stands.definition) in
+      let four = ap (λ v. run first s (leaving table c t v) m) (sym (stands.inserts (keyed file.keys) (map (new_row u.definition columns) rows) c.rows)) in
+      let five = leaving-same m first s table c t u stands.definition (rows_inserted plans.plain (plans.schema_of (keyed file.keys) u) (map (new_row u.definition columns) rows) c.rows) in
+      one ∙ two ∙ three ∙ four ∙ five ∙ ap (λ some. put_in first s table u c (rows_inserted plans.plain (plans.schema_of (keyed some) u) (map (new_row u.definition columns) rows) c.rows)) (sym same_keys)
 
-  does-insert : Does file h turns first s (Insert table columns rows) (put_in first s table u c (rows_inserted plans.plain (plans.schema_of u) (map (new_row u.definition columns) rows) c.rows))
+  does-insert : Does file h turns first s (Insert table columns rows) (put_in first s table u c (rows_inserted plans.plain (plans.schema_of (keyed keys) u) (map (new_row u.definition columns) rows) c.rows))
   does-insert =
       let holds : Holds (outside file) m Anything (inserted file table columns rows) = holds-bind (holds-put_in table t columns rows there) (λ u w. holds-got ok_line tt) in
       let filled = holds.well (at_command s) (record { tables = tables; variables = refl; cursors = tt }) in
@@ -109,14 +116,14 @@ select-same m first s query coded q c at =
 module _ (file : ResolvedFile) (code : RawCode) (stands : FileStands file code) (well_typed : IsWellTyped file) (h turns : ℕ) (enough : fuel_for file turns ≤ h) (s : Standing) (tables : AreFilled file.tables s.tables) (left : s.turns ≤ turns) (first : List ℕ) where
   -- where both commands say the same
   does-named : (table other : ℕ) (columns places : List ℕ) (rows others : List (List Datum)) (u : CodeTable) (c : Contents) → table ≡ other → columns ≡ places → rows ≡ others → InsertStands file code table → slice_get code.tables other ≡ Some u → slice_get s.tables other ≡ Some c
-      → Does file h turns first s (Insert table columns rows) (put_in first s other u c (rows_inserted plans.plain (plans.schema_of u) (map (new_row u.definition places) others) c.rows))
+      → Does file h turns first s (Insert table columns rows) (put_in first s other u c (rows_inserted plans.plain (plans.schema_of (are_keyed_with code.keys (rows_in s.tables) other) u) (map (new_row u.definition places) others) c.rows))
   does-named table other columns places rows others u c e f g q at here =
       let command = ap (λ x. Insert x columns rows) e ∙ ap (λ x. Insert other x rows) f ∙ ap (λ x. Insert other places x) g in
       let there = subst (λ x. slice_get file.tables x ≡ Some q.named) e q.there in
       let coded = subst (λ x. slice_get code.tables x ≡ Some q.coded) e q.at in
       let stands = subst (λ x. TableStands q.named x) (same_Some q.coded u (sym coded ∙ at)) q.stands in
-      subst (λ x. Does file h turns first s x (put_in first s other u c (rows_inserted plans.plain (plans.schema_of u) (map (new_row u.definition places) others) c.rows))) (sym command)
-      (does-insert file well_typed h turns s tables left first other places others q.named there u stands c here)
+      subst (λ x. Does file h turns first s x (put_in first s other u c (rows_inserted plans.plain (plans.schema_of (are_keyed_with code.keys (rows_in s.tables) other) u) (map (new_row u.definition places) others) c.rows))) (sym command)
+      (does-insert file well_typed h turns s tables left first other places others q.named there u stands c here code.keys q.keys)
 
   executes-does : (c : Command) (d : ScriptCommand) (p : CommandResult) → CommandStands file code c d → Executes code first s d p → Does file h turns first s c p
   executes-does (Call procedure values) (commands.Call n others) p q (going.call {r = r} {end = end} {last = last} at ran) =

@@ -37,6 +37,7 @@ pub record InsertStands (file : ResolvedFile) (code : RawCode) (table : ℕ) : T
   pub there : slice_get file.tables table ≡ Some named
   pub at : slice_get code.tables table ≡ Some coded
   pub stands : TableStands named coded
+  pub keys : code.keys ≡ file.keys
 
 -- a query whose expressions are of letters, and which sees no variable
 pub record SelectStands (query : ResolvedQuery) (coded : Query) : Type 0 where

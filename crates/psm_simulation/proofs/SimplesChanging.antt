@@ -35,7 +35,7 @@ use Rattle.psm_code.specs.Run as code_rows
 use Rattle.psm_code.specs.State.{Stepped}
 use Rattle.psm_code.specs.Steps as steps
 use Rattle.psm_simulation.specs.Agreement.{Evaluates, IsReady, Leads, Spot, areas, machine, owns}
-use Rattle.psm_simulation.specs.Changes.{IsDelete, IsUpdate, PutsRows, SameTable, TablesStand}
+use Rattle.psm_simulation.specs.Changes.{IsDelete, IsUpdate, PutsRows, SameAt, TablesStand}
 use Rattle.psm_simulation.specs.Env.{Env, Raising, eval_context_of}
 use Rattle.psm_simulation.specs.Expressions.{IsQuery, stacked}
 use Rattle.psm_simulation.specs.Scheme.{Simple}
@@ -111,7 +111,7 @@ inserting code table columns count came =
     let fall_through = steps.go_on put.given (λ u. steps.got code_rows.fall_through) put.machine in
     code_rows.settled code fall_through.given fall_through.machine
 
-evals-put : (file : ResolvedFile) {code : RawCode} {r : RawRoutine} {k following : ℕ} {spot : Spot} {m : Meaning} → routine_at code spot.number ≡ Some r → (table : ℕ) (columns : List ℕ) (rows : List (List Datum)) (count : ℕ) {pc n : ℕ} → SameTable (slice_get file.tables table) (slice_get code.tables table)
+evals-put : (file : ResolvedFile) {code : RawCode} {r : RawRoutine} {k following : ℕ} {spot : Spot} {m : Meaning} → routine_at code spot.number ≡ Some r → (table : ℕ) (columns : List ℕ) (rows : List (List Datum)) (count : ℕ) {pc n : ℕ} → SameAt file code table
     → length rows ≡ count → AreWide (length columns) rows → Raising r k following pc (instruction.Data n) → slice_get r.plans n ≡ Some (plan_of.Insert table columns count)
     → Evals code r k following spot m (meaning.put_in file table columns rows) (at_line spot pc (stacked_rows rows [])) (λ u. at_line spot (suc pc) [])
 evals-put file {code = code} {r = r} {k = k} {following = following} {spot = spot} {m = m} p table columns rows count {pc = pc} {n = n} same many wide l there = record {
@@ -130,14 +130,14 @@ evals-put file {code = code} {r = r} {k = k} {following = following} {spot = spo
       (put-evaluates code r k following spot m pc (instruction.Data n) l file table same columns rows st d);
 }
 
-some-evaluates : (file : ResolvedFile) (code : RawCode) (r : RawRoutine) (k following : ℕ) (spot : Spot) (m : Meaning) (pc n : ℕ) → Raising r k following pc (instruction.Data n) → (table : ℕ) (columns : List ℕ) → SameTable (slice_get file.tables table) (slice_get code.tables table)
+some-evaluates : (file : ResolvedFile) (code : RawCode) (r : RawRoutine) (k following : ℕ) (spot : Spot) (m : Meaning) (pc n : ℕ) → Raising r k following pc (instruction.Data n) → (table : ℕ) (columns : List ℕ) → SameAt file code table
     → (st : State) → IsReady code spot st → (rows : List (List Datum))
     → Evaluates code r k following spot (after_line code (steps.◌>>=◌ (plans.some_rows rows) (plans.put_in code table columns)) (machine spot pc [] st)) (λ u. at_line spot (suc pc) [])
     (acts.◌>>=◌ (meaning.some_rows rows) (meaning.put_in file table columns) m st).given (acts.◌>>=◌ (meaning.some_rows rows) (meaning.put_in file table columns) m st).state
 some-evaluates file code r k following spot m pc n l table columns same st d [] = (record { pc = pc; operands = []; pending = None; line = _; there = l.there; context = refl; resume = refl; leads = leads-here }, d)
 some-evaluates file code r k following spot m pc n l table columns same st d (row ∷ rows) = put-evaluates code r k following spot m pc (instruction.Data n) l file table same columns (row ∷ rows) st d
 
-evals-put_query : (file : ResolvedFile) {code : RawCode} {r : RawRoutine} {k following : ℕ} {spot : Spot} {m : Meaning} → routine_at code spot.number ≡ Some r → (table : ℕ) (columns : List ℕ) (query : ResolvedQuery) (q : ℕ) {pc n : ℕ} → SameTable (slice_get file.tables table) (slice_get code.tables table)
+evals-put_query : (file : ResolvedFile) {code : RawCode} {r : RawRoutine} {k following : ℕ} {spot : Spot} {m : Meaning} → routine_at code spot.number ≡ Some r → (table : ℕ) (columns : List ℕ) (query : ResolvedQuery) (q : ℕ) {pc n : ℕ} → SameAt file code table
     → IsQuery r q query → Raising r k following pc (instruction.Data n) → slice_get r.plans n ≡ Some (plan_of.InsertQuery table columns q)
     → Evals code r k following spot m (acts.◌>>=◌ (meaning.rows_given (given.Query query)) (meaning.put_in file table columns)) (at_line spot pc []) (λ u. at_line spot (suc pc) [])
 evals-put_query file {code = code} {r = r} {k = k} {following = following} {spot = spot} {m = m} p table columns query q {pc = pc} {n = n} same is l there =
@@ -161,7 +161,7 @@ does-insert {file = file} site same table columns (given.Query query) (n, q, cle
 -- ---- UPDATE
 
 evals-update : (file : ResolvedFile) {code : RawCode} {r : RawRoutine} {k following : ℕ} {spot : Spot} {m : Meaning} → routine_at code spot.number ≡ Some r → (table : ℕ) (sets : List ResolvedSet) (test : Option ResolvedExpr) (coded : List SetItem) (coded_test : Option (List Line)) {pc n : ℕ}
-    → SameTable (slice_get file.tables table) (slice_get code.tables table) → IsUpdate file code table sets test coded coded_test → Raising r k following pc (instruction.Data n) → slice_get r.plans n ≡ Some (plan_of.Update table coded coded_test)
+    → SameAt file code table → IsUpdate file code table sets test coded coded_test → Raising r k following pc (instruction.Data n) → slice_get r.plans n ≡ Some (plan_of.Update table coded coded_test)
     → Evals code r k following spot m (meaning.update_rows file table sets test) (at_line spot pc []) (λ u. at_line spot (suc pc) [])
 evals-update file {code = code} {r = r} {k = k} {following = following} {spot = spot} {m = m} p table sets test coded coded_test {pc = pc} {n = n} same is l there = record {
   by = λ st d. let act = meaning.update_rows file table sets test in
@@ -183,7 +183,7 @@ does-update {file = file} {routine = routine} {env = env} {spot = spot} site sam
 -- ---- DELETE
 
 evals-delete : (file : ResolvedFile) {code : RawCode} {r : RawRoutine} {k following : ℕ} {spot : Spot} {m : Meaning} → routine_at code spot.number ≡ Some r → (table : ℕ) (test : Option ResolvedExpr) (coded_test : Option (List Line)) {pc n : ℕ}
-    → SameTable (slice_get file.tables table) (slice_get code.tables table) → IsDelete file code table test coded_test → Raising r k following pc (instruction.Data n) → slice_get r.plans n ≡ Some (plan_of.Delete table coded_test)
+    → SameAt file code table → IsDelete file code table test coded_test → Raising r k following pc (instruction.Data n) → slice_get r.plans n ≡ Some (plan_of.Delete table coded_test)
     → Evals code r k following spot m (meaning.delete_rows file table test) (at_line spot pc []) (λ u. at_line spot (suc pc) [])
 evals-delete file {code = code} {r = r} {k = k} {following = following} {spot = spot} {m = m} p table test coded_test {pc = pc} {n = n} same is l there = record {
   by = λ st d. let act = meaning.delete_rows file table test in

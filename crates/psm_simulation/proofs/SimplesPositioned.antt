@@ -35,7 +35,7 @@ use Rattle.psm_code.specs.Plans as plans
 use Rattle.psm_code.specs.Querying as coded
 use Rattle.psm_code.specs.Steps as steps
 use Rattle.psm_simulation.specs.Agreement.{Evaluates, IsReady, Spot, machine, owns}
-use Rattle.psm_simulation.specs.Changes.{IsDeleteAt, IsOver, IsUpdateAt, SameTable, TableStands}
+use Rattle.psm_simulation.specs.Changes.{IsDeleteAt, IsOver, IsUpdateAt, SameAt, TableStands}
 use Rattle.psm_simulation.specs.Cursors.{IsCursor}
 use Rattle.psm_simulation.specs.Env.{Raising}
 use Rattle.psm_simulation.specs.Simulation.{Evals}
@@ -43,7 +43,7 @@ use Rattle.psm_simulation.proofs.Doing.{at_line}
 use Rattle.psm_simulation.proofs.Evaluating.{evaluates-from}
 use Rattle.psm_simulation.proofs.Moving.{deep-set}
 use Rattle.psm_simulation.proofs.Runs.{after_line, leads-here}
-use Rattle.psm_simulation.proofs.SimplesTables.{leads-plan, same-evaluates, table-evaluates}
+use Rattle.psm_simulation.proofs.SimplesTables.{keyed_in, leads-plan, same-evaluates, table-evaluates}
 
 module _ (code : RawCode) (r : RawRoutine) (k following : ℕ) (spot : Spot) (m : Meaning) (pc : ℕ) (i : Instruction) (l : Raising r k following pc i) (x : ResolvedCursor) (is : IsCursor r x) (owned : owns spot.standing x.number ≡ true) where
   abbrev Agrees : steps.Act (Unit {0}) → acts.Act (Unit {0}) → State → Type 0
@@ -120,21 +120,21 @@ module _ (code : RawCode) (r : RawRoutine) (k following : ℕ) (spot : Spot) (m 
   update_meant table sets s t y = acts.◌>>=◌ (cursors.cursor_now x.number) (λ c. acts.◌>>=◌ (meaning.row_of_cursor y t c) (update_row_meant table sets s t y c))
 
   update-row-evaluates : (file : ResolvedFile) (table : ℕ) (sets : List ResolvedSet) (items : List SetItem) → IsUpdateAt file code table sets items → (a : ResolvedTable) (b : CodeTable) → slice_get file.tables table ≡ Some a → slice_get code.tables table ≡ Some b → TableStands a b
-      → (t : Contents) (st : State) → IsReady code spot st → (c : Cursor) (row : List Datum) → Agrees (update_row table items (plans.schema_of b) t c row) (update_row_meant table sets (meaning.schema_of a) t x c row) st
-  update-row-evaluates file table sets items u a b p q e t st d c row =
+      → (keyed : List (List Datum) → Bool) (t : Contents) (st : State) → IsReady code spot st → (c : Cursor) (row : List Datum) → Agrees (update_row table items (plans.schema_of keyed b) t c row) (update_row_meant table sets (meaning.schema_of keyed a) t x c row) st
+  update-row-evaluates file table sets items u a b p q e keyed t st d c row =
       let thens : Moved → steps.Act (Unit {0}) = λ moved. steps.◌>>◌ (plans.leaves table t moved.rows 1) (plans.leave_row moved.moved x.number c) in
       let means : Moved → acts.Act (Unit {0}) = λ moved. acts.◌>>◌ (meaning.leaves table t moved.rows 1) (meaning.leave_row moved.moved x c) in
       same-evaluates code r k following spot m pc i l thens means (λ st d moved. left-evaluates moved.moved c (meaning.leaves table t moved.rows 1 m st).state d) st d b.definition a.definition e.definition
-      (updated_at (row_codes.over st.variables) plans.plain (plans.schema_of b) (map plans.set_item items) row t.rows) (updated_at (trees.over st.variables) meaning.plain (meaning.schema_of a) (map meaning.set_item sets) row t.rows) (u.same a b p q st.variables row t.rows)
+      (updated_at (row_codes.over st.variables) plans.plain (plans.schema_of keyed b) (map plans.set_item items) row t.rows) (updated_at (trees.over st.variables) meaning.plain (meaning.schema_of keyed a) (map meaning.set_item sets) row t.rows) (u.same a b p q keyed st.variables row t.rows)
 
-  update-evaluates : (file : ResolvedFile) (eval_context : EvalContext) (table : ℕ) (sets : List ResolvedSet) (items : List SetItem) → SameTable (slice_get file.tables table) (slice_get code.tables table) → find (λ y. nat_eq y.number x.number) eval_context.cursors ≡ Some x → IsOver x table
+  update-evaluates : (file : ResolvedFile) (eval_context : EvalContext) (table : ℕ) (sets : List ResolvedSet) (items : List SetItem) → SameAt file code table → find (λ y. nat_eq y.number x.number) eval_context.cursors ≡ Some x → IsOver x table
       → IsUpdateAt file code table sets items → (st : State) → IsReady code spot st → Agrees (plans.update_at code r x.number items) (meaning.update_at file eval_context table sets x.number) st
   update-evaluates file eval_context table sets items s first over u st d =
       let go : ℕ → CodeCursor → steps.Act (Unit {0}) = λ n y. steps.◌>>=◌ (plans.schema_at code n) (λ s. steps.◌>>=◌ (steps.table_now n) (update_coded items n y s)) in
       over-evaluates table over go (meaning.update_at file eval_context table sets x.number) st
       (table-evaluates code r k following spot m pc i l file table (update_coded items table is.code) (λ s t. seen_in eval_context.cursors (update_meant table sets s t)) st d s (λ a b p q e t.
-      seen-evaluates eval_context.cursors first (update_coded items table is.code (plans.schema_of b) t) (update_meant table sets (meaning.schema_of a) t) st
-      (row-evaluates t (update_row table items (plans.schema_of b) t) (update_row_meant table sets (meaning.schema_of a) t x) st d (update-row-evaluates file table sets items u a b p q e t st d) (slice_get st.cursors x.number))))
+      seen-evaluates eval_context.cursors first (update_coded items table is.code (plans.schema_of (keyed_in code r k following spot m pc i l file.keys table st) b) t) (update_meant table sets (meaning.schema_of (keyed_in code r k following spot m pc i l file.keys table st) a) t) st
+      (row-evaluates t (update_row table items (plans.schema_of (keyed_in code r k following spot m pc i l file.keys table st) b) t) (update_row_meant table sets (meaning.schema_of (keyed_in code r k following spot m pc i l file.keys table st) a) t x) st d (update-row-evaluates file table sets items u a b p q e (keyed_in code r k following spot m pc i l file.keys table st) t st d) (slice_get st.cursors x.number))))
 
   -- ---- DELETE
 
@@ -151,27 +151,27 @@ module _ (code : RawCode) (r : RawRoutine) (k following : ℕ) (spot : Spot) (m 
   delete_meant table s t y = acts.◌>>=◌ (cursors.cursor_now x.number) (λ c. acts.◌>>=◌ (meaning.row_of_cursor y t c) (delete_row_meant table s t y c))
 
   delete-row-evaluates : (file : ResolvedFile) (table : ℕ) → IsDeleteAt file code table → (a : ResolvedTable) (b : CodeTable) → slice_get file.tables table ≡ Some a → slice_get code.tables table ≡ Some b → TableStands a b
-      → (t : Contents) (st : State) → IsReady code spot st → (c : Cursor) (row : List Datum) → Agrees (delete_row table (plans.schema_of b) t c row) (delete_row_meant table (meaning.schema_of a) t x c row) st
-  delete-row-evaluates file table u a b p q e t st d c row =
+      → (keyed : List (List Datum) → Bool) (t : Contents) (st : State) → IsReady code spot st → (c : Cursor) (row : List Datum) → Agrees (delete_row table (plans.schema_of keyed b) t c row) (delete_row_meant table (meaning.schema_of keyed a) t x c row) st
+  delete-row-evaluates file table u a b p q e keyed t st d c row =
       let thens : List (List Datum) → steps.Act (Unit {0}) = λ rows. steps.◌>>◌ (plans.leaves table t rows 1) (plans.leave_row true x.number c) in
       let means : List (List Datum) → acts.Act (Unit {0}) = λ rows. acts.◌>>◌ (meaning.leaves table t rows 1) (meaning.leave_row true x c) in
       same-evaluates code r k following spot m pc i l thens means (λ st d rows. left-evaluates true c (meaning.leaves table t rows 1 m st).state d) st d b.definition a.definition e.definition
-      (deleted_at plans.plain (plans.schema_of b) row t.rows) (deleted_at meaning.plain (meaning.schema_of a) row t.rows) (u.same a b p q row t.rows)
+      (deleted_at plans.plain (plans.schema_of keyed b) row t.rows) (deleted_at meaning.plain (meaning.schema_of keyed a) row t.rows) (u.same a b p q keyed row t.rows)
 
-  delete-evaluates : (file : ResolvedFile) (eval_context : EvalContext) (table : ℕ) → SameTable (slice_get file.tables table) (slice_get code.tables table) → find (λ y. nat_eq y.number x.number) eval_context.cursors ≡ Some x → IsOver x table
+  delete-evaluates : (file : ResolvedFile) (eval_context : EvalContext) (table : ℕ) → SameAt file code table → find (λ y. nat_eq y.number x.number) eval_context.cursors ≡ Some x → IsOver x table
       → IsDeleteAt file code table → (st : State) → IsReady code spot st → Agrees (plans.delete_at code r x.number) (meaning.delete_at file eval_context table x.number) st
   delete-evaluates file eval_context table s first over u st d =
       let go : ℕ → CodeCursor → steps.Act (Unit {0}) = λ n y. steps.◌>>=◌ (plans.schema_at code n) (λ s. steps.◌>>=◌ (steps.table_now n) (delete_coded n y s)) in
       over-evaluates table over go (meaning.delete_at file eval_context table x.number) st
       (table-evaluates code r k following spot m pc i l file table (delete_coded table is.code) (λ s t. seen_in eval_context.cursors (delete_meant table s t)) st d s (λ a b p q e t.
-      seen-evaluates eval_context.cursors first (delete_coded table is.code (plans.schema_of b) t) (delete_meant table (meaning.schema_of a) t) st
-      (row-evaluates t (delete_row table (plans.schema_of b) t) (delete_row_meant table (meaning.schema_of a) t x) st d (delete-row-evaluates file table u a b p q e t st d) (slice_get st.cursors x.number))))
+      seen-evaluates eval_context.cursors first (delete_coded table is.code (plans.schema_of (keyed_in code r k following spot m pc i l file.keys table st) b) t) (delete_meant table (meaning.schema_of (keyed_in code r k following spot m pc i l file.keys table st) a) t) st
+      (row-evaluates t (delete_row table (plans.schema_of (keyed_in code r k following spot m pc i l file.keys table st) b) t) (delete_row_meant table (meaning.schema_of (keyed_in code r k following spot m pc i l file.keys table st) a) t x) st d (delete-row-evaluates file table u a b p q e (keyed_in code r k following spot m pc i l file.keys table st) t st d) (slice_get st.cursors x.number))))
 
 -- ---- the line of a positioned statement
 
 module _ (file : ResolvedFile) {code : RawCode} {r : RawRoutine} {k following : ℕ} {spot : Spot} {m : Meaning} (eval_context : EvalContext) (at : routine_at code spot.number ≡ Some r) where
   pub evals-update_at : (table : ℕ) (sets : List ResolvedSet) (items : List SetItem) (number : ℕ) (x : ResolvedCursor) → IsCursor r x → x.number ≡ number → owns spot.standing x.number ≡ true → find (λ y. nat_eq y.number number) eval_context.cursors ≡ Some x → IsOver x table
-      → SameTable (slice_get file.tables table) (slice_get code.tables table) → IsUpdateAt file code table sets items → {pc n : ℕ} → Raising r k following pc (instruction.Data n) → slice_get r.plans n ≡ Some (plan_of.UpdateAt number items)
+      → SameAt file code table → IsUpdateAt file code table sets items → {pc n : ℕ} → Raising r k following pc (instruction.Data n) → slice_get r.plans n ≡ Some (plan_of.UpdateAt number items)
       → Evals code r k following spot m (meaning.update_at file eval_context table sets number) (at_line spot pc []) (λ u. at_line spot (suc pc) [])
   evals-update_at table sets items number x is e owned first over s u {pc = pc} {n = n} l there =
       let by_number : find (λ y. nat_eq y.number x.number) eval_context.cursors ≡ Some x → slice_get r.plans n ≡ Some (plan_of.UpdateAt x.number items) → Evals code r k following spot m (meaning.update_at file eval_context table sets x.number) (at_line spot pc []) (λ u. at_line spot (suc pc) [])
@@ -183,7 +183,7 @@ module _ (file : ResolvedFile) {code : RawCode} {r : RawRoutine} {k following : 
       subst (λ q. find (λ y. nat_eq y.number q) eval_context.cursors ≡ Some x → slice_get r.plans n ≡ Some (plan_of.UpdateAt q items) → Evals code r k following spot m (meaning.update_at file eval_context table sets q) (at_line spot pc []) (λ u. at_line spot (suc pc) [])) e by_number first there
 
   pub evals-delete_at : (table number : ℕ) (x : ResolvedCursor) → IsCursor r x → x.number ≡ number → owns spot.standing x.number ≡ true → find (λ y. nat_eq y.number number) eval_context.cursors ≡ Some x → IsOver x table
-      → SameTable (slice_get file.tables table) (slice_get code.tables table) → IsDeleteAt file code table
+      → SameAt file code table → IsDeleteAt file code table
       → {pc n : ℕ} → Raising r k following pc (instruction.Data n) → slice_get r.plans n ≡ Some (plan_of.DeleteAt number) → Evals code r k following spot m (meaning.delete_at file eval_context table number) (at_line spot pc []) (λ u. at_line spot (suc pc) [])
   evals-delete_at table number x is e owned first over s u {pc = pc} {n = n} l there =
       let by_number : find (λ y. nat_eq y.number x.number) eval_context.cursors ≡ Some x → slice_get r.plans n ≡ Some (plan_of.DeleteAt x.number) → Evals code r k following spot m (meaning.delete_at file eval_context table x.number) (at_line spot pc []) (λ u. at_line spot (suc pc) [])

@@ -6,6 +6,8 @@ use Rattle.psm_exprcode.specs.declared.op.Line.{Line}
 use Rattle.psm_exprcode.specs.declared.operand.Operand.{Operand}
 use Rattle.psm_exprcode.specs.declared.set_item.SetItem.{SetItem}
 use Rattle.psm_table.specs.Changing.{Changed, Failure, Raised, OfTable, Schema, deleted, inserted, updated}
+use Rattle.psm_table.specs.declared.definition.ForeignKey.{ForeignKey}
+use Rattle.psm_table.specs.Keyed.{are_keyed_with, rows_in}
 use Rattle.psm_table.specs.Table.{Contents}
 use Rattle.psm_table.specs.declared.definition.TableDef.{TableDef}
 use Rattle.psm_tablecode.specs.Codes as codes
@@ -29,7 +31,7 @@ use Rattle.psm_code.specs.Parts.{routine_at}
 use Rattle.psm_code.specs.Plans as plans
 use Rattle.psm_code.specs.Steps as steps
 use Rattle.psm_simulation.specs.Agreement.{Evaluates, IsReady, Leads, Spot, machine}
-use Rattle.psm_simulation.specs.Changes.{IsDelete, IsUpdate, SameTable, TableStands}
+use Rattle.psm_simulation.specs.Changes.{IsDelete, IsUpdate, SameAt, SameTable, TableStands}
 use Rattle.psm_simulation.specs.Env.{Raising}
 use Rattle.psm_simulation.proofs.Doing.{at_line}
 use Rattle.psm_simulation.proofs.Runs.{after_line, leads-here, leads-line, leads-same}
@@ -95,39 +97,51 @@ module _ (code : RawCode) (r : RawRoutine) (k following : ℕ) (spot : Spot) (m 
   found-evaluates coded meant st d h None = tt
   found-evaluates coded meant st d h (Some c) = h c
 
-  schema-evaluates : (table : ℕ) (coded : Coded) (meant : Meant) (st : State) → IsReady code spot st → (t : Option ResolvedTable) (u : Option CodeTable) → SameTable t u
-      → ((x : ResolvedTable) (y : CodeTable) → t ≡ Some x → u ≡ Some y → TableStands x y → (c : Contents) → Agrees (coded (plans.schema_of y) c) (meant (meaning.schema_of x) c) st)
-      → Agrees (coded_over table coded (option_map plans.schema_of u)) (meant_over table meant (option_map meaning.schema_of t)) st
-  schema-evaluates table coded meant st d None None s h = tt
-  schema-evaluates table coded meant st d None (Some y) s h = absurd s
-  schema-evaluates table coded meant st d (Some x) None s h = absurd s
-  schema-evaluates table coded meant st d (Some x) (Some y) s h = found-evaluates (coded (plans.schema_of y)) (meant (meaning.schema_of x)) st d (h x y refl refl s) (slice_get st.tables table)
+  schema-evaluates : (table : ℕ) (keyed : List (List Datum) → Bool) (coded : Coded) (meant : Meant) (st : State) → IsReady code spot st → (t : Option ResolvedTable) (u : Option CodeTable) → SameTable t u
+      → ((x : ResolvedTable) (y : CodeTable) → t ≡ Some x → u ≡ Some y → TableStands x y → (c : Contents) → Agrees (coded (plans.schema_of keyed y) c) (meant (meaning.schema_of keyed x) c) st)
+      → Agrees (coded_over table coded (option_map (plans.schema_of keyed) u)) (meant_over table meant (option_map (meaning.schema_of keyed) t)) st
+  schema-evaluates table keyed coded meant st d None None s h = tt
+  schema-evaluates table keyed coded meant st d None (Some y) s h = absurd s
+  schema-evaluates table keyed coded meant st d (Some x) None s h = absurd s
+  schema-evaluates table keyed coded meant st d (Some x) (Some y) s h = found-evaluates (coded (plans.schema_of keyed y)) (meant (meaning.schema_of keyed x)) st d (h x y refl refl s) (slice_get st.tables table)
 
-  pub table-evaluates : (file : ResolvedFile) (table : ℕ) (coded : Coded) (meant : Meant) (st : State) → IsReady code spot st → SameTable (slice_get file.tables table) (slice_get code.tables table)
-      → ((x : ResolvedTable) (y : CodeTable) → slice_get file.tables table ≡ Some x → slice_get code.tables table ≡ Some y → TableStands x y → (c : Contents) → Agrees (coded (plans.schema_of y) c) (meant (meaning.schema_of x) c) st)
-      → Agrees (coded_over table coded (slice_get (map plans.schema_of code.tables) table)) (meant_over table meant (slice_get (map meaning.schema_of file.tables) table)) st
+  at-evaluates : (file : ResolvedFile) (table : ℕ) (keyed : List (List Datum) → Bool) (coded : Coded) (meant : Meant) (st : State) → IsReady code spot st → SameTable (slice_get file.tables table) (slice_get code.tables table)
+      → ((x : ResolvedTable) (y : CodeTable) → slice_get file.tables table ≡ Some x → slice_get code.tables table ≡ Some y → TableStands x y → (c : Contents) → Agrees (coded (plans.schema_of keyed y) c) (meant (meaning.schema_of keyed x) c) st)
+      → Agrees (coded_over table coded (slice_get (map (plans.schema_of keyed) code.tables) table)) (meant_over table meant (slice_get (map (meaning.schema_of keyed) file.tables) table)) st
+  at-evaluates file table keyed coded meant st d s h =
+      subst (λ x. Agrees (coded_over table coded x) (meant_over table meant (slice_get (map (meaning.schema_of keyed) file.tables) table)) st) (sym (slice_get-map (plans.schema_of keyed) code.tables table))
+      (subst (λ x. Agrees (coded_over table coded (option_map (plans.schema_of keyed) (slice_get code.tables table))) (meant_over table meant x) st) (sym (slice_get-map (meaning.schema_of keyed) file.tables table))
+      (schema-evaluates table keyed coded meant st d (slice_get file.tables table) (slice_get code.tables table) s h))
+
+  -- whether the constraints hold among the tables of now with other rows in one
+  abbrev pub keyed_in : List ForeignKey → ℕ → State → List (List Datum) → Bool
+  keyed_in keys table st = are_keyed_with keys (rows_in st.tables) table
+
+  pub table-evaluates : (file : ResolvedFile) (table : ℕ) (coded : Coded) (meant : Meant) (st : State) → IsReady code spot st → SameAt file code table
+      → ((x : ResolvedTable) (y : CodeTable) → slice_get file.tables table ≡ Some x → slice_get code.tables table ≡ Some y → TableStands x y → (c : Contents)
+      → Agrees (coded (plans.schema_of (keyed_in file.keys table st) y) c) (meant (meaning.schema_of (keyed_in file.keys table st) x) c) st)
+      → Agrees (coded_over table coded (slice_get (map (plans.schema_of (keyed_in code.keys table st)) code.tables) table)) (meant_over table meant (slice_get (map (meaning.schema_of (keyed_in file.keys table st)) file.tables) table)) st
   table-evaluates file table coded meant st d s h =
-      subst (λ x. Agrees (coded_over table coded x) (meant_over table meant (slice_get (map meaning.schema_of file.tables) table)) st) (sym (slice_get-map plans.schema_of code.tables table))
-      (subst (λ x. Agrees (coded_over table coded (option_map plans.schema_of (slice_get code.tables table))) (meant_over table meant x) st) (sym (slice_get-map meaning.schema_of file.tables table))
-      (schema-evaluates table coded meant st d (slice_get file.tables table) (slice_get code.tables table) s h))
+      subst (λ keys. Agrees (coded_over table coded (slice_get (map (plans.schema_of (keyed_in keys table st)) code.tables) table)) (meant_over table meant (slice_get (map (meaning.schema_of (keyed_in file.keys table st)) file.tables) table)) st) (sym s.0)
+      (at-evaluates file table (keyed_in file.keys table st) coded meant st d s.1 h)
 
   -- ---- INSERT
 
-  insert-evaluates : (table : ℕ) (columns : List ℕ) (rows : List (List Datum)) (st : State) → IsReady code spot st → (x : ResolvedTable) (y : CodeTable) → TableStands x y → (c : Contents)
-      → Agrees (insert_coded table columns rows (plans.schema_of y) c) (insert_meant table columns rows (meaning.schema_of x) c) st
-  insert-evaluates table columns rows st d x y s c =
-      let act = insert_meant table columns rows (meaning.schema_of x) c in
+  insert-evaluates : (table : ℕ) (columns : List ℕ) (rows : List (List Datum)) (st : State) → IsReady code spot st → (keyed : List (List Datum) → Bool) (x : ResolvedTable) (y : CodeTable) → TableStands x y → (c : Contents)
+      → Agrees (insert_coded table columns rows (plans.schema_of keyed y) c) (insert_meant table columns rows (meaning.schema_of keyed x) c) st
+  insert-evaluates table columns rows st d keyed x y s c =
+      let act = insert_meant table columns rows (meaning.schema_of keyed x) c in
       let thens : Changed → steps.Act (Unit {0}) = λ q. plans.leaves table c q.rows q.count in
       let means : Changed → Act (Unit {0}) = λ q. meaning.leaves table c q.rows q.count in
       let new : TableDef → List (List Datum) = λ def. map (new_row def columns) rows in
-      subst (λ def. Agrees (steps.◌>>=◌ (plans.unless_failed def (inserted plans.plain (plans.schema_of y) (new def) c.rows)) thens) act st) (sym s.definition)
-      (subst (λ q. Agrees (steps.◌>>=◌ (plans.unless_failed x.definition q) thens) act st) (sym (s.inserts (new x.definition) c.rows))
-      (failed-evaluates thens means (λ st d q. (leads-here, d)) st d x.definition (inserted meaning.plain (meaning.schema_of x) (new x.definition) c.rows)))
+      subst (λ def. Agrees (steps.◌>>=◌ (plans.unless_failed def (inserted plans.plain (plans.schema_of keyed y) (new def) c.rows)) thens) act st) (sym s.definition)
+      (subst (λ q. Agrees (steps.◌>>=◌ (plans.unless_failed x.definition q) thens) act st) (sym (s.inserts keyed (new x.definition) c.rows))
+      (failed-evaluates thens means (λ st d q. (leads-here, d)) st d x.definition (inserted meaning.plain (meaning.schema_of keyed x) (new x.definition) c.rows)))
 
-  pub put-evaluates : (file : ResolvedFile) (table : ℕ) → SameTable (slice_get file.tables table) (slice_get code.tables table) → (columns : List ℕ) (rows : List (List Datum)) (st : State) → IsReady code spot st
+  pub put-evaluates : (file : ResolvedFile) (table : ℕ) → SameAt file code table → (columns : List ℕ) (rows : List (List Datum)) (st : State) → IsReady code spot st
       → Agrees (plans.put_in code table columns rows) (meaning.put_in file table columns rows) st
   put-evaluates file table s columns rows st d =
-      table-evaluates file table (insert_coded table columns rows) (insert_meant table columns rows) st d s (λ x y p q s c. insert-evaluates table columns rows st d x y s c)
+      table-evaluates file table (insert_coded table columns rows) (insert_meant table columns rows) st d s (λ x y p q s c. insert-evaluates table columns rows st d (keyed_in file.keys table st) x y s c)
 
   -- ---- UPDATE and DELETE
 
@@ -156,16 +170,16 @@ module _ (code : RawCode) (r : RawRoutine) (k following : ℕ) (spot : Spot) (m 
       let means : Changed → Act (Unit {0}) = λ c. acts.◌>>◌ (meaning.leaves table t c.rows c.count) (meaning.some_row c.count) in
       same-evaluates thens means (λ st d c. counted-evaluates table t c.rows st d c.count) st d own def e coded meant same
 
-  pub update-evaluates : (file : ResolvedFile) (table : ℕ) → SameTable (slice_get file.tables table) (slice_get code.tables table) → (sets : List ResolvedSet) (test : Option ResolvedExpr) (coded : List SetItem) (coded_test : Option (List Line))
+  pub update-evaluates : (file : ResolvedFile) (table : ℕ) → SameAt file code table → (sets : List ResolvedSet) (test : Option ResolvedExpr) (coded : List SetItem) (coded_test : Option (List Line))
       → IsUpdate file code table sets test coded coded_test → (st : State) → IsReady code spot st → Agrees (plans.update_rows code table coded coded_test) (meaning.update_rows file table sets test) st
   update-evaluates file table s sets test coded coded_test u st d =
       table-evaluates file table (update_coded table coded coded_test) (update_meant table sets test) st d s (λ x y p q e c.
-      changed-evaluates table c st d y.definition x.definition e.definition (updated (codes.over st.variables) plans.plain (plans.schema_of y) (map plans.set_item coded) coded_test c.rows)
-      (updated (trees.over st.variables) meaning.plain (meaning.schema_of x) (map meaning.set_item sets) test c.rows) (u.same x y p q st.variables c.rows))
+      changed-evaluates table c st d y.definition x.definition e.definition (updated (codes.over st.variables) plans.plain (plans.schema_of (keyed_in file.keys table st) y) (map plans.set_item coded) coded_test c.rows)
+      (updated (trees.over st.variables) meaning.plain (meaning.schema_of (keyed_in file.keys table st) x) (map meaning.set_item sets) test c.rows) (u.same x y p q (keyed_in file.keys table st) st.variables c.rows))
 
-  pub delete-evaluates : (file : ResolvedFile) (table : ℕ) → SameTable (slice_get file.tables table) (slice_get code.tables table) → (test : Option ResolvedExpr) (coded_test : Option (List Line))
+  pub delete-evaluates : (file : ResolvedFile) (table : ℕ) → SameAt file code table → (test : Option ResolvedExpr) (coded_test : Option (List Line))
       → IsDelete file code table test coded_test → (st : State) → IsReady code spot st → Agrees (plans.delete_rows code table coded_test) (meaning.delete_rows file table test) st
   delete-evaluates file table s test coded_test u st d =
       table-evaluates file table (delete_coded table coded_test) (delete_meant table test) st d s (λ x y p q e c.
-      changed-evaluates table c st d y.definition x.definition e.definition (deleted (codes.over st.variables) plans.plain (plans.schema_of y) coded_test c.rows)
-      (deleted (trees.over st.variables) meaning.plain (meaning.schema_of x) test c.rows) (u.same x y p q st.variables c.rows))
+      changed-evaluates table c st d y.definition x.definition e.definition (deleted (codes.over st.variables) plans.plain (plans.schema_of (keyed_in file.keys table st) y) coded_test c.rows)
+      (deleted (trees.over st.variables) meaning.plain (meaning.schema_of (keyed_in file.keys table st) x) test c.rows) (u.same x y p q (keyed_in file.keys table st) st.variables c.rows))

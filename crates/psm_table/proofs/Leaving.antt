@@ -1,5 +1,5 @@
--- A legal table without one of its rows is legal, so the DELETE of a row does not fail at its end.
-use Rattle.std.proofs.Common.{◌≡◌, ◌≤◌, ◌+◌, List, [], ◌∷◌, ◌++◌, Bool, true, false, length, refl, ◌∙◌, Ok, arith}
+-- A legal table without one of its rows is legal, so the DELETE of a row fails at its end by a FOREIGN KEY constraint alone.
+use Rattle.std.proofs.Common.{◌≡◌, ◌≤◌, ◌+◌, List, [], ◌∷◌, ◌++◌, Bool, true, false, length, refl, ◌∙◌, arith}
 use Rattle.std.specs.Prelude.{filter, if◌then◌else◌}
 use Rattle.std.specs.List.{list_all}
 use Rattle.std.specs.Ordering.{is_gt, is_lt}
@@ -9,7 +9,7 @@ use Rattle.std.proofs.lemmas.List.{length-append}
 use Rattle.std.proofs.lemmas.List.Elements.{All-append, All-filter}
 use Rattle.psm_value.specs.declared.datum.Datum.{Datum}
 use Rattle.psm_table.specs.declared.definition.TableDef.{TableDef}
-use Rattle.psm_table.specs.Changing.{all_apart, are_apart, deleted_at, is_filled, row_is_stored, rows_but, IsLegal, Schema}
+use Rattle.psm_table.specs.Changing.{all_apart, are_apart, deleted_at, ended_with, is_filled, row_is_stored, rows_but, IsLegal, Schema}
 use Rattle.psm_table.specs.Definition.{kinds_of}
 use Rattle.psm_table.specs.Evaluator.{Evaluator}
 use Rattle.psm_table.specs.Key.{row_order, values_at}
@@ -105,7 +105,7 @@ module _ {E : Type 0} (plain : Evaluator E) (schema : Schema E) (row : Row) wher
             (split_apart below above apart schema.def rows (second_true (list_all (is_filled schema.def) rows) (all_apart schema.def rows) h.rules));
       }
 
-  pub deleted_at_legally : (rows : List Row) → IsLegal plain schema rows → IsAscending schema.def.key rows → length rows ≤ most_rows → deleted_at plain schema row rows ≡ Ok (rows_but schema.def row rows)
+  pub deleted_at_legally : (rows : List Row) → IsLegal plain schema rows → IsAscending schema.def.key rows → length rows ≤ most_rows → deleted_at plain schema row rows ≡ ended_with schema.def (rows_but schema.def row rows) (schema.keyed (rows_but schema.def row rows))
   deleted_at_legally rows h up few =
       let fewer = few_but rows in
       ended_legal plain schema (rows_but schema.def row rows) (legal_but rows h) (ascending-without schema.def.key (values_at schema.def.key row) rows up) (omega (arith, fewer, few))

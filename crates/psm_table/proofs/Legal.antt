@@ -1,5 +1,5 @@
 -- Tables that are legal for their CHECKs, before and after a statement.
-use Rattle.std.proofs.Common.{◌≡◌, ℕ, List, [], ◌∷◌, ◌++◌, Bool, true, false, ◌&&◌, refl, ap, subst, ◌∙◌, Result, Ok, Err}
+use Rattle.std.proofs.Common.{◌≡◌, ℕ, List, [], ◌∷◌, ◌++◌, Bool, true, false, ◌&&◌, refl, ap, subst, sym, ◌∙◌, Result, Ok, Err}
 use Rattle.std.specs.Prelude.{All, Option, codes, if◌then◌else◌, length, nat_lt}
 use Rattle.std.specs.List.{list_all}
 use Rattle.std.proofs.lemmas.List.Elements.{All-cons, All-head, All-tail}
@@ -101,29 +101,37 @@ legal_left ev plain schema test make rows p e h = record {
 
 -- ---- the end of a statement
 
-pub record EndedOk (passed : Result Bool SqlState) (kept : Bool) (ordered rows : List Row) : Type 0 where
+pub record EndedOk (passed : Result Bool SqlState) (kept among : Bool) (ordered rows : List Row) : Type 0 where
   pub pass : passed ≡ Ok true
   pub rules : kept ≡ true
+  pub keyed : among ≡ true
   pub same : ordered ≡ rows
 
-ended_ok : (def : TableDef) (full : Bool) (passed : Result Bool SqlState) (kept : Bool) (ordered rows : List Row)
-    → (let many : Result (List Row) Failure = Err (OfTable (codes "X0002")) in if full then many else then_of passed (λ ok. ended_with def ordered (ok && kept))) ≡ Ok rows → EndedOk passed kept ordered rows
-ended_ok def true passed kept ordered rows e = cc
-ended_ok def false (Ok true) true ordered rows e = record { pass = refl; rules = refl; same = cc }
-ended_ok def false (Ok true) false ordered rows e = cc
-ended_ok def false (Ok false) kept ordered rows e = cc
-ended_ok def false (Err s) kept ordered rows e = cc
+ended_ok : (def : TableDef) (full : Bool) (passed : Result Bool SqlState) (kept keyed : Bool) (ordered rows : List Row)
+    → (let many : Result (List Row) Failure = Err (OfTable (codes "X0002")) in if full then many else then_of passed (λ ok. ended_with def ordered (ok && (kept && keyed)))) ≡ Ok rows → EndedOk passed kept keyed ordered rows
+ended_ok def true passed kept keyed ordered rows e = cc
+ended_ok def false (Ok true) true true ordered rows e = record { pass = refl; rules = refl; keyed = refl; same = cc }
+ended_ok def false (Ok true) true false ordered rows e = cc
+ended_ok def false (Ok true) false keyed ordered rows e = cc
+ended_ok def false (Ok false) kept keyed ordered rows e = cc
+ended_ok def false (Err s) kept keyed ordered rows e = cc
 
 module _ {E : Type 0} (ev : Evaluator E) (schema : Schema E) where
-  pub ended_is : (rows after : List Row) → ended ev schema rows ≡ Ok after → EndedOk (rows_pass ev schema.checks (in_order schema.def.key rows)) (keep_rules schema.def rows) (in_order schema.def.key rows) after
+  pub ended_is : (rows after : List Row) → ended ev schema rows ≡ Ok after → EndedOk (rows_pass ev schema.checks (in_order schema.def.key rows)) (keep_rules schema.def rows) (schema.keyed (in_order schema.def.key rows)) (in_order schema.def.key rows) after
   ended_is rows after e =
-      ended_ok schema.def (nat_lt most_rows (length rows)) (rows_pass ev schema.checks (in_order schema.def.key rows)) (keep_rules schema.def rows) (in_order schema.def.key rows) after e
+      ended_ok schema.def (nat_lt most_rows (length rows)) (rows_pass ev schema.checks (in_order schema.def.key rows)) (keep_rules schema.def rows) (schema.keyed (in_order schema.def.key rows)) (in_order schema.def.key rows) after e
 
   pub legal_ended : (rows after : List Row) → list_all (row_is_stored (kinds_of schema.def.columns)) rows ≡ true → ended ev schema rows ≡ Ok after → IsLegal ev schema after
   legal_ended rows after s e =
       let h = ended_is rows after e in
-      let order : IsLegal ev schema (in_order schema.def.key rows) = record { stored = all-in_order schema.def schema.def.key (row_is_stored (kinds_of schema.def.columns)) rows ∙ s; pass = h.pass; rules = keep-in_order schema.def schema.def.key rows ∙ h.rules } in
+      let order : IsLegal ev schema (in_order schema.def.key rows) = record { stored = all-in_order schema.def.key (row_is_stored (kinds_of schema.def.columns)) rows ∙ s; pass = h.pass; rules = keep-in_order schema.def schema.def.key rows ∙ h.rules } in
       subst (IsLegal ev schema) h.same order
+
+  -- and among the tables with its rows all FOREIGN KEY constraints hold
+  pub keyed_ended : (rows after : List Row) → ended ev schema rows ≡ Ok after → schema.keyed after ≡ true
+  keyed_ended rows after e =
+      let h = ended_is rows after e in
+      subst (λ (l : List Row). schema.keyed l ≡ true) h.same h.keyed
 
 -- ---- statements
 
@@ -171,3 +179,38 @@ module _ {E : Type 0} (ev plain : Evaluator E) (schema : Schema E) where
   pub legal_deleted_at : (row : Row) (rows after : List Row) → list_all (row_is_stored (kinds_of schema.def.columns)) rows ≡ true → deleted_at plain schema row rows ≡ Ok after → IsLegal plain schema after
   legal_deleted_at row rows after l e =
       legal_ended plain schema (rows_but schema.def row rows) after (but_one_all (row_is_stored (kinds_of schema.def.columns)) schema.def row rows l) e
+
+-- ---- FOREIGN KEY constraints after each statement
+
+module _ {E : Type 0} (plain : Evaluator E) (schema : Schema E) where
+  pub keyed_inserted : (new rows : List Row) (c : Changed) → inserted plain schema new rows ≡ Ok c → schema.keyed c.rows ≡ true
+  keyed_inserted new rows c e =
+      let h = then_ok (stored_rows (kinds_of schema.def.columns) new) (λ more. counting (length more) (ended plain schema (rows ++ more))) c e in
+      keyed_ended plain schema (rows ++ h.0) c.rows (counting_ok (length h.0) (ended plain schema (rows ++ h.0)) c h.2)
+
+  pub keyed_deleted_at : (row : Row) (rows after : List Row) → deleted_at plain schema row rows ≡ Ok after → schema.keyed after ≡ true
+  keyed_deleted_at row rows after e = keyed_ended plain schema (rows_but schema.def row rows) after e
+
+module _ {E : Type 0} (ev plain : Evaluator E) (schema : Schema E) where
+  pub keyed_updated : (sets : List (SetItem E)) (test : Option E) (rows : List Row) (c : Changed) → updated ev plain schema sets test rows ≡ Ok c → schema.keyed c.rows ≡ true
+  keyed_updated sets test rows c e =
+      let h = then_ok (divided ev test (set_row ev schema.def sets) rows) (λ p. counting (length p.made) (ended plain schema (p.left ++ p.made))) c e in
+      keyed_ended plain schema (h.0.left ++ h.0.made) c.rows (counting_ok (length h.0.made) (ended plain schema (h.0.left ++ h.0.made)) c h.2)
+
+  pub keyed_deleted : (test : Option E) (rows : List Row) (c : Changed) → deleted ev plain schema test rows ≡ Ok c → schema.keyed c.rows ≡ true
+  keyed_deleted test rows c e =
+      let h = then_ok (divided ev test (λ row. Ok row) rows) (λ p. counting (length p.made) (ended plain schema p.left)) c e in
+      keyed_ended plain schema h.0.left c.rows (counting_ok (length h.0.made) (ended plain schema h.0.left) c h.2)
+
+  pub keyed_updated_at : (sets : List (SetItem E)) (row : Row) (rows : List Row) (m : Moved) → updated_at ev plain schema sets row rows ≡ Ok m → schema.keyed m.rows ≡ true
+  keyed_updated_at sets row rows m e =
+      let h = then_ok (set_row ev schema.def sets row) (λ new. moving (has_moved schema.def row new) (ended plain schema (rows_but schema.def row rows ++ new ∷ []))) m e in
+      keyed_ended plain schema (rows_but schema.def row rows ++ h.0 ∷ []) m.rows (moving_ok (has_moved schema.def row h.0) (ended plain schema (rows_but schema.def row rows ++ h.0 ∷ [])) m h.2)
+
+-- a legal table is so whatever holds among the tables
+pub legal_alone : {E : Type 0} (ev : Evaluator E) (a b : Schema E) → a.def ≡ b.def → a.checks ≡ b.checks → (rows : List Row) → IsLegal ev a rows → IsLegal ev b rows
+legal_alone ev a b d c rows h = record {
+  stored = ap (λ (def : TableDef). list_all (row_is_stored (kinds_of def.columns)) rows) (sym d) ∙ h.stored;
+  pass = ap (λ checks. rows_pass ev checks rows) (sym c) ∙ h.pass;
+  rules = ap (λ def. keep_rules def rows) (sym d) ∙ h.rules;
+}

@@ -10,6 +10,8 @@ pub mod Heads
 pub mod Holds
 pub mod Joined
 pub mod KeyLaws
+pub mod Keying
+pub mod Keyless
 pub mod Keys
 pub mod Legal
 pub mod Lefts
@@ -20,6 +22,7 @@ pub mod Pairs
 pub mod Places
 pub mod Prefixes
 pub mod Rivals
+pub mod Referring
 pub mod RowOrders
 pub mod Rules
 pub mod Searches

@@ -71,6 +71,23 @@ apart-turned def a b =
     ap (λ x. not x && not (conflict def a b)) (ap is_eq (key_order-total.antisymm (values_at def.key a) (values_at def.key b)) ∙ turned_equal (key_order (values_at def.key b) (values_at def.key a)))
     ∙ ap (λ x. not (is_eq (key_order (values_at def.key b) (values_at def.key a))) && not x) (agree_any a b def.unique)
 
+-- ---- a test of rows in the order of keys
+
+module _ (key : List ℕ) where
+  all_step : (p : Row → Bool) (row y : Row) (ys : List Row) (b : Bool) → is_before key row y ≡ b
+      → list_all p (placed_in key row ys) ≡ (p row && list_all p ys) → list_all p (placed_in key row (y ∷ ys)) ≡ (p row && list_all p (y ∷ ys))
+  all_step p row y ys true e h = rw e refl
+  all_step p row y ys false e h =
+      rw e (ap (λ x. p y && x) h ∙ sym (and_assoc (p y) (p row) (list_all p ys)) ∙ ap (λ x. x && list_all p ys) (and_turned (p y) (p row)) ∙ and_assoc (p row) (p y) (list_all p ys))
+
+  pub all-placed : (p : Row → Bool) (row : Row) (rows : List Row) → list_all p (placed_in key row rows) ≡ (p row && list_all p rows)
+  all-placed p row [] = refl
+  all-placed p row (y ∷ ys) = all_step p row y ys (is_before key row y) refl (all-placed p row ys)
+
+  pub all-in_order : (p : Row → Bool) (rows : List Row) → list_all p (in_order key rows) ≡ list_all p rows
+  all-in_order p [] = refl
+  all-in_order p (row ∷ rows) = all-placed p row (in_order key rows) ∙ ap (λ x. p row && x) (all-in_order p rows)
+
 -- ---- one row more
 
 module _ (def : TableDef) where
@@ -105,26 +122,12 @@ module _ (def : TableDef) where
   -- ---- in the order of keys
 
   module _ (key : List ℕ) where
-    all_step : (p : Row → Bool) (row y : Row) (ys : List Row) (b : Bool) → is_before key row y ≡ b
-        → list_all p (placed_in key row ys) ≡ (p row && list_all p ys) → list_all p (placed_in key row (y ∷ ys)) ≡ (p row && list_all p (y ∷ ys))
-    all_step p row y ys true e h = rw e refl
-    all_step p row y ys false e h =
-        rw e (ap (λ x. p y && x) h ∙ sym (and_assoc (p y) (p row) (list_all p ys)) ∙ ap (λ x. x && list_all p ys) (and_turned (p y) (p row)) ∙ and_assoc (p row) (p y) (list_all p ys))
-
-    pub all-placed : (p : Row → Bool) (row : Row) (rows : List Row) → list_all p (placed_in key row rows) ≡ (p row && list_all p rows)
-    all-placed p row [] = refl
-    all-placed p row (y ∷ ys) = all_step p row y ys (is_before key row y) refl (all-placed p row ys)
-
-    pub all-in_order : (p : Row → Bool) (rows : List Row) → list_all p (in_order key rows) ≡ list_all p rows
-    all-in_order p [] = refl
-    all-in_order p (row ∷ rows) = all-placed p row (in_order key rows) ∙ ap (λ x. p row && x) (all-in_order p rows)
-
     apart_step : (row y : Row) (ys : List Row) (b : Bool) → is_before key row y ≡ b
         → all_apart def (placed_in key row ys) ≡ (list_all (are_apart def row) ys && all_apart def ys)
         → all_apart def (placed_in key row (y ∷ ys)) ≡ (list_all (are_apart def row) (y ∷ ys) && all_apart def (y ∷ ys))
     apart_step row y ys true e h = rw e refl
     apart_step row y ys false e h =
-        rw e (ap (λ x. x && all_apart def (placed_in key row ys)) (all-placed (are_apart def y) row ys)
+        rw e (ap (λ x. x && all_apart def (placed_in key row ys)) (all-placed key (are_apart def y) row ys)
         ∙ ap (λ x. (are_apart def y row && list_all (are_apart def y) ys) && x) h
         ∙ and_crossed (are_apart def y row) (list_all (are_apart def y) ys) (list_all (are_apart def row) ys) (all_apart def ys)
         ∙ ap (λ x. (x && list_all (are_apart def row) ys) && (list_all (are_apart def y) ys && all_apart def ys)) (apart-turned def y row))
@@ -136,9 +139,9 @@ module _ (def : TableDef) where
     apart-in_order : (rows : List Row) → all_apart def (in_order key rows) ≡ all_apart def rows
     apart-in_order [] = refl
     apart-in_order (row ∷ rows) =
-        apart-placed row (in_order key rows) ∙ ap (λ x. x && all_apart def (in_order key rows)) (all-in_order (are_apart def row) rows)
+        apart-placed row (in_order key rows) ∙ ap (λ x. x && all_apart def (in_order key rows)) (all-in_order key (are_apart def row) rows)
         ∙ ap (λ x. list_all (are_apart def row) rows && x) (apart-in_order rows)
 
     -- rows keep the rules in any order of keys
     pub keep-in_order : (rows : List Row) → keep_rules def (in_order key rows) ≡ keep_rules def rows
-    keep-in_order rows = ap (λ x. x && all_apart def (in_order key rows)) (all-in_order (is_filled def) rows) ∙ ap (λ x. list_all (is_filled def) rows && x) (apart-in_order rows)
+    keep-in_order rows = ap (λ x. x && all_apart def (in_order key rows)) (all-in_order key (is_filled def) rows) ∙ ap (λ x. list_all (is_filled def) rows && x) (apart-in_order rows)

@@ -18,10 +18,11 @@ use Rattle.psm_table.specs.Table.{most_rows}
 use Rattle.psm_table.specs.Unique.{conflict, is_null, has_null}
 use Rattle.psm_table.specs.declared.definition.TableDef.{TableDef}
 
--- a table's definition, with its CHECKs
+-- a table's definition, with its CHECKs, and whether all FOREIGN KEY constraints hold among the tables if its rows are these
 pub record Schema (E : Type 0) : Type 0 where
   pub def : TableDef
   pub checks : List E
+  pub keyed : List (List Datum) → Bool
 
 -- why a statement changes nothing: a condition that an expression raises or storing a value, or one of the table, which
 -- bears its name
@@ -114,7 +115,7 @@ ended_with def rows false = Err (OfTable (codes "23000"))
 -- the old rows among them stand before the new ones, so that they go first where keys are equal
 abbrev pub ended : {E : Type 0} → Evaluator E → Schema E → List (List Datum) → Result (List (List Datum)) Failure
 ended ev schema rows = if nat_lt most_rows (length rows) then Err (OfTable (codes "X0002"))
-    else then_of (rows_pass ev schema.checks (in_order schema.def.key rows)) (λ ok. ended_with schema.def (in_order schema.def.key rows) (ok && keep_rules schema.def rows))
+    else then_of (rows_pass ev schema.checks (in_order schema.def.key rows)) (λ ok. ended_with schema.def (in_order schema.def.key rows) (ok && (keep_rules schema.def rows && schema.keyed (in_order schema.def.key rows))))
 
 -- ---- statements: the rows that are left, and how many the statement is about
 
@@ -180,6 +181,21 @@ updated ev plain schema sets test rows = then_of (divided ev test (set_row ev sc
 abbrev pub deleted : {E : Type 0} → Evaluator E → Evaluator E → Schema E → Option E → List (List Datum) → Result Changed Failure
 deleted ev plain schema test rows = then_of (divided ev test (λ row. Ok row) rows) (λ p. counting (length p.made) (ended plain schema p.left))
 
+-- ---- the FOREIGN KEY constraints, tested last
+
+-- the same schema, where none is asked
+abbrev pub keyless : {E : Type 0} → Schema E → Schema E
+keyless schema = record { def = schema.def; checks = schema.checks; keyed = λ rows. true }
+
+-- what a statement leaves, if all hold among the tables then
+abbrev pub if_keyed : {E : Type 0} → Schema E → Result (List (List Datum)) Failure → Result (List (List Datum)) Failure
+if_keyed schema (Ok rows) = ended_with schema.def rows (schema.keyed rows)
+if_keyed schema (Err failure) = Err failure
+
+abbrev pub changed_if_keyed : {E : Type 0} → Schema E → Result Changed Failure → Result Changed Failure
+changed_if_keyed schema (Ok c) = counting c.count (ended_with schema.def c.rows (schema.keyed c.rows))
+changed_if_keyed schema (Err failure) = Err failure
+
 -- ---- positioned statements, of one row of the table
 
 -- the rows without one of them
@@ -206,3 +222,8 @@ updated_at ev plain schema sets row rows = then_of (set_row ev schema.def sets r
 -- DELETE of the row
 abbrev pub deleted_at : {E : Type 0} → Evaluator E → Schema E → List Datum → List (List Datum) → Result (List (List Datum)) Failure
 deleted_at plain schema row rows = ended plain schema (rows_but schema.def row rows)
+
+-- what a positioned UPDATE leaves, if all FOREIGN KEY constraints hold then
+abbrev pub moved_if_keyed : {E : Type 0} → Schema E → Result Moved Failure → Result Moved Failure
+moved_if_keyed schema (Ok m) = moving m.moved (ended_with schema.def m.rows (schema.keyed m.rows))
+moved_if_keyed schema (Err failure) = Err failure

@@ -5,6 +5,7 @@ pub mod Evaluator
 pub mod Held
 pub mod Index
 pub mod Key
+pub mod Keyed
 pub mod Left
 pub mod Map
 pub mod Mapped

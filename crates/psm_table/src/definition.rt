@@ -24,6 +24,31 @@ pub struct TableDef {
     pub unique: List<List<u32>>,
 }
 
+/// A FOREIGN KEY constraint (ISO/IEC 9075:1992, 11.8) with NO ACTION: the number of the table that refers and the places of
+/// its columns, and the number of the table that is referred to and the places of the columns there, each with the one
+/// that refers to it.
+#[derive(Debug, Drop)]
+pub struct ForeignKey {
+    pub from: u32,
+    pub columns: List<u32>,
+    pub to: u32,
+    pub target: List<u32>,
+}
+
+impl ForeignKey {
+    /// The same constraint in memory of its own.
+    pub fn copy(&self, alloc: Global) -> Result<ForeignKey, AllocError>
+        ensures { IfOk result (λ key. key ≡ self.now) }
+    {
+        Ok(ForeignKey {
+            from: self.from,
+            columns: List::of(Vec::from_slice(alloc, self.columns.items())?),
+            to: self.to,
+            target: List::of(Vec::from_slice(alloc, self.target.items())?),
+        })
+    }
+}
+
 impl Column {
     /// The same column in memory of its own.
     pub fn copy(&self, alloc: Global) -> Result<Column, AllocError>

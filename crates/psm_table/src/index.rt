@@ -116,7 +116,7 @@ fn has_entry(index: &OrderedMap<()>, columns: &[u32], key: &[u32], row: &[Datum]
 }
 
 /// Whether a row has a null in one of the columns. A column that it doesn't have counts as null.
-fn is_null_in(row: &[Datum], columns: &[u32]) -> bool
+pub(crate) fn is_null_in(row: &[Datum], columns: &[u32]) -> bool
     ensures { result ≡ has_null (values_at columns.now row.now) }
 {
     for column in columns {

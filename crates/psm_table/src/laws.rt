@@ -1,14 +1,16 @@
 //! Laws of tables.
-ghost use Rattle.std.specs.Prelude.{◌≡◌, ◌≤◌, length, ◌&&◌, ◌∷◌, ◌++◌, [], ℕ, true, All, AllPairs, List, None, Ok, Option, Some, false};
+ghost use Rattle.std.specs.Prelude.{◌≡◌, ◌≢◌, ◌<◌, ◌≤◌, length, ◌&&◌, ◌∷◌, ◌++◌, [], ℕ, true, All, AllPairs, Bool, List, None, Ok, Option, Some, false, slice_set};
 ghost use Rattle.std.specs.List.{list_all};
 ghost use Rattle.psm_value.specs.declared.datum.Datum.{Datum};
 ghost use Rattle.psm_table.specs.declared.definition.TableDef.{TableDef};
-ghost use Rattle.psm_table.specs.Changing.{are_apart, deleted, deleted_at, ended, in_order, inserted, is_before, is_filled, keep_rules, row_is_stored, rows_pass, updated, updated_at, Changed, IsLegal, Moved, Schema, SetItem};
+ghost use Rattle.psm_table.specs.Changing.{are_apart, changed_if_keyed, deleted, deleted_at, ended, ended_with, if_keyed, in_order, inserted, is_before, is_filled, keep_rules, keyless, moved_if_keyed, row_is_stored, rows_pass, updated, updated_at, Changed, IsLegal, Moved, Schema, SetItem};
 ghost use Rattle.psm_table.specs.Definition.{kinds_of};
 ghost use Rattle.psm_table.specs.Cursors.{Position, advanced, current, lies_past, without_row as left_row};
 ghost use Rattle.psm_table.specs.Evaluator.{Evaluator};
 ghost use Rattle.psm_table.specs.Queries.{Query};
 ghost use Rattle.psm_table.specs.Key.{values_at};
+ghost use Rattle.psm_table.specs.declared.definition.ForeignKey.{ForeignKey};
+ghost use Rattle.psm_table.specs.Keyed.{is_keyed, is_referred, new_are_referred, rows_at};
 ghost use Rattle.psm_table.specs.Rows.{put, row_with, without, IsAscending};
 ghost use Rattle.psm_table.specs.Table.{keyed, most_rows, namesake, with_row, without_row, Contents, IsTable};
 ghost use Rattle.psm_table.specs.Unique.{clashes, AreUnique};
@@ -45,15 +47,44 @@ pub fn order_of_rows()
 
 /// A statement that ended leaves the table legal for its CHECKs (ISO/IEC 9075:1992, 11.7 to 11.9) if its values were as its columns
 /// store them. CHECKs see no variables, so what evaluates them is their own. The rows of a legal table are left as they are where no
-/// row is new, so a DELETE from it never fails at its end.
+/// row is new, so a DELETE from it fails at its end by a FOREIGN KEY constraint alone.
 pub fn statements_leave_legal_tables()
     ensures inserted { (ev : Evaluator ℕ) (schema : Schema ℕ) (new rows : List (List Datum)) (c : Changed) → list_all (row_is_stored (kinds_of schema.def.columns)) rows ≡ true → inserted ev schema new rows ≡ Ok c → IsLegal ev schema c.rows }
     ensures updated { (ev plain : Evaluator ℕ) (schema : Schema ℕ) (sets : List (SetItem ℕ)) (test : Option ℕ) (rows : List (List Datum)) (c : Changed) → list_all (row_is_stored (kinds_of schema.def.columns)) rows ≡ true → updated ev plain schema sets test rows ≡ Ok c → IsLegal plain schema c.rows }
     ensures deleted { (ev plain : Evaluator ℕ) (schema : Schema ℕ) (test : Option ℕ) (rows : List (List Datum)) (c : Changed) → list_all (row_is_stored (kinds_of schema.def.columns)) rows ≡ true → deleted ev plain schema test rows ≡ Ok c → IsLegal plain schema c.rows }
     ensures updated_at { (ev plain : Evaluator ℕ) (schema : Schema ℕ) (sets : List (SetItem ℕ)) (row : List Datum) (rows : List (List Datum)) (m : Moved) → row_is_stored (kinds_of schema.def.columns) row ≡ true → list_all (row_is_stored (kinds_of schema.def.columns)) rows ≡ true → updated_at ev plain schema sets row rows ≡ Ok m → IsLegal plain schema m.rows }
     ensures deleted_at { (plain : Evaluator ℕ) (schema : Schema ℕ) (row : List Datum) (rows after : List (List Datum)) → list_all (row_is_stored (kinds_of schema.def.columns)) rows ≡ true → deleted_at plain schema row rows ≡ Ok after → IsLegal plain schema after }
-    ensures unchanged { (plain : Evaluator ℕ) (schema : Schema ℕ) (rows : List (List Datum)) → IsLegal plain schema rows → IsAscending schema.def.key rows → length rows ≤ most_rows → ended plain schema rows ≡ Ok rows }
-    ensures left { (plain : Evaluator ℕ) (schema : Schema ℕ) (row : List Datum) (rows : List (List Datum)) → IsLegal plain schema rows → IsAscending schema.def.key rows → length rows ≤ most_rows → deleted_at plain schema row rows ≡ Ok (without schema.def.key (values_at schema.def.key row) rows) }
+    ensures unchanged { (plain : Evaluator ℕ) (schema : Schema ℕ) (rows : List (List Datum)) → IsLegal plain schema rows → IsAscending schema.def.key rows → length rows ≤ most_rows → ended plain schema rows ≡ ended_with schema.def rows (schema.keyed rows) }
+    ensures left { (plain : Evaluator ℕ) (schema : Schema ℕ) (row : List Datum) (rows : List (List Datum)) → IsLegal plain schema rows → IsAscending schema.def.key rows → length rows ≤ most_rows → deleted_at plain schema row rows ≡ ended_with schema.def (without schema.def.key (values_at schema.def.key row) rows) (schema.keyed (without schema.def.key (values_at schema.def.key row) rows)) }
+{}
+
+/// After a statement that ended all FOREIGN KEY constraints hold among the tables with the rows that it left (ISO/IEC 9075:1992,
+/// 11.8).
+pub fn statements_leave_keyed_tables()
+    ensures inserted { (ev : Evaluator ℕ) (schema : Schema ℕ) (new rows : List (List Datum)) (c : Changed) → inserted ev schema new rows ≡ Ok c → schema.keyed c.rows ≡ true }
+    ensures updated { (ev plain : Evaluator ℕ) (schema : Schema ℕ) (sets : List (SetItem ℕ)) (test : Option ℕ) (rows : List (List Datum)) (c : Changed) → updated ev plain schema sets test rows ≡ Ok c → schema.keyed c.rows ≡ true }
+    ensures deleted { (ev plain : Evaluator ℕ) (schema : Schema ℕ) (test : Option ℕ) (rows : List (List Datum)) (c : Changed) → deleted ev plain schema test rows ≡ Ok c → schema.keyed c.rows ≡ true }
+    ensures updated_at { (ev plain : Evaluator ℕ) (schema : Schema ℕ) (sets : List (SetItem ℕ)) (row : List Datum) (rows : List (List Datum)) (m : Moved) → updated_at ev plain schema sets row rows ≡ Ok m → schema.keyed m.rows ≡ true }
+    ensures deleted_at { (plain : Evaluator ℕ) (schema : Schema ℕ) (row : List Datum) (rows after : List (List Datum)) → deleted_at plain schema row rows ≡ Ok after → schema.keyed after ≡ true }
+{}
+
+/// FOREIGN KEY constraints are tested last (ISO/IEC 9075:1992, 11.8): a statement ends as it does where none is asked, and where that
+/// leaves rows, these are what it leaves if all constraints hold with them, and else it fails.
+pub fn foreign_keys_come_last()
+    ensures inserted { (plain : Evaluator ℕ) (schema : Schema ℕ) (new rows : List (List Datum)) → inserted plain schema new rows ≡ changed_if_keyed schema (inserted plain (keyless schema) new rows) }
+    ensures updated { (ev plain : Evaluator ℕ) (schema : Schema ℕ) (sets : List (SetItem ℕ)) (test : Option ℕ) (rows : List (List Datum)) → updated ev plain schema sets test rows ≡ changed_if_keyed schema (updated ev plain (keyless schema) sets test rows) }
+    ensures deleted { (ev plain : Evaluator ℕ) (schema : Schema ℕ) (test : Option ℕ) (rows : List (List Datum)) → deleted ev plain schema test rows ≡ changed_if_keyed schema (deleted ev plain (keyless schema) test rows) }
+    ensures updated_at { (ev plain : Evaluator ℕ) (schema : Schema ℕ) (sets : List (SetItem ℕ)) (row : List Datum) (rows : List (List Datum)) → updated_at ev plain schema sets row rows ≡ moved_if_keyed schema (updated_at ev plain (keyless schema) sets row rows) }
+    ensures deleted_at { (plain : Evaluator ℕ) (schema : Schema ℕ) (row : List Datum) (rows : List (List Datum)) → deleted_at plain schema row rows ≡ if_keyed schema (deleted_at plain (keyless schema) row rows) }
+{}
+
+/// What a statement on table t has to look at where all FOREIGN KEY constraints held (ISO/IEC 9075:1992, 11.8). A constraint that names
+/// the table on neither side holds as before. Where rows are only added, each new row of the table that refers has to be
+/// looked up, and no other. Where other rows are taken out or changed, so it is too, unless the table is referred to.
+pub fn tests_of_foreign_keys()
+    ensures elsewhere { (tables : List (List (List Datum))) (t : ℕ) (rows : List (List Datum)) (key : ForeignKey) → key.from ≢ t → key.to ≢ t → is_keyed (slice_set tables t rows) key ≡ is_keyed tables key }
+    ensures added { (tables : List (List (List Datum))) (t : ℕ) (columns : List ℕ) (new : List (List Datum)) (key : ForeignKey) → t < length tables → is_keyed tables key ≡ true → (let after = slice_set tables t (in_order columns (rows_at tables t ++ new)) in is_keyed after key ≡ new_are_referred key t after new) }
+    ensures referring { (tables : List (List (List Datum))) (t : ℕ) (columns : List ℕ) (left new : List (List Datum)) (key : ForeignKey) → t < length tables → key.from ≡ t → key.to ≢ t → is_keyed tables key ≡ true → ((p : List Datum → Bool) → list_all p (rows_at tables t) ≡ true → list_all p left ≡ true) → is_keyed (slice_set tables t (in_order columns (left ++ new))) key ≡ list_all (is_referred key.columns key.target (rows_at tables key.to)) new }
 {}
 
 /// What a cursor does (ISO/IEC 9075:1992, 13.3): a row that FETCH finds lies past the key that the cursor reached, a cursor that is

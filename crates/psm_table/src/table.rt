@@ -1,13 +1,14 @@
-ghost use Rattle.std.specs.Prelude.{◌≡◌, ◌+◌, ◌≤◌, ◌<◌, ◌↔◌, [], length, None, Some, IsTrue, is_some, true, false, IfSome, IfNone, IfOk, if◌then◌else◌};
+ghost use Rattle.std.specs.Prelude.{◌≡◌, ◌+◌, ◌≤◌, ◌<◌, ◌↔◌, [], length, None, Some, IsTrue, is_some, true, false, All, IfSome, IfNone, IfOk, if◌then◌else◌};
 ghost use Rattle.std.specs.Option.{option_copied, ForSome};
 ghost use Rattle.psm_table.specs.Definition.{IsDefinition, IsRow, IsKey, HasColumns};
 ghost use Rattle.psm_table.specs.Held.{entries_of};
 ghost use Rattle.psm_table.specs.Key.{values_at};
+ghost use Rattle.psm_table.specs.Keyed.{has_values};
 ghost use Rattle.psm_table.specs.Queries.{in_walk};
 ghost use Rattle.psm_table.specs.Rows.{row_after, row_before};
 ghost use Rattle.psm_table.specs.State.{has_key, IsTidy, Inserts, Changes, KeepsRow, StillKeeps};
 ghost use Rattle.psm_table.specs.Table.{IsTable, empty_table, keyed, most_rows, namesake, with_row, without_row};
-ghost use Rattle.psm_table.specs.Unique.{clashes};
+ghost use Rattle.psm_table.specs.Unique.{clashes, has_null};
 
 use crate::definition::TableDef;
 use crate::fault::RowFault;
@@ -15,9 +16,10 @@ use crate::index::{enter, has_rival, settle_entries};
 use crate::key::Key;
 use crate::map::{HasRow, OrderedMap};
 use crate::probe::Probe;
+use crate::referred::has_row_with;
 use crate::row::Row;
 use crate::walk::RowsLeft;
-use psm_value::Steps;
+use psm_value::{Datum, Steps};
 use std::alloc::{AllocError, Global};
 use std::marker::Model;
 use std::sync::ledger::Ledger;
@@ -321,6 +323,27 @@ impl Table {
         ensures { result ≡ clashes self.now.contents.def row.now self.now.contents.rows }
     {
         has_rival(&self.def, &self.rows, self.indexes.as_slice(), row.values())
+    }
+
+    /// Whether a row has the values in the columns (ISO/IEC 9075:1992, 11.8). By the columns of the key that is one search, and
+    /// else a walk over the rows. It takes no memory.
+    pub fn has(&self, columns: &[u32], values: &[Datum]) -> bool
+        requires columns { All (λ c. c < length self.now.contents.def.columns) columns.now }
+        requires filled { has_null values.now ≡ false }
+        ensures { result ≡ has_values columns.now values.now self.now.contents.rows }
+    {
+        if columns == self.def.key.items() {
+            return self.has_key_of(values);
+        }
+        has_row_with(self.rows(false), columns, values)
+    }
+
+    /// Whether a row has the values as its key.
+    fn has_key_of(&self, values: &[Datum]) -> bool
+        requires { has_null values.now ≡ false }
+        ensures { result ≡ has_values self.now.contents.def.key values.now self.now.contents.rows }
+    {
+        self.rows.row_at(Probe::Of(values)).is_some()
     }
 
     /// The same table in memory of its own.

@@ -38,7 +38,7 @@ use Rattle.psm_code.specs.RoutineRules.{first_fault, is_resume, is_turn, jump_of
 use Rattle.psm_code.specs.Rules.{first_of, unless, where_there}
 use Rattle.psm_code.specs.Run.{Ran, Successor, act_ended, action_ended, fall_through, applied_as, at, call_from, done, exited, finding, here, line_after, line_done, losing, next_or_end, operation, retrieve, return, routine_done, step, row_or_end, steps, settled, store, then_fall_through, warn, warned, with_frames}
 use Rattle.psm_code.specs.Signalling.{item_of_condition, item_of_statement, resignal, resignal_condition, resignal_message, signal, signal_message}
-use Rattle.psm_code.specs.MachineInvariant.{AreKept, MachineInvariant, StaysWellFormed}
+use Rattle.psm_code.specs.MachineInvariant.{AreLawful, MachineInvariant, StaysWellFormed}
 use Rattle.psm_code.specs.State.{Activation, End, Frame, InAction, InBlock, Machine, More, Over, Stuck, Stepped, cleared, with_running, with_variable}
 use Rattle.psm_code.specs.Steps.{Act, Given, Got, Raises, Ends, change, ends, go_on, got, of_state, present, put_values, raises, spent, tried, turn, ◌>>=◌}
 use Rattle.psm_code.proofs.Faults.{Clean, WellFormedRoutineCode, clean_head, clean_tail, line_well_formed, routine_well_formed}
@@ -366,7 +366,7 @@ module _ (code : RawCode) (well_formed_code : first_fault code ≡ None) where
   right_ends (More m) h = ends_in (suc (steps_at_most code (shape m))) m h (omega arith)
   right_ends (Over e last) h = record { count = 0; end = e; last = last; leads = refl }
 
-  pub run_ends : (n : ℕ) (r : RawRoutine) → routine_at code n ≡ Some r → (args : List Datum) (tables : List Contents) (turns : ℕ) → length args ≡ length (taking r.parameters) → AreKept code.tables tables
+  pub run_ends : (n : ℕ) (r : RawRoutine) → routine_at code n ≡ Some r → (args : List Datum) (tables : List Contents) (turns : ℕ) → length args ≡ length (taking r.parameters) → AreLawful code tables
       → (e : End) × (last : Machine) × Ran code n args tables turns e last
   run_ends n r there args tables turns many kept =
       let x = right_ends (started code n args tables turns) (starts code well_formed_code n r there args tables turns many kept) in

@@ -7,7 +7,7 @@ ghost use Rattle.psm_code.specs.declared.code.RawRoutine.{RawRoutine};
 ghost use Rattle.psm_code.specs.Parts.{routine_at, taking};
 ghost use Rattle.psm_code.specs.RoutineRules.{first_fault};
 ghost use Rattle.psm_code.specs.Run.{step, Ran};
-ghost use Rattle.psm_code.specs.MachineInvariant.{AreKept, MachineInvariant};
+ghost use Rattle.psm_code.specs.MachineInvariant.{AreLawful, MachineInvariant};
 ghost use Rattle.psm_code.specs.State.{End, Machine, More, Over};
 ghost use Rattle.psm_termination.specs.Measure.{Falls, Shape, steps_at_most, shape};
 
@@ -18,5 +18,5 @@ pub fn well_formed_code_ends()
     ensures falls { (code : RawCode) → first_fault code ≡ None → (m n : Machine) → MachineInvariant code m → step code m ≡ More n → Falls code (shape m) (shape n) }
     ensures fewer { (code : RawCode) (s t : Shape) → Falls code s t → steps_at_most code t < steps_at_most code s }
     ensures stays { (code : RawCode) → first_fault code ≡ None → (m last : Machine) (e : End) → MachineInvariant code m → step code m ≡ Over e last → last.turns ≡ m.turns }
-    ensures ends { (code : RawCode) → first_fault code ≡ None → (routine : ℕ) (r : RawRoutine) → routine_at code routine ≡ Some r → (args : List Datum) (tables : List Contents) (turns : ℕ) → length args ≡ length (taking r.parameters) → AreKept code.tables tables → (e : End) × (last : Machine) × Ran code routine args tables turns e last }
+    ensures ends { (code : RawCode) → first_fault code ≡ None → (routine : ℕ) (r : RawRoutine) → routine_at code routine ≡ Some r → (args : List Datum) (tables : List Contents) (turns : ℕ) → length args ≡ length (taking r.parameters) → AreLawful code tables → (e : End) × (last : Machine) × Ran code routine args tables turns e last }
 {}

@@ -3,13 +3,13 @@ use Rattle.std.specs.Prelude.{ℕ, List, [], ◌∷◌, nat_eq, Option, None, if
 use Rattle.std.specs.List.{find}
 use Rattle.std.specs.Str.{bytes_eq}
 use Rattle.psm_token.specs.declared.word.Word.{Word}
-use Rattle.psm_token.specs.declared.word.Word.TheVariants.{And, As, Asc, Atomic, Avg, Begin, Between, Both, By, Call, Case, Cast, Char, Character, CharacterLength, CharLength, Check, Close, Coalesce, Commit, Condition, ConditionIdentifier, ConditionNumber, Constraint, Contains, Continue, Count, Create, Current, Cursor, CursorName, Data, Dec, Decimal, Declare, Default, Delete, Desc, Deterministic, Diagnostics, Do, Else, ElseIf, End, Escape, Exception, Exists, Exit, Fetch, For, Foreign, Found, From, Function, Get, Group, Handler, Having, If, In, Inner, InOut, Insensitive, Insert, Int, Integer, Into, Is, Iterate, Join, Key, Language, Leading, Leave, Like, Loop, Lower, Max, MessageLength, MessageText, Min, Modifies, Module, More, Next, Not, Null, NullIf, Number, Numeric, Of, On, Only, Open, Or, Order, Out, Position, Primary, Procedure, Read, Reads, References, Repeat, Resignal, Return, ReturnedSqlState, Returns, Rollback, RowCount, Select, Set, Signal, SmallInt, Sql, SqlException, SqlState, SqlWarning, Stacked, Substring, Sum, Table, TableName, Then, Trailing, Trim, Undo, Unique, Until, Update, Upper, Value, Values, VarChar, Varying, When, Where, While, Work}
+use Rattle.psm_token.specs.declared.word.Word.TheVariants.{Action, And, As, Asc, Atomic, Avg, Begin, Between, Both, By, Call, Case, Cast, Char, Character, CharacterLength, CharLength, Check, Close, Coalesce, Commit, Condition, ConditionIdentifier, ConditionNumber, Constraint, Contains, Continue, Count, Create, Current, Cursor, CursorName, Data, Dec, Decimal, Declare, Default, Delete, Desc, Deterministic, Diagnostics, Do, Else, ElseIf, End, Escape, Exception, Exists, Exit, Fetch, For, Foreign, Found, From, Function, Get, Group, Handler, Having, If, In, Inner, InOut, Insensitive, Insert, Int, Integer, Into, Is, Iterate, Join, Key, Language, Leading, Leave, Like, Loop, Lower, Max, MessageLength, MessageText, Min, Modifies, Module, More, Next, No, Not, Null, NullIf, Number, Numeric, Of, On, Only, Open, Or, Order, Out, Position, Primary, Procedure, Read, Reads, References, Repeat, Resignal, Return, ReturnedSqlState, Returns, Rollback, RowCount, Select, Set, Signal, SmallInt, Sql, SqlException, SqlState, SqlWarning, Stacked, Substring, Sum, Table, TableName, Then, Trailing, Trim, Undo, Unique, Until, Update, Upper, Value, Values, VarChar, Varying, When, Where, While, Work}
 use Rattle.psm_token.specs.Words.{text_of}
 
 -- the words that begin with a letter
 abbrev pub words_by_letter : ℕ → List Word
 words_by_letter c =
-    if nat_eq c 65 then And ∷ As ∷ Asc ∷ Atomic ∷ Avg ∷ [] else
+    if nat_eq c 65 then Action ∷ And ∷ As ∷ Asc ∷ Atomic ∷ Avg ∷ [] else
     if nat_eq c 66 then Begin ∷ Between ∷ Both ∷ By ∷ [] else
     if nat_eq c 67 then Call ∷ Case ∷ Cast ∷ Char ∷ Character ∷ CharacterLength ∷ CharLength ∷ Check ∷ Close ∷ Coalesce ∷ Commit ∷ Condition ∷ ConditionIdentifier ∷ ConditionNumber ∷ Constraint ∷ Contains ∷ Continue ∷ Count ∷ Create ∷ Current ∷ Cursor ∷ CursorName ∷ [] else
     if nat_eq c 68 then Data ∷ Dec ∷ Decimal ∷ Declare ∷ Default ∷ Delete ∷ Desc ∷ Deterministic ∷ Diagnostics ∷ Do ∷ [] else
@@ -22,7 +22,7 @@ words_by_letter c =
     if nat_eq c 75 then Key ∷ [] else
     if nat_eq c 76 then Language ∷ Leading ∷ Leave ∷ Like ∷ Loop ∷ Lower ∷ [] else
     if nat_eq c 77 then Max ∷ MessageLength ∷ MessageText ∷ Min ∷ Modifies ∷ Module ∷ More ∷ [] else
-    if nat_eq c 78 then Next ∷ Not ∷ Null ∷ NullIf ∷ Number ∷ Numeric ∷ [] else
+    if nat_eq c 78 then Next ∷ No ∷ Not ∷ Null ∷ NullIf ∷ Number ∷ Numeric ∷ [] else
     if nat_eq c 79 then Of ∷ On ∷ Only ∷ Open ∷ Or ∷ Order ∷ Out ∷ [] else
     if nat_eq c 80 then Position ∷ Primary ∷ Procedure ∷ [] else
     if nat_eq c 82 then Read ∷ Reads ∷ References ∷ Repeat ∷ Resignal ∷ Return ∷ ReturnedSqlState ∷ Returns ∷ Rollback ∷ RowCount ∷ [] else

@@ -1,7 +1,7 @@
 -- The words of the language (ISO/IEC 9075:1992, 5.2, and 9075-4:1996): the one table of their kinds and texts.
 use Rattle.std.specs.Prelude.{ℕ, Bool, true, false, List, codes}
 use Rattle.psm_token.specs.declared.word.Word.{Word}
-use Rattle.psm_token.specs.declared.word.Word.TheVariants.{And, As, Asc, Atomic, Avg, Begin, Between, Both, By, Call, Case, Cast, Char, Character, CharacterLength, CharLength, Check, Close, Coalesce, Commit, Condition, ConditionIdentifier, ConditionNumber, Constraint, Contains, Continue, Count, Create, Current, Cursor, CursorName, Data, Dec, Decimal, Declare, Default, Delete, Desc, Deterministic, Diagnostics, Do, Else, ElseIf, End, Escape, Exception, Exists, Exit, Fetch, For, Foreign, Found, From, Function, Get, Group, Handler, Having, If, In, Inner, InOut, Insensitive, Insert, Int, Integer, Into, Is, Iterate, Join, Key, Language, Leading, Leave, Like, Loop, Lower, Max, MessageLength, MessageText, Min, Modifies, Module, More, Next, Not, Null, NullIf, Number, Numeric, Of, On, Only, Open, Or, Order, Out, Position, Primary, Procedure, Read, Reads, References, Repeat, Resignal, Return, ReturnedSqlState, Returns, Rollback, RowCount, Select, Set, Signal, SmallInt, Sql, SqlException, SqlState, SqlWarning, Stacked, Substring, Sum, Table, TableName, Then, Trailing, Trim, Undo, Unique, Until, Update, Upper, Value, Values, VarChar, Varying, When, Where, While, Work}
+use Rattle.psm_token.specs.declared.word.Word.TheVariants.{Action, And, As, Asc, Atomic, Avg, Begin, Between, Both, By, Call, Case, Cast, Char, Character, CharacterLength, CharLength, Check, Close, Coalesce, Commit, Condition, ConditionIdentifier, ConditionNumber, Constraint, Contains, Continue, Count, Create, Current, Cursor, CursorName, Data, Dec, Decimal, Declare, Default, Delete, Desc, Deterministic, Diagnostics, Do, Else, ElseIf, End, Escape, Exception, Exists, Exit, Fetch, For, Foreign, Found, From, Function, Get, Group, Handler, Having, If, In, Inner, InOut, Insensitive, Insert, Int, Integer, Into, Is, Iterate, Join, Key, Language, Leading, Leave, Like, Loop, Lower, Max, MessageLength, MessageText, Min, Modifies, Module, More, Next, No, Not, Null, NullIf, Number, Numeric, Of, On, Only, Open, Or, Order, Out, Position, Primary, Procedure, Read, Reads, References, Repeat, Resignal, Return, ReturnedSqlState, Returns, Rollback, RowCount, Select, Set, Signal, SmallInt, Sql, SqlException, SqlState, SqlWarning, Stacked, Substring, Sum, Table, TableName, Then, Trailing, Trim, Undo, Unique, Until, Update, Upper, Value, Values, VarChar, Varying, When, Where, While, Work}
 
 -- the number of a word's kind of tokens, and how the word is spelled; a new word comes last
 abbrev pub word_entry : Word → ℕ × List ℕ
@@ -144,6 +144,8 @@ word_entry When = (156, codes "WHEN")
 word_entry Where = (157, codes "WHERE")
 word_entry While = (158, codes "WHILE")
 word_entry Work = (159, codes "WORK")
+word_entry No = (160, codes "NO")
+word_entry Action = (161, codes "ACTION")
 
 abbrev pub word_kind : Word → ℕ
 word_kind w = (word_entry w).0
@@ -153,6 +155,7 @@ text_of w = (word_entry w).1
 
 -- the words that are never names unless they are delimited; the others are names where the grammar has one
 abbrev pub is_reserved : Word → Bool
+is_reserved Action = false
 is_reserved Both = false
 is_reserved ConditionIdentifier = false
 is_reserved ConditionNumber = false
@@ -164,6 +167,7 @@ is_reserved MessageLength = false
 is_reserved MessageText = false
 is_reserved More = false
 is_reserved Next = false
+is_reserved No = false
 is_reserved Number = false
 is_reserved Only = false
 is_reserved Read = false

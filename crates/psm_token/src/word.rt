@@ -146,6 +146,8 @@ pub enum Word {
     Where,
     While,
     Work,
+    No,
+    Action,
 }
 
 impl Word {
@@ -161,7 +163,8 @@ impl Word {
         ensures { result ≡ is_reserved_word self }
     {
         match self {
-            Word::Both
+            Word::Action
+            | Word::Both
             | Word::ConditionIdentifier
             | Word::ConditionNumber
             | Word::CursorName
@@ -172,6 +175,7 @@ impl Word {
             | Word::MessageText
             | Word::More
             | Word::Next
+            | Word::No
             | Word::Number
             | Word::Only
             | Word::Read
@@ -330,6 +334,8 @@ impl Word {
             Word::Where => "WHERE",
             Word::While => "WHILE",
             Word::Work => "WORK",
+            Word::No => "NO",
+            Word::Action => "ACTION",
         }
     }
 }
@@ -356,7 +362,14 @@ fn shelf(letter: u8) -> &'static [Word]
     ensures { result.now ≡ words_by_letter letter }
 {
     match letter {
-        b'A' => &[Word::And, Word::As, Word::Asc, Word::Atomic, Word::Avg],
+        b'A' => &[
+            Word::Action,
+            Word::And,
+            Word::As,
+            Word::Asc,
+            Word::Atomic,
+            Word::Avg,
+        ],
         b'B' => &[Word::Begin, Word::Between, Word::Both, Word::By],
         b'C' => &[
             Word::Call,
@@ -447,6 +460,7 @@ fn shelf(letter: u8) -> &'static [Word]
         ],
         b'N' => &[
             Word::Next,
+            Word::No,
             Word::Not,
             Word::Null,
             Word::NullIf,

@@ -34,12 +34,42 @@ use Rattle.psm_tree.specs.declared.script.Command.{Command}
 
 -- ---- tables
 
--- column_rule = [CONSTRAINT name] (NOT NULL | PRIMARY KEY | UNIQUE | CHECK "(" expr ")")
+-- references = REFERENCES name [names] [ON DELETE NO ACTION [ON UPDATE NO ACTION] | ON UPDATE NO ACTION [ON DELETE NO ACTION]]
+unfoldable pub no_action : Gram Place
+no_action = after_token (word w.No) (token (word w.Action))
+
+unfoldable pub delete_action : Gram Place
+delete_action = after_token (word w.Delete) no_action
+
+unfoldable pub update_action : Gram Place
+update_action = after_token (word w.Update) no_action
+
+unfoldable pub next_delete_action : Gram Place
+next_delete_action = after_token (word w.On) delete_action
+
+unfoldable pub next_update_action : Gram Place
+next_update_action = after_token (word w.On) update_action
+
+unfoldable pub either_action : Gram Place
+either_action = or (seq first_place delete_action (optional next_update_action)) (seq first_place update_action (optional next_delete_action))
+
+unfoldable pub actions : Gram Place
+actions = after_token (word w.On) either_action
+
+-- after REFERENCES
+unfoldable pub references_rest : Gram References
+references_rest = seq references_to (token name) (seq pair (optional names_in_parens) (optional actions))
+
+unfoldable pub references : Gram References
+references = after_token (word w.References) references_rest
+
+-- column_rule = [CONSTRAINT name] (NOT NULL | PRIMARY KEY | UNIQUE | CHECK "(" expr ")" | references)
 unfoldable pub plain_column_rule : Gram ColumnRule
 plain_column_rule = or (seq (column_rule_by column_rules.NotNull) (token (word w.Not)) (token (word w.Null)))
     (or (seq (column_rule_by column_rules.PrimaryKey) (token (word w.Primary)) (token (word w.Key)))
     (or (image (column_rule_at column_rules.Unique) (token (word w.Unique)))
-    (seq column_check (token (word w.Check)) (within_parens expr))))
+    (or (seq column_check (token (word w.Check)) (within_parens expr))
+    (seq column_references (token (word w.References)) references_rest))))
 
 unfoldable pub column_rule : Gram ColumnRule
 column_rule = or (after_token (word w.Constraint) (after_token name plain_column_rule)) plain_column_rule
@@ -54,11 +84,12 @@ default_constant = after_token (word w.Default) constant
 unfoldable pub column : Gram Element
 column = seq column_of (token name) (seq triple data_type (seq pair (optional default_constant) column_rule_list))
 
--- table_rule = [CONSTRAINT name] (PRIMARY KEY names | UNIQUE names | CHECK "(" expr ")")
+-- table_rule = [CONSTRAINT name] (PRIMARY KEY names | UNIQUE names | CHECK "(" expr ")" | FOREIGN KEY names references)
 unfoldable pub plain_table_rule : Gram TableRule
 plain_table_rule = or (seq primary_key (token (word w.Primary)) (after_token (word w.Key) names_in_parens))
     (or (seq unique (token (word w.Unique)) names_in_parens)
-    (seq table_check (token (word w.Check)) (within_parens expr)))
+    (or (seq table_check (token (word w.Check)) (within_parens expr))
+    (seq foreign_key (token (word w.Foreign)) (after_token (word w.Key) (seq pair names_in_parens references)))))
 
 unfoldable pub table_rule : Gram TableRule
 table_rule = or (after_token (word w.Constraint) (after_token name plain_table_rule)) plain_table_rule
@@ -246,5 +277,5 @@ script = image script_of ended_commands
 -- ---- a name that opens every production of module files and scripts
 
 unfoldable pub all_files : Unit {0}
-unfolding all_statements plain_column_rule column_rule column_rule_list default_constant column plain_table_rule table_rule element next_element next_elements elements table named_type param next_param next_params param_list param_rest params sql_data characteristic characteristic_list noted_statement procedure char_returned returned function plain_routine routine ended_routine ended_routines language module_body module_part created_table created_tables last_module file argument next_argument next_arguments script_argument_list script_arguments script_call next_constant next_constants constants row next_row next_rows rows script_values script_insert command ended_command ended_commands script
+unfolding all_statements no_action delete_action update_action next_delete_action next_update_action either_action actions references_rest references plain_column_rule column_rule column_rule_list default_constant column plain_table_rule table_rule element next_element next_elements elements table named_type param next_param next_params param_list param_rest params sql_data characteristic characteristic_list noted_statement procedure char_returned returned function plain_routine routine ended_routine ended_routines language module_body module_part created_table created_tables last_module file argument next_argument next_arguments script_argument_list script_arguments script_call next_constant next_constants constants row next_row next_rows rows script_values script_insert command ended_command ended_commands script
 all_files = tt

@@ -19,6 +19,7 @@ use Rattle.psm_tree.specs.declared.file.Element.TheVariants as elements
 use Rattle.psm_tree.specs.declared.file.ColumnRule.{ColumnRule}
 use Rattle.psm_tree.specs.declared.file.ColumnRuleForm.{ColumnRuleForm}
 use Rattle.psm_tree.specs.declared.file.ColumnRuleForm.TheVariants as column_rules
+use Rattle.psm_tree.specs.declared.file.References.{References}
 use Rattle.psm_tree.specs.declared.file.TableRule.{TableRule}
 use Rattle.psm_tree.specs.declared.file.TableRuleForm.{TableRuleForm}
 use Rattle.psm_tree.specs.declared.file.TableRuleForm.TheVariants as table_rules
@@ -47,6 +48,16 @@ column_rule_by form place second = column_rule_at form place
 abbrev pub column_check : Place → Expr → ColumnRule
 column_check place expr = column_rule_at (column_rules.Check expr) place
 
+-- what is referred to; that nothing else is done on a change of it says no more
+abbrev pub references_to : Identifier → Option Names × Option Place → References
+references_to table (columns, action) = record { table = table; columns = columns }
+
+abbrev pub first_place : Place → Option Place → Place
+first_place place other = place
+
+abbrev pub column_references : Place → References → ColumnRule
+column_references place references = column_rule_at (column_rules.References references) place
+
 abbrev pub table_rule_at : TableRuleForm → Place → TableRule
 table_rule_at form place = record { place = place; form = form }
 
@@ -58,6 +69,9 @@ unique place names = table_rule_at (table_rules.Unique names) place
 
 abbrev pub table_check : Place → Expr → TableRule
 table_check place expr = table_rule_at (table_rules.Check expr) place
+
+abbrev pub foreign_key : Place → Names × References → TableRule
+foreign_key place (columns, references) = table_rule_at (table_rules.ForeignKey columns references) place
 
 abbrev pub column_of : Identifier → DataType × Option Constant × List ColumnRule → Element
 column_of name p = elements.Column name p.0 p.1 p.2

@@ -5,7 +5,7 @@ use Rattle.psm_token.specs.declared.word.Word.TheVariants as w
 
 -- the words that are not reserved
 abbrev pub name_words : List Word
-name_words = w.Both ∷ w.ConditionIdentifier ∷ w.ConditionNumber ∷ w.CursorName ∷ w.Data ∷ w.Found ∷ w.Leading ∷ w.MessageLength ∷ w.MessageText ∷ w.More ∷ w.Next ∷ w.Number ∷ w.Only ∷ w.Read ∷ w.ReturnedSqlState ∷ w.RowCount ∷ w.TableName ∷ w.Trailing ∷ w.Value ∷ w.Varying ∷ w.Work ∷ []
+name_words = w.Action ∷ w.Both ∷ w.ConditionIdentifier ∷ w.ConditionNumber ∷ w.CursorName ∷ w.Data ∷ w.Found ∷ w.Leading ∷ w.MessageLength ∷ w.MessageText ∷ w.More ∷ w.Next ∷ w.No ∷ w.Number ∷ w.Only ∷ w.Read ∷ w.ReturnedSqlState ∷ w.RowCount ∷ w.TableName ∷ w.Trailing ∷ w.Value ∷ w.Varying ∷ w.Work ∷ []
 
 abbrev pub block_words : List Word
 block_words = w.Begin ∷ w.Loop ∷ w.While ∷ w.Repeat ∷ w.For ∷ []
@@ -23,7 +23,7 @@ abbrev pub characteristic_words : List Word
 characteristic_words = w.Language ∷ w.Deterministic ∷ w.Not ∷ w.Contains ∷ w.Reads ∷ w.Modifies ∷ []
 
 abbrev pub column_rule_words : List Word
-column_rule_words = w.Constraint ∷ w.Not ∷ w.Primary ∷ w.Unique ∷ w.Check ∷ []
+column_rule_words = w.Constraint ∷ w.Not ∷ w.Primary ∷ w.Unique ∷ w.Check ∷ w.References ∷ []
 
 abbrev pub command_words : List Word
 command_words = w.Call ∷ w.Insert ∷ w.Select ∷ w.Commit ∷ w.Rollback ∷ []

@@ -33,6 +33,13 @@ pub enum Element {
     Rule(TableRule),
 }
 
+/// What a FOREIGN KEY refers to (ISO/IEC 9075:1992, 11.8): a table, and some of its columns; without these its primary key.
+#[derive(Drop)]
+pub struct References {
+    pub table: Identifier,
+    pub columns: Option<Names>,
+}
+
 /// A rule of a column (ISO/IEC 9075:1992, 11.4).
 #[derive(Drop)]
 pub struct ColumnRule {
@@ -47,6 +54,7 @@ pub enum ColumnRuleForm {
     PrimaryKey,
     Unique,
     Check(Boxed<Expr>),
+    References(References),
 }
 
 /// A rule of a table (ISO/IEC 9075:1992, 11.6).
@@ -62,6 +70,10 @@ pub enum TableRuleForm {
     PrimaryKey(Names),
     Unique(Names),
     Check(Boxed<Expr>),
+    ForeignKey {
+        columns: Names,
+        references: References,
+    },
 }
 
 /// An SQL server module (ISO/IEC 9075-4:1996, module definitions).

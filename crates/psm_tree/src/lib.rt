@@ -17,7 +17,7 @@ pub use expr::{
 pub use fault::ParseFault;
 pub use file::{
     Characteristic, CharacteristicForm, ColumnRule, ColumnRuleForm, Element, FileTree, Mode,
-    Module, Parameter, Routine, TableRule, TableRuleForm, TableTree,
+    Module, Parameter, References, Routine, TableRule, TableRuleForm, TableTree,
 };
 pub use laws::one_tree;
 pub use name::{Identifier, Names, Target, Targets};

@@ -117,19 +117,26 @@ new_rows-wide : (def : TableDef) (columns : List ℕ) (rows : List (List Datum))
 new_rows-wide def columns [] = tt
 new_rows-wide def columns (row ∷ rows) = (row_from-length 0 def.columns columns row, new_rows-wide def columns rows)
 
-inserted-kept : (t : ResolvedTable) (columns : List ℕ) (new rows : List (List Datum)) → Each (Row (columns_of t)) rows → Kept (λ c. Each (Row (columns_of t)) c.rows) (inserted plain (schema_of t) (map (new_row t.definition columns) new) rows)
-inserted-kept t columns new rows h =
+inserted-kept : (keyed : List (List Datum) → Bool) (t : ResolvedTable) (columns : List ℕ) (new rows : List (List Datum)) → Each (Row (columns_of t)) rows → Kept (λ c. Each (Row (columns_of t)) c.rows) (inserted plain (schema_of keyed t) (map (new_row t.definition columns) new) rows)
+inserted-kept keyed t columns new rows h =
     kept-then (Each (Row (columns_of t))) (λ c. Each (Row (columns_of t)) c.rows) (stored_rows (kinds_of t.definition.columns) (map (new_row t.definition columns) new)) _
     (stored_rows-right (kinds_of t.definition.columns) (map (new_row t.definition columns) new) (new_rows-wide t.definition columns new))
-    (λ fresh g. counting-kept (Row (columns_of t)) (length fresh) _ (ended-kept (Row (columns_of t)) plain (schema_of t) (rows ++ fresh) (each-append (Row (columns_of t)) rows fresh h g)))
+    (λ fresh g. counting-kept (Row (columns_of t)) (length fresh) _ (ended-kept (Row (columns_of t)) plain (schema_of keyed t) (rows ++ fresh) (each-append (Row (columns_of t)) rows fresh h g)))
 
-schema-at : (ts : List ResolvedTable) (n : ℕ) (t : ResolvedTable) → slice_get ts n ≡ Some t → slice_get (map schema_of ts) n ≡ Some (schema_of t)
-schema-at [] n t h = absurd (cc)
-schema-at (u ∷ ts) zero t h = ap (λ x. Some (schema_of x)) (some_same h)
-schema-at (u ∷ ts) (suc n) t h = schema-at ts n t h
+schema-at : (keyed : List (List Datum) → Bool) (ts : List ResolvedTable) (n : ℕ) (t : ResolvedTable) → slice_get ts n ≡ Some t → slice_get (map (schema_of keyed) ts) n ≡ Some (schema_of keyed t)
+schema-at keyed [] n t h = absurd (cc)
+schema-at keyed (u ∷ ts) zero t h = ap (λ x. Some (schema_of keyed x)) (some_same h)
+schema-at keyed (u ∷ ts) (suc n) t h = schema-at keyed ts n t h
 
-holds-schema_at : {e : TypingContext} {m : Meaning} (table : ℕ) (t : ResolvedTable) → slice_get e.file.tables table ≡ Some t → Holds e m (λ s. s ≡ schema_of t) (schema_at e.file table)
-holds-schema_at {e = e} table t h = holds-present (slice_get (map schema_of e.file.tables) table) (schema_of t) (schema-at e.file.tables table t h) refl
+-- the schema of a table, whatever holds among the tables
+abbrev IsSchemaOf : ResolvedTable → Schema ResolvedExpr → Type 0
+IsSchemaOf t s = (keyed : List (List Datum) → Bool) × (s ≡ schema_of keyed t)
+
+holds-schema_at : {e : TypingContext} {m : Meaning} (table : ℕ) (t : ResolvedTable) → slice_get e.file.tables table ≡ Some t → Holds e m (IsSchemaOf t) (schema_at e.file table)
+holds-schema_at {e = e} table t h =
+    holds-bind (holds-read {P = Anything} (λ st. st.tables) (λ st s. tt)) (λ tables u.
+    let keyed : List (List Datum) → Bool = are_keyed_with e.file.keys (rows_in tables) table in
+    holds-present (slice_get (map (schema_of keyed) e.file.tables) table) (schema_of keyed t) (schema-at keyed e.file.tables table t h) (keyed, refl))
 
 holds-leaves : {e : TypingContext} {m : Meaning} (table : ℕ) (t : ResolvedTable) (c : Contents) (rows : List (List Datum)) (count : ℕ) → slice_get e.file.tables table ≡ Some t → Each (Row (columns_of t)) rows → Holds e m Anything (leaves table c rows count)
 holds-leaves {e = e} table t c rows count h g = holds-change (with_rows table (record c { rows = rows }) count) (λ st s. record { tables = filled-set e.file.tables st.tables table t (record c { rows = rows }) s.tables h g; variables = s.variables; cursors = s.cursors })
@@ -137,7 +144,7 @@ holds-leaves {e = e} table t c rows count h g = holds-change (with_rows table (r
 pub holds-put_in : {e : TypingContext} {m : Meaning} (table : ℕ) (t : ResolvedTable) (columns : List ℕ) (rows : List (List Datum)) → slice_get e.file.tables table ≡ Some t → Holds e m Anything (put_in e.file table columns rows)
 holds-put_in table t columns rows h =
     holds-bind (holds-schema_at table t h) (λ s p. holds-bind (holds-table_now table t h) (λ c f.
-    holds-bind (holds-unless_failed {P = λ (x : Changed). Each (Row (columns_of t)) x.rows} s.def (inserted plain s (map (new_row s.def columns) rows) c.rows) (subst (λ x. Kept (λ y. Each (Row (columns_of t)) y.rows) (inserted plain x (map (new_row x.def columns) rows) c.rows)) (sym p) (inserted-kept t columns rows c.rows f))) (λ x g.
+    holds-bind (holds-unless_failed {P = λ (x : Changed). Each (Row (columns_of t)) x.rows} s.def (inserted plain s (map (new_row s.def columns) rows) c.rows) (subst (λ x. Kept (λ y. Each (Row (columns_of t)) y.rows) (inserted plain x (map (new_row x.def columns) rows) c.rows)) (sym p.1) (inserted-kept p.0 t columns rows c.rows f))) (λ x g.
     holds-leaves table t c x.rows x.count h g)))
 
 holds-all_values : {e : TypingContext} {m : Meaning} → Values e m → (columns : List ℕ) (rows : List (List ResolvedExpr)) → Each (IsRowFor e columns) rows → Holds e m Anything (all_values rows)
@@ -189,17 +196,17 @@ divided-right P ev test make [] f h = record { left = tt; made = tt }
 divided-right P ev test make (row ∷ rows) f h =
     right-then Anything (IsDivided P) (test_of ev test row) _ (right-any (test_of ev test row)) (λ met u. divided_by P met row (make row) (divided ev test make rows) h.0 (f row h.0) (divided-right P ev test make rows f h.1))
 
-updated-kept : (t : ResolvedTable) (vars : List Datum) (sets : List (SetItem ResolvedExpr)) (test : Option ResolvedExpr) (rows : List (List Datum)) → Each (Row (columns_of t)) rows → Kept (λ c. Each (Row (columns_of t)) c.rows) (updated (over vars) plain (schema_of t) sets test rows)
-updated-kept t vars sets test rows h =
+updated-kept : (keyed : List (List Datum) → Bool) (t : ResolvedTable) (vars : List Datum) (sets : List (SetItem ResolvedExpr)) (test : Option ResolvedExpr) (rows : List (List Datum)) → Each (Row (columns_of t)) rows → Kept (λ c. Each (Row (columns_of t)) c.rows) (updated (over vars) plain (schema_of keyed t) sets test rows)
+updated-kept keyed t vars sets test rows h =
     kept-then (IsDivided (Row (columns_of t))) (λ c. Each (Row (columns_of t)) c.rows) (divided (over vars) test (set_row (over vars) t.definition sets) rows) _
     (divided-right (Row (columns_of t)) (over vars) test (set_row (over vars) t.definition sets) rows (λ row g. set_row-right (over vars) t sets row g) h)
-    (λ d g. counting-kept (Row (columns_of t)) (length d.made) _ (ended-kept (Row (columns_of t)) plain (schema_of t) (d.left ++ d.made) (each-append (Row (columns_of t)) d.left d.made g.left g.made)))
+    (λ d g. counting-kept (Row (columns_of t)) (length d.made) _ (ended-kept (Row (columns_of t)) plain (schema_of keyed t) (d.left ++ d.made) (each-append (Row (columns_of t)) d.left d.made g.left g.made)))
 
-deleted-kept : (t : ResolvedTable) (vars : List Datum) (test : Option ResolvedExpr) (rows : List (List Datum)) → Each (Row (columns_of t)) rows → Kept (λ c. Each (Row (columns_of t)) c.rows) (deleted (over vars) plain (schema_of t) test rows)
-deleted-kept t vars test rows h =
+deleted-kept : (keyed : List (List Datum) → Bool) (t : ResolvedTable) (vars : List Datum) (test : Option ResolvedExpr) (rows : List (List Datum)) → Each (Row (columns_of t)) rows → Kept (λ c. Each (Row (columns_of t)) c.rows) (deleted (over vars) plain (schema_of keyed t) test rows)
+deleted-kept keyed t vars test rows h =
     kept-then (IsDivided (Row (columns_of t))) (λ c. Each (Row (columns_of t)) c.rows) (divided (over vars) test (λ row. Ok row) rows) _
     (divided-right (Row (columns_of t)) (over vars) test (λ row. Ok row) rows (λ row g. g) h)
-    (λ d g. counting-kept (Row (columns_of t)) (length d.made) _ (ended-kept (Row (columns_of t)) plain (schema_of t) d.left g.left))
+    (λ d g. counting-kept (Row (columns_of t)) (length d.made) _ (ended-kept (Row (columns_of t)) plain (schema_of keyed t) d.left g.left))
 
 holds-some_row : {e : TypingContext} {m : Meaning} (n : ℕ) → Holds e m Anything (some_row n)
 holds-some_row zero = holds-raises _
@@ -208,13 +215,13 @@ holds-some_row (suc n) = holds-got tt tt
 holds-update_rows : {e : TypingContext} {m : Meaning} (table : ℕ) (t : ResolvedTable) (sets : List ResolvedSet) (test : Option ResolvedExpr) → slice_get e.file.tables table ≡ Some t → Holds e m Anything (update_rows e.file table sets test)
 holds-update_rows table t sets test h =
     holds-bind (holds-schema_at table t h) (λ s p. holds-bind (holds-table_now table t h) (λ c f. holds-bind (holds-read {P = Anything} (λ st. st.variables) (λ st s. tt)) (λ vars u.
-    holds-bind (holds-unless_failed {P = λ (x : Changed). Each (Row (columns_of t)) x.rows} s.def (updated (over vars) plain s (map set_item sets) test c.rows) (subst (λ x. Kept (λ y. Each (Row (columns_of t)) y.rows) (updated (over vars) plain x (map set_item sets) test c.rows)) (sym p) (updated-kept t vars (map set_item sets) test c.rows f))) (λ x g.
+    holds-bind (holds-unless_failed {P = λ (x : Changed). Each (Row (columns_of t)) x.rows} s.def (updated (over vars) plain s (map set_item sets) test c.rows) (subst (λ x. Kept (λ y. Each (Row (columns_of t)) y.rows) (updated (over vars) plain x (map set_item sets) test c.rows)) (sym p.1) (updated-kept p.0 t vars (map set_item sets) test c.rows f))) (λ x g.
     holds-bind (holds-leaves table t c x.rows x.count h g) (λ w y. holds-some_row x.count)))))
 
 holds-delete_rows : {e : TypingContext} {m : Meaning} (table : ℕ) (t : ResolvedTable) (test : Option ResolvedExpr) → slice_get e.file.tables table ≡ Some t → Holds e m Anything (delete_rows e.file table test)
 holds-delete_rows table t test h =
     holds-bind (holds-schema_at table t h) (λ s p. holds-bind (holds-table_now table t h) (λ c f. holds-bind (holds-read {P = Anything} (λ st. st.variables) (λ st s. tt)) (λ vars u.
-    holds-bind (holds-unless_failed {P = λ (x : Changed). Each (Row (columns_of t)) x.rows} s.def (deleted (over vars) plain s test c.rows) (subst (λ x. Kept (λ y. Each (Row (columns_of t)) y.rows) (deleted (over vars) plain x test c.rows)) (sym p) (deleted-kept t vars test c.rows f))) (λ x g.
+    holds-bind (holds-unless_failed {P = λ (x : Changed). Each (Row (columns_of t)) x.rows} s.def (deleted (over vars) plain s test c.rows) (subst (λ x. Kept (λ y. Each (Row (columns_of t)) y.rows) (deleted (over vars) plain x test c.rows)) (sym p.1) (deleted-kept p.0 t vars test c.rows f))) (λ x g.
     holds-bind (holds-leaves table t c x.rows x.count h g) (λ w y. holds-some_row x.count)))))
 
 -- ---- positioned statements
@@ -243,11 +250,11 @@ holds-row_of_cursor P x t (Plain p vars) h = holds-standing_on P x (current t.de
 each-but : (P : List Datum → Type 0) (def : TableDef) (row : List Datum) (rows : List (List Datum)) → Each P rows → Each P (rows_but def row rows)
 each-but P def row rows h = each-append P (rows_below def.key (values_at def.key row) rows) (rows_above def.key (values_at def.key row) rows) (each-filter P _ rows h) (each-filter P _ rows h)
 
-updated_at-kept : (t : ResolvedTable) (vars : List Datum) (sets : List (SetItem ResolvedExpr)) (row : List Datum) (rows : List (List Datum)) → Row (columns_of t) row → Each (Row (columns_of t)) rows → Kept (λ c. Each (Row (columns_of t)) c.rows) (updated_at (over vars) plain (schema_of t) sets row rows)
-updated_at-kept t vars sets row rows r h =
+updated_at-kept : (keyed : List (List Datum) → Bool) (t : ResolvedTable) (vars : List Datum) (sets : List (SetItem ResolvedExpr)) (row : List Datum) (rows : List (List Datum)) → Row (columns_of t) row → Each (Row (columns_of t)) rows → Kept (λ c. Each (Row (columns_of t)) c.rows) (updated_at (over vars) plain (schema_of keyed t) sets row rows)
+updated_at-kept keyed t vars sets row rows r h =
     let P : List Datum → Type 0 = Row (columns_of t) in
     kept-then P (λ c. Each P c.rows) (set_row (over vars) t.definition sets row) _ (set_row-right (over vars) t sets row r)
-    (λ new g. moving-kept P _ _ (ended-kept P plain (schema_of t) (rows_but t.definition row rows ++ new ∷ []) (each-append P (rows_but t.definition row rows) (new ∷ []) (each-but P t.definition row rows h) (g, tt))))
+    (λ new g. moving-kept P _ _ (ended-kept P plain (schema_of keyed t) (rows_but t.definition row rows ++ new ∷ []) (each-append P (rows_but t.definition row rows) (new ∷ []) (each-but P t.definition row rows h) (g, tt))))
 
 -- the cursor as it is left stays of its shape
 left-shaped : (w : Shape) (c : Cursor) → IsShaped w c → IsShaped w (left_by c)
@@ -264,7 +271,7 @@ holds-update_at eval_context p table t sets cursor h seen =
     let P : List Datum → Type 0 = Row (columns_of t) in
     holds-bind (holds-schema_at table t h) (λ s q. holds-bind (holds-table_now table t h) (λ c f. holds-bind (holds-declared_at eval_context p cursor seen) (λ x g. holds-bind (now-at x cursor g.cursor g.same) (λ now k.
     holds-bind (holds-row_of_cursor P x c now f) (λ row r. holds-bind (holds-read {P = Anything} (λ st. st.variables) (λ st s. tt)) (λ vars u.
-    holds-bind (holds-unless_failed {P = λ (y : changing.Moved). Each P y.rows} s.def (updated_at (over vars) plain s (map set_item sets) row c.rows) (subst (λ y. Kept (λ z. Each P z.rows) (updated_at (over vars) plain y (map set_item sets) row c.rows)) (sym q) (updated_at-kept t vars (map set_item sets) row c.rows r f))) (λ y l.
+    holds-bind (holds-unless_failed {P = λ (y : changing.Moved). Each P y.rows} s.def (updated_at (over vars) plain s (map set_item sets) row c.rows) (subst (λ y. Kept (λ z. Each P z.rows) (updated_at (over vars) plain y (map set_item sets) row c.rows)) (sym q) (updated_at-kept p.0 t vars (map set_item sets) row c.rows r f))) (λ y l.
     holds-bind (holds-leaves table t c y.rows 1 h l) (λ w z. holds-leave_row y.moved x g.cursor now k))))))))
 
 holds-delete_at : {e : TypingContext} {m : Meaning} {s : StatementScope} (eval_context : EvalContext) → IsEvalContext e s eval_context → (table : ℕ) (t : ResolvedTable) (cursor : ℕ) → slice_get e.file.tables table ≡ Some t → IsSeen s cursor → Holds e m Anything (delete_at e.file eval_context table cursor)
@@ -272,7 +279,7 @@ holds-delete_at eval_context p table t cursor h seen =
     let P : List Datum → Type 0 = Row (columns_of t) in
     holds-bind (holds-schema_at table t h) (λ s q. holds-bind (holds-table_now table t h) (λ c f. holds-bind (holds-declared_at eval_context p cursor seen) (λ x g. holds-bind (now-at x cursor g.cursor g.same) (λ now k.
     holds-bind (holds-row_of_cursor P x c now f) (λ row r.
-    holds-bind (holds-unless_failed {P = Each P} s.def (deleted_at plain s row c.rows) (subst (λ y. Kept (Each P) (deleted_at plain y row c.rows)) (sym q) (ended-kept P plain (schema_of t) (rows_but t.definition row c.rows) (each-but P t.definition row c.rows f)))) (λ rows l.
+    holds-bind (holds-unless_failed {P = Each P} s.def (deleted_at plain s row c.rows) (subst (λ y. Kept (Each P) (deleted_at plain y row c.rows)) (sym q) (ended-kept P plain (schema_of keyed t) (rows_but t.definition row c.rows) (each-but P t.definition row c.rows f)))) (λ rows l.
     holds-bind (holds-leaves table t c rows 1 h l) (λ w z. holds-leave_row true x g.cursor now k)))))))
 
 -- ---- UPDATE and DELETE

@@ -60,7 +60,7 @@ procedure = record {
 }
 
 abbrev file : ResolvedFile
-file = record { tables = []; routines = procedure ∷ [] }
+file = record { tables = []; keys = []; routines = procedure ∷ [] }
 
 a_procedure_that_calls_itself : IsWellTyped file
 a_procedure_that_calls_itself = (

@@ -1,6 +1,6 @@
 //! The runs of a case over a store.
 ghost use Rattle.std.specs.Prelude.{◌≡◌, IfSome};
-ghost use Rattle.psm_code.specs.MachineInvariant.{AreKept};
+ghost use Rattle.psm_code.specs.MachineInvariant.{AreLawful};
 ghost use Rattle.psm_build.specs.Outcome.{CanRun, empty_tables};
 
 use crate::case::{Case, DEFAULT_TURNS};
@@ -63,9 +63,9 @@ fn run<S: Store>(
     text: &mut Vec<u8>,
 ) -> Result<(), AllocError>
     requires runs { CanRun code.now script.now.commands }
-    requires kept { AreKept code.now.tables (S.tables store.old) }
+    requires kept { AreLawful code.now (S.tables store.old) }
     requires unmarked { S.marks store.old ≡ 0 }
-    ensures kept { AreKept code.now.tables (S.tables store.new) }
+    ensures kept { AreLawful code.now (S.tables store.new) }
     ensures unmarked { S.marks store.new ≡ 0 }
 {
     let mut out = FrailSink::new(alloc, trouble)?;

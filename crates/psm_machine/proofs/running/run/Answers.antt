@@ -1,5 +1,5 @@
 use Rattle.std.proofs.Common.{sym, subst, ◌∙◌}
-use Rattle.psm_code.specs.MachineInvariant.{AreKept}
+use Rattle.psm_code.specs.MachineInvariant.{AreLawful}
 use Rattle.psm_machine.proofs.Finishing.{ends_due, kept_on, runs_back, runs_on}
 use Rattle.psm_machine.proofs.running.run.Goals as goal
 
@@ -10,7 +10,7 @@ returns-then-leaves_tables-clause-due g c =
 
 pub returns-then-leaves_tables-clause-kept : goal.returns-then-leaves_tables-clause-kept
 returns-then-leaves_tables-clause-kept g c =
-    subst (AreKept c.args.code.now.tables) (sym c.release.ensures.tables)
+    subst (AreLawful c.args.code.now) (sym c.release.ensures.tables)
     (kept_on c.args.code.now c.args.number c.args.arguments.items c.args.turns (g.S.Store.tables c.args.store.now) (g.S.Store.tables c.mark.new.self) (g.S.Store.tables c.run_after-finished.new.store) c.mark.ensures.tables
     c.requires.well_formed_code c.requires.takes c.requires.kept c.run_after-finished.result c.run_after-finished.ensures.due (sym c.leaves_tables.ensures ∙ c.if-leaves_tables.true))
 

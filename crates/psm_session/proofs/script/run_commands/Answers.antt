@@ -1,6 +1,6 @@
 use Rattle.std.proofs.Common.{◌+◌, ◌<◌, ℕ, List, ap, sym, subst, ◌∙◌, arith}
 use Rattle.psm_table.specs.Table.{Contents}
-use Rattle.psm_code.specs.MachineInvariant.{AreKept}
+use Rattle.psm_code.specs.MachineInvariant.{AreLawful}
 use Rattle.psm_unwind.specs.Marks.{most_open}
 use Rattle.psm_session.specs.Ends.{beginning}
 use Rattle.psm_session.specs.Steps.{standing}
@@ -18,7 +18,7 @@ loop-index-init g c =
     record {
       so_far = subst (λ (committed : List Contents). SoFar c.args.code.now c.args.commands.now 0 s (sunk w f w f) (standing tables c.args.turns.now committed)) (sym c.requires.stands) (so_far_none c.args.code.now c.args.commands.now s w f);
       kept = c.requires.kept;
-      committed = subst (AreKept c.args.code.now.tables) (sym c.requires.stands) c.requires.kept;
+      committed = subst (AreLawful c.args.code.now) (sym c.requires.stands) c.requires.kept;
       marked = marked_first (g.S.Store.holds c.args.store.now) c.args.mark (g.S.Store.marks c.args.store.now) c.requires.held c.requires.counted;
       keeps = keeps_first c.args.mark (g.S.Store.holds c.args.store.now) (g.S.Store.at c.args.store.now);
     }

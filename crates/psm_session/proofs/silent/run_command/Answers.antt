@@ -1,6 +1,6 @@
 use Rattle.std.proofs.Common.{List, Ok, refl, sym, subst}
 use Rattle.psm_table.specs.Table.{Contents}
-use Rattle.psm_code.specs.MachineInvariant.{AreKept}
+use Rattle.psm_code.specs.MachineInvariant.{AreLawful}
 use Rattle.psm_session.specs.Steps.{Makes, Settled, settled, standing}
 use Rattle.psm_session.specs.declared.step.Step.{Step}
 use Rattle.psm_session.proofs.CommandResults.{settled_makes, settles_committed, settles_tables}
@@ -24,14 +24,14 @@ pub returns-clause-kept : goal.returns-clause-kept
 returns-clause-kept g c =
     let mark = c.args.mark.now in
     let turns = c.work.new.turns in
-    settles_tables (AreKept c.args.code.now.tables) c.step_of.result c.args.command.now (standing (g.S.Store.tables c.work.new.store) turns (g.S.Store.at c.work.new.store mark))
+    settles_tables (AreLawful c.args.code.now) c.step_of.result c.args.command.now (standing (g.S.Store.tables c.work.new.store) turns (g.S.Store.at c.work.new.store mark))
     (standing (g.S.Store.tables c.settle.new.store) turns (g.S.Store.at c.settle.new.store c.settle.new.mark)) c.settle.result (c.settle.ensures.settles turns)
-    c.in_ok-end.ensures.kept (subst (AreKept c.args.code.now.tables) (sym (c.in_ok-end.ensures.keeps mark c.requires.held tt).1) c.requires.committed)
+    c.in_ok-end.ensures.kept (subst (AreLawful c.args.code.now) (sym (c.in_ok-end.ensures.keeps mark c.requires.held tt).1) c.requires.committed)
 
 pub returns-clause-committed : goal.returns-clause-committed
 returns-clause-committed g c =
     let mark = c.args.mark.now in
     let turns = c.work.new.turns in
-    settles_committed (AreKept c.args.code.now.tables) c.step_of.result c.args.command.now (standing (g.S.Store.tables c.work.new.store) turns (g.S.Store.at c.work.new.store mark))
+    settles_committed (AreLawful c.args.code.now) c.step_of.result c.args.command.now (standing (g.S.Store.tables c.work.new.store) turns (g.S.Store.at c.work.new.store mark))
     (standing (g.S.Store.tables c.settle.new.store) turns (g.S.Store.at c.settle.new.store c.settle.new.mark)) (Ok c.in_ok-settle.field-0) (c.in_ok-settle.ensures.settles turns)
-    c.in_ok-end.ensures.kept (subst (AreKept c.args.code.now.tables) (sym (c.in_ok-end.ensures.keeps mark c.requires.held tt).1) c.requires.committed)
+    c.in_ok-end.ensures.kept (subst (AreLawful c.args.code.now) (sym (c.in_ok-end.ensures.keeps mark c.requires.held tt).1) c.requires.committed)

@@ -1,6 +1,6 @@
 use Rattle.std.proofs.Common.{◌+◌, ℕ, Bool, List, [], ap, refl, sym, subst, ◌∙◌, arith}
 use Rattle.psm_table.specs.Table.{Contents}
-use Rattle.psm_code.specs.MachineInvariant.{AreKept}
+use Rattle.psm_code.specs.MachineInvariant.{AreLawful}
 use Rattle.psm_session.specs.Ends.{EndsWith, beginning}
 use Rattle.psm_session.specs.Steps.{Makes, standing}
 use Rattle.psm_session.proofs.Commands.{SoFarSilent, not_false, not_true, silent_cut, silent_next, silent_none}
@@ -15,7 +15,7 @@ loop-index-init g c =
       so_far = subst (λ (last : List ℕ). SoFarSilent c.args.code.now c.args.commands.now 0 s last (standing tables c.args.turns (g.S.Store.at c.args.store.now c.args.mark.now))) (sym c.new.ensures.items) begun;
       goes = refl;
       kept = c.requires.kept;
-      committed = subst (AreKept c.args.code.now.tables) (sym c.requires.stands) c.requires.kept;
+      committed = subst (AreLawful c.args.code.now) (sym c.requires.stands) c.requires.kept;
       marked = record { held = c.requires.held; depth_is = refl; counted = c.requires.counted };
     }
 
