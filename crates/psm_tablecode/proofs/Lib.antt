@@ -4,6 +4,7 @@ pub mod Conjunctions
 pub mod Faults
 pub mod Fitting
 pub mod KeyWalks
+pub mod Ranges
 pub mod Results
 pub mod Sought
 pub mod Stepped

@@ -1,6 +1,6 @@
--- Where a conjunction is true on a row, the row has the values for which it asks.
-use Rattle.std.proofs.Common.{◌≡◌, ℕ, suc, Bool, true, false, List, [], ◌∷◌, refl, ap, sym, ◌∙◌, Option, Some, None, Ok, Err}
-use Rattle.std.specs.Prelude.{slice_get, slice_index_or, if◌then◌else◌}
+-- Where a test that raises nothing is true on a row, the row has the values for which it asks.
+use Rattle.std.proofs.Common.{◌≡◌, ℕ, suc, Bool, true, false, List, [], ◌∷◌, drop, refl, ap, sym, ◌∙◌, eqb-true, Option, Some, None, Ok, Err}
+use Rattle.std.specs.Prelude.{nat_eq, slice_get, slice_index_or, if◌then◌else◌}
 use Rattle.std.specs.Option.{option_or}
 use Rattle.std.specs.Ordering.{is_eq, ordering_reverse, ordering_then}
 use Rattle.std.specs.declared.cmp.Ordering.{Ordering}
@@ -25,7 +25,7 @@ use Rattle.psm_exprcode.specs.Comparison.{truth_of}
 use Rattle.psm_exprcode.specs.Evaluated.{evaluated, Outcome}
 use Rattle.psm_table.specs.Evaluator.{test_of}
 use Rattle.psm_table.specs.Key.{key_order, row_order, values_at}
-use Rattle.psm_tablecode.specs.Asked.{each_sought, fixed, is_column, is_conjoined, is_conjunction, is_equality, key_asked, made_equal, opposite, sought, sought_first, with_first}
+use Rattle.psm_tablecode.specs.Asked.{are_quiet, each_sought, fixed, free, is_column, is_equality, is_quiet, key_asked, made_equal, opposite, sought, sought_here, with_first}
 use Rattle.psm_tablecode.specs.Codes.{over, truth_in}
 use Rattle.psm_tablecode.proofs.Conjunctions.{all_true, meets_next, raises_nothing, says, trues, Meets}
 
@@ -75,7 +75,7 @@ compared_true row vars a b os under new e h t =
     certain_equal a b (and_first (is_certain (equality a b)) (all_true os) (ap all_true same ∙ t))
 
 -- a column that is put is there
-column_put : (row : List Datum) (c : ℕ) (os new : List Operand) (o : Option Datum) → slice_get row c ≡ o → with_named os o ≡ Went Ahead new
+pub column_put : (row : List Datum) (c : ℕ) (os new : List Operand) (o : Option Datum) → slice_get row c ≡ o → with_named os o ≡ Went Ahead new
     → (x : Datum) × (slice_index_or row c Null ≡ x) × (new ≡ Value x ∷ os)
 column_put row c os new (Some x) e h = (x, get_or_from_slice_get row c x Null e, (let same : new ≡ Value x ∷ os = cc in same))
 column_put row c os new None e h = absurd (cc)
@@ -123,31 +123,41 @@ module _ (row vars : List Datum) where
   abbrev Says_equal : ℕ → Datum → Type 0
   Says_equal c d = data_order (slice_index_or row c Null) d ≡ Equal
 
-  rest_of : (l : Line) (lines : List Line) → is_conjunction (l ∷ lines) ≡ true → is_conjunction lines ≡ true
-  rest_of l lines h = and_second (is_conjoined l.op) (is_conjunction lines) h
+  rest_of : (l : Line) (lines : List Line) → are_quiet (l ∷ lines) ≡ true → are_quiet lines ≡ true
+  rest_of l lines h = and_second (is_quiet l.op) (are_quiet lines) h
 
-  first_equal : (c : ℕ) (d : Datum) (n : ℕ) (lines : List Line) (os : List Operand) → is_conjunction lines ≡ true → Meets row vars n lines os → sought_first c vars lines ≡ Some d → Says_equal c d
-  first_equal c d n [] os h m s = cc
-  first_equal c d n (a ∷ []) os h m s = cc
-  first_equal c d n (a ∷ b ∷ []) os h m s = cc
+  none_here : {P : Type 0} (b : Bool) (d : Datum) → (if b then None else None) ≡ Some d → P
+  none_here true d e = absurd (cc)
+  none_here false d e = absurd (cc)
+
+  here_by : (b : Bool) (o : Option Datum) (d : Datum) → (if b then o else None) ≡ Some d → (b ≡ true) × (o ≡ Some d)
+  here_by true o d e = (refl, e)
+  here_by false o d e = absurd (cc)
+
+  first_equal : (c : ℕ) (d : Datum) (n : ℕ) (lines : List Line) (os : List Operand) → are_quiet lines ≡ true → Meets row vars n lines os → sought_here c vars lines ≡ Some d → Says_equal c d
+  first_equal c d n [] os h m s = none_here (nat_eq (free []) 0) d s
+  first_equal c d n (a ∷ []) os h m s = none_here (nat_eq (free []) 0) d s
+  first_equal c d n (a ∷ b ∷ []) os h m s = none_here (nat_eq (free []) 0) d s
   first_equal c d n (a ∷ b ∷ e ∷ lines) os h m s =
-      let h1 : is_conjunction (b ∷ e ∷ lines) ≡ true = rest_of a (b ∷ e ∷ lines) h in
-      let h2 : is_conjunction (e ∷ lines) ≡ true = rest_of b (e ∷ lines) h1 in
+      let h1 : are_quiet (b ∷ e ∷ lines) ≡ true = rest_of a (b ∷ e ∷ lines) h in
+      let h2 : are_quiet (e ∷ lines) ≡ true = rest_of b (e ∷ lines) h1 in
       let x = meets_next row vars n a (b ∷ e ∷ lines) os h m in
       let y = meets_next row vars (suc n) b (e ∷ lines) x.0 h1 x.2 in
       let z = meets_next row vars (suc (suc n)) e lines y.0 h2 y.2 in
-      equal_made row vars c d a.op b.op e.op os x.0 y.0 z.0 x.1 y.1 z.1 (trues row vars (suc (suc (suc n))) lines z.0 (rest_of e lines h2) z.2) s
+      let k = here_by (nat_eq (free lines) 0) (made_equal c vars a.op b.op e.op) d s in
+      let t : all_true z.0 ≡ true = ap (λ j. all_true (drop j z.0)) (sym (eqb-true (free lines) 0 k.0)) ∙ trues row vars (suc (suc (suc n))) lines z.0 (rest_of e lines h2) z.2 in
+      equal_made row vars c d a.op b.op e.op os x.0 y.0 z.0 x.1 y.1 z.1 t k.1
 
-  sought_by : (c : ℕ) (d : Datum) (n : ℕ) (l : Line) (lines : List Line) (os : List Operand) → is_conjunction (l ∷ lines) ≡ true → Meets row vars n (l ∷ lines) os
+  sought_by : (c : ℕ) (d : Datum) (n : ℕ) (l : Line) (lines : List Line) (os : List Operand) → are_quiet (l ∷ lines) ≡ true → Meets row vars n (l ∷ lines) os
       → ((new : List Operand) → Meets row vars (suc n) lines new → sought c vars lines ≡ Some d → Says_equal c d)
-      → (o : Option Datum) → sought_first c vars (l ∷ lines) ≡ o → option_or o (sought c vars lines) ≡ Some d → Says_equal c d
+      → (o : Option Datum) → sought_here c vars (l ∷ lines) ≡ o → option_or o (sought c vars lines) ≡ Some d → Says_equal c d
   sought_by c d n l lines os h m rest (Some x) f s = first_equal c d n (l ∷ lines) os h m (f ∙ s)
   sought_by c d n l lines os h m rest None f s = let next = meets_next row vars n l lines os h m in rest next.0 next.2 s
 
-  sought_equal : (c : ℕ) (d : Datum) (n : ℕ) (lines : List Line) (os : List Operand) → is_conjunction lines ≡ true → Meets row vars n lines os → sought c vars lines ≡ Some d → Says_equal c d
+  pub sought_equal : (c : ℕ) (d : Datum) (n : ℕ) (lines : List Line) (os : List Operand) → are_quiet lines ≡ true → Meets row vars n lines os → sought c vars lines ≡ Some d → Says_equal c d
   sought_equal c d n [] os h m s = cc
   sought_equal c d n (l ∷ lines) os h m s =
-      sought_by c d n l lines os h m (λ new k r. sought_equal c d (suc n) lines new (rest_of l lines h) k r) (sought_first c vars (l ∷ lines)) refl s
+      sought_by c d n l lines os h m (λ new k r. sought_equal c d (suc n) lines new (rest_of l lines h) k r) (sought_here c vars (l ∷ lines)) refl s
 
   each_by : (x : Datum) (xs : List Datum) (o : Option Datum) (rest : Option (List Datum)) (key : List Datum) → with_first o rest ≡ Some key
       → ((d : Datum) → o ≡ Some d → data_order x d ≡ Equal) → ((ds : List Datum) → rest ≡ Some ds → key_order xs ds ≡ Equal) → key_order (x ∷ xs) key ≡ Equal
@@ -157,7 +167,7 @@ module _ (row vars : List Datum) where
       let same : d ∷ ds ≡ key = cc in
       ap (key_order (x ∷ xs)) (sym same) ∙ ap (λ (o : Ordering). ordering_then o (key_order xs ds)) (f d refl) ∙ g ds refl
 
-  each_equal : (columns : List ℕ) (lines : List Line) (key : List Datum) → is_conjunction lines ≡ true → Meets row vars 0 lines [] → each_sought columns vars lines ≡ Some key → row_order columns key row ≡ Equal
+  each_equal : (columns : List ℕ) (lines : List Line) (key : List Datum) → are_quiet lines ≡ true → Meets row vars 0 lines [] → each_sought columns vars lines ≡ Some key → row_order columns key row ≡ Equal
   each_equal [] lines key h m e = let same : [] ≡ key = cc in ap (key_order []) (sym same)
   each_equal (c ∷ columns) lines key h m e =
       each_by (slice_index_or row c Null) (values_at columns row) (sought c vars lines) (each_sought columns vars lines) key e
@@ -165,13 +175,13 @@ module _ (row vars : List Datum) where
 
   -- ---- tests
 
-  met_truth : (o : Outcome) → truth_in o ≡ Ok True → o ≡ Some (Ok (Truth True))
+  pub met_truth : (o : Outcome) → truth_in o ≡ Ok True → o ≡ Some (Ok (Truth True))
   met_truth (Some (Ok (Value d))) e = cc
   met_truth (Some (Ok (Truth t))) e = let same : t ≡ True = cc in ap (λ (u : truth_value.Truth). Some (Ok (Truth u))) same
   met_truth (Some (Err s)) e = cc
   met_truth None e = cc
 
-  quiet_truth : (o : Outcome) → ((s : List ℕ) → o ≡ Some (Err s) → ⊥) → (t : truth_value.Truth) × (truth_in o ≡ Ok t)
+  pub quiet_truth : (o : Outcome) → ((s : List ℕ) → o ≡ Some (Err s) → ⊥) → (t : truth_value.Truth) × (truth_in o ≡ Ok t)
   quiet_truth (Some (Ok (Value d))) h = (Unknown, refl)
   quiet_truth (Some (Ok (Truth t))) h = (t, refl)
   quiet_truth (Some (Err s)) h = absurd (h s refl)
@@ -182,8 +192,8 @@ module _ (row vars : List Datum) where
   asked_by false o key e = absurd (cc)
 
   module _ (columns : List ℕ) (lines : List Line) (key : List Datum) (asks : key_asked columns vars (Some lines) ≡ Some key) where
-    asked : (is_conjunction lines ≡ true) × (each_sought columns vars lines ≡ Some key)
-    asked = asked_by (is_conjunction lines) (each_sought columns vars lines) key asks
+    asked : (are_quiet lines ≡ true) × (each_sought columns vars lines ≡ Some key)
+    asked = asked_by (are_quiet lines) (each_sought columns vars lines) key asks
 
     pub asked_quiet : (t : truth_value.Truth) × (test_of (over vars) (Some lines) row ≡ Ok t)
     asked_quiet = quiet_truth (evaluated lines row vars) (λ s e. raises_nothing row vars 0 lines [] s asked.0 e)

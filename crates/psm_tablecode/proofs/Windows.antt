@@ -1,6 +1,6 @@
 -- Lines of code looked at one after another.
-use Rattle.std.proofs.Common.{◌≡◌, ℕ, zero, suc, ◌+◌, ◌<◌, Bool, true, false, ◌&&◌, List, [], ◌∷◌, ◌++◌, length, drop, get_or, append_assoc, refl, ap, sym, subst, ◌∙◌, arith, Option, Some, None}
-use Rattle.std.specs.Prelude.{option_map, slice_get, IfSome, if◌then◌else◌}
+use Rattle.std.proofs.Common.{◌≡◌, ℕ, zero, suc, ◌+◌, ◌-◌, ◌<◌, ◌≤◌, Bool, true, false, ◌&&◌, List, [], ◌∷◌, ◌++◌, length, length-drop, drop, get_or, append_assoc, refl, ap, sym, subst, ◌∙◌, arith, Option, Some, None}
+use Rattle.std.specs.Prelude.{nat_eq, option_map, slice_get, IfSome, if◌then◌else◌}
 use Rattle.std.specs.Option.{option_or}
 use Rattle.std.proofs.Math.Seq.{drop-length}
 use Rattle.std.proofs.lemmas.List.{append-nil}
@@ -8,7 +8,7 @@ use Rattle.std.proofs.lemmas.Option.{get_or_from_slice_get, slice_get_within}
 use Rattle.psm_value.specs.declared.datum.Datum.{Datum}
 use Rattle.psm_exprcode.specs.declared.op.Line.{Line}
 use Rattle.psm_exprcode.specs.declared.op.Op.{Op}
-use Rattle.psm_tablecode.specs.Asked.{each_sought, key_asked, is_conjoined, is_conjunction, made_equal, sought, sought_first, with_first}
+use Rattle.psm_tablecode.specs.Asked.{are_quiet, each_sought, free, free_before, is_quiet, key_asked, made_equal, sought, sought_first, with_first}
 use Rattle.psm_tablecode.proofs.Collecting.{first_of}
 
 -- the operation of the line at a place
@@ -39,23 +39,34 @@ module _ (lines : List Line) (at : ℕ) where
   past_is : slice_get lines at ≡ None → (drop at lines ≡ []) × (drop (at + 1) lines ≡ [])
   past_is e = let p = none_past lines at e in (p.0, ap (λ n. drop n lines) (sym next_is) ∙ p.1)
 
-  -- ---- conjunctions
+  -- ---- lines that raise nothing
 
-  pub conjoined_some : (o : Op) → Some o ≡ op_at lines at → is_conjunction (drop at lines) ≡ (is_conjoined o && is_conjunction (drop (at + 1) lines))
-  conjoined_some o e =
+  pub quiet_some : (o : Op) → Some o ≡ op_at lines at → are_quiet (drop at lines) ≡ (is_quiet o && are_quiet (drop (at + 1) lines))
+  quiet_some o e =
       let l = line_of (slice_get lines at) o e in
-      ap is_conjunction (line_is l.0 l.1) ∙ ap (λ (p : Op). is_conjoined p && is_conjunction (drop (at + 1) lines)) l.2
+      ap are_quiet (line_is l.0 l.1) ∙ ap (λ (p : Op). is_quiet p && are_quiet (drop (at + 1) lines)) l.2
 
-  pub conjoined_none : None ≡ op_at lines at → is_conjunction (drop at lines) ≡ is_conjunction (drop (at + 1) lines)
-  conjoined_none e = let p = past_is (line_none (slice_get lines at) e) in ap is_conjunction p.0 ∙ sym (ap is_conjunction p.1)
+  pub quiet_none : None ≡ op_at lines at → are_quiet (drop at lines) ≡ are_quiet (drop (at + 1) lines)
+  quiet_none e = let p = past_is (line_none (slice_get lines at) e) in ap are_quiet p.0 ∙ sym (ap are_quiet p.1)
 
-  -- ---- values sought
+  -- ---- operands that needn't be true
 
-  pub sought_some : (c : ℕ) (vars : List Datum) (d : Datum) → at < length lines → sought_first c vars (drop at lines) ≡ Some d → sought c vars (drop at lines) ≡ Some d
-  sought_some c vars d l f = found (drop at lines) f where
-    found : (ls : List Line) → sought_first c vars ls ≡ Some d → sought c vars ls ≡ Some d
-    found [] e = cc
-    found (a ∷ ls) e = ap (λ (o : Option Datum). option_or o (sought c vars ls)) e
+  pub free_some : (o : Op) → Some o ≡ op_at lines at → free (drop at lines) ≡ free_before o (free (drop (at + 1) lines))
+  free_some o e =
+      let l = line_of (slice_get lines at) o e in
+      ap free (line_is l.0 l.1) ∙ ap (λ (p : Op). free_before p (free (drop (at + 1) lines))) l.2
+
+  pub free_none : None ≡ op_at lines at → free (drop at lines) ≡ 0
+  free_none e = let p = past_is (line_none (slice_get lines at) e) in ap free p.0
+
+module _ (lines : List Line) (at : ℕ) where
+  pub free_end : at ≡ length lines → 0 ≡ free (drop at lines)
+  free_end e = sym (ap (λ n. free (drop n lines)) e ∙ ap free (drop-length lines))
+
+  pub free_back : (n now : ℕ) (o : Op) → 1 ≤ at → Some o ≡ op_at lines (at - 1) → n ≡ free (drop at lines) → now ≡ free_before o n → now ≡ free (drop (at - 1) lines)
+  free_back n now o h e f g =
+      let p : at ≡ at - 1 + 1 = omega (arith, h) in
+      g ∙ ap (free_before o) (f ∙ ap (λ m. free (drop m lines)) p) ∙ sym (free_some lines (at - 1) o e)
 
 -- three operations, where there are three
 abbrev pub of_ops : ℕ → List Datum → Option Op → Option Op → Option Op → Option Datum
@@ -90,12 +101,46 @@ first_by c vars lines at a b e p q r =
     ap (λ (x : Option Op). of_ops c vars x b e) p ∙ ap (λ (x : Option Op). of_ops c vars (op_at lines at) x e) q ∙ ap (λ (x : Option Op). of_ops c vars (op_at lines at) (op_at lines (at + 1)) x) r
     ∙ sym (first_at c vars lines at)
 
-pub sought_none : (c : ℕ) (vars : List Datum) (lines : List Line) (at : ℕ) → at < length lines → sought_first c vars (drop at lines) ≡ None → sought c vars (drop at lines) ≡ sought c vars (drop (at + 1) lines)
-sought_none c vars lines at l f = passed lines at l f where
-  passed : (ls : List Line) (n : ℕ) → n < length ls → sought_first c vars (drop n ls) ≡ None → sought c vars (drop n ls) ≡ sought c vars (drop (n + 1) ls)
-  passed [] n m e = absurd (omega (arith, m))
-  passed (a ∷ ls) zero m e = ap (λ (o : Option Datum). option_or o (sought c vars ls)) e
-  passed (a ∷ ls) (suc n) m e = let s : suc (n + 1) ≡ suc n + 1 = omega arith in passed ls n (omega (arith, m)) e ∙ ap (λ k. sought c vars (drop k (a ∷ ls))) s
+-- ---- values sought
+
+module _ (c : ℕ) (vars : List Datum) (lines : List Line) where
+  -- the first value in the lines from a place on, where its three lines are before another
+  abbrev pub found_from : ℕ → Option Datum
+  found_from at = sought c vars (drop at lines)
+
+  short : (ls : List Line) → length ls < 3 → sought c vars ls ≡ None
+  short [] h = refl
+  short (a ∷ []) h = refl
+  short (a ∷ b ∷ []) h = refl
+  short (a ∷ b ∷ e ∷ ls) h = absurd (omega (arith, h))
+
+  from_place : (ls : List Line) (p : ℕ) → p < length ls
+      → sought c vars (drop p ls) ≡ option_or (if nat_eq (free (drop (p + 3) ls)) 0 then sought_first c vars (drop p ls) else None) (sought c vars (drop (p + 1) ls))
+  from_place [] p h = absurd (omega (arith, h))
+  from_place (l ∷ ls) zero h = let e : 3 ≡ 0 + 3 = omega arith in ap (λ n. option_or (if nat_eq (free (drop n (l ∷ ls))) 0 then sought_first c vars (l ∷ ls) else None) (sought c vars ls)) e
+  from_place (l ∷ ls) (suc p) h =
+      let e : suc (p + 3) ≡ suc p + 3 = omega arith in
+      let f : suc (p + 1) ≡ suc p + 1 = omega arith in
+      from_place ls p (omega (arith, h))
+      ∙ ap (λ n. option_or (if nat_eq (free (drop n (l ∷ ls))) 0 then sought_first c vars (drop p ls) else None) (sought c vars (drop (p + 1) ls))) e
+      ∙ ap (λ n. option_or (if nat_eq (free (drop (suc p + 3) (l ∷ ls))) 0 then sought_first c vars (drop p ls) else None) (sought c vars (drop n (l ∷ ls)))) f
+
+  -- at the end none is found
+  pub sought_end : (at : ℕ) → at ≡ length lines → None ≡ found_from (at - 2)
+  sought_end at e = sym (short (drop (at - 2) lines) (omega (arith, length-drop (at - 2) lines, e)))
+
+  pub sought_start : (at : ℕ) → at < 3 → found_from (at - 2) ≡ sought c vars lines
+  sought_start at h = let e : at - 2 ≡ 0 = omega (arith, h) in ap found_from e
+
+  pub sought_back : (at n : ℕ) (found now : Option Datum) → 3 ≤ at → at ≤ length lines → n ≡ free (drop at lines) → found ≡ found_from (at - 2)
+      → now ≡ option_or (if nat_eq n 0 then sought_first c vars (drop (at - 3) lines) else None) found → now ≡ found_from (at - 1 - 2)
+  sought_back at n found now h b f g e =
+      let p : at ≡ at - 3 + 3 = omega (arith, h) in
+      let q : at - 2 ≡ at - 3 + 1 = omega (arith, h) in
+      let r : at - 3 ≡ at - 1 - 2 = omega (arith, h) in
+      e ∙ ap (λ o. option_or (if nat_eq n 0 then sought_first c vars (drop (at - 3) lines) else None) o) (g ∙ ap found_from q)
+      ∙ ap (λ m. option_or (if nat_eq m 0 then sought_first c vars (drop (at - 3) lines) else None) (found_from (at - 3 + 1))) (f ∙ ap (λ m. free (drop m lines)) p)
+      ∙ sym (from_place lines (at - 3) (omega (arith, h, b))) ∙ ap found_from r
 
 -- ---- the values of a key
 
@@ -146,7 +191,7 @@ long_if false n o h = tt
 
 asked_long : (columns : List ℕ) (vars : List Datum) (test : Option (List Line)) → IfSome (key_asked columns vars test) (λ key. length key ≡ length columns)
 asked_long columns vars None = tt
-asked_long columns vars (Some lines) = long_if (is_conjunction lines) (length columns) (each_sought columns vars lines) (each_long columns vars lines)
+asked_long columns vars (Some lines) = long_if (are_quiet lines) (length columns) (each_sought columns vars lines) (each_long columns vars lines)
 
 pub asked_fits : (columns : List ℕ) (vars : List Datum) (test : Option (List Line)) (n : ℕ) → length columns ≡ n → IfSome (key_asked columns vars test) (λ key. length key ≡ n)
 asked_fits columns vars test n e = subst (λ m. IfSome (key_asked columns vars test) (λ key. length key ≡ m)) e (asked_long columns vars test)

@@ -1,4 +1,5 @@
 pub mod Asked
+pub mod Bounds
 pub mod Codes
 pub mod RemainingRows
 pub mod Faults

@@ -1,6 +1,6 @@
 //! The key for which a test asks (ISO/IEC 9075:1992, 8.2 and 8.12).
-ghost use Rattle.std.specs.Prelude.{◌≡◌, ◌+◌, ◌&&◌, drop, IfOk};
-ghost use Rattle.std.specs.Option.{option_copied};
+ghost use Rattle.std.specs.Prelude.{◌≡◌, ◌+◌, ◌-◌, ◌≤◌, ◌<◌, ◌^◌, ◌&&◌, drop, nat_eq, None, IfOk, if◌then◌else◌};
+ghost use Rattle.std.specs.Option.{option_copied, option_or};
 ghost use Rattle.psm_tablecode.specs.Asked as asked;
 
 use psm_exprcode::{ExprCode, Op, RawExpr};
@@ -8,8 +8,8 @@ use psm_table::Key;
 use psm_value::Datum;
 use std::alloc::{AllocError, Global};
 
-/// The key for which a test asks, where it asks for one: it is a conjunction of predicates that raise no condition, and
-/// one of these makes each of the key's columns equal to a constant or a variable. It takes memory for the key alone.
+/// The key for which a test asks, where it asks for one: its predicates raise no condition, and one that has to be true
+/// makes each of the key's columns equal to a constant or a variable. It takes memory for the key alone.
 pub(crate) fn key_asked(
     alloc: Global,
     columns: &[u32],
@@ -21,42 +21,44 @@ pub(crate) fn key_asked(
     let Some(code) = test else {
         return Ok(None);
     };
-    if is_conjunction(code.lines()) {
+    if are_quiet(code.lines()) {
         each_sought(alloc, columns, code.lines(), vars)
     } else {
         Ok(None)
     }
 }
 
-fn is_conjunction(lines: &RawExpr) -> bool
-    ensures { result ≡ asked.is_conjunction lines.now }
+// Whether the lines raise nothing and go on from each to the next.
+fn are_quiet(lines: &RawExpr) -> bool
+    ensures { result ≡ asked.are_quiet lines.now }
 {
     for at in 0..lines.len() {
-        if !is_conjoined_at(lines, at) {
+        if !is_quiet_at(lines, at) {
             return false;
         }
     }
     true
 }
 
-// Whether the line at a place may stand in a conjunction; one that isn't there may.
-fn is_conjoined_at(lines: &RawExpr, at: usize) -> bool
-    ensures { asked.is_conjunction (drop at lines.now) ≡ (result && asked.is_conjunction (drop (at + 1) lines.now)) }
+// The same of the line at a place; one that isn't there does.
+fn is_quiet_at(lines: &RawExpr, at: usize) -> bool
+    ensures { asked.are_quiet (drop at lines.now) ≡ (result && asked.are_quiet (drop (at + 1) lines.now)) }
 {
     match lines.op(at) {
-        Some(op) => is_conjoined(op),
+        Some(op) => is_quiet(op),
         None => true,
     }
 }
 
-fn is_conjoined(op: &Op) -> bool
-    ensures { result ≡ asked.is_conjoined op.now }
+fn is_quiet(op: &Op) -> bool
+    ensures { result ≡ asked.is_quiet op.now }
 {
     match op {
         Op::Constant(_, _) | Op::Variable(_) | Op::Column(_) => true,
         Op::Equal | Op::NotEqual => true,
         Op::Less | Op::LessOrEqual | Op::Greater | Op::GreaterOrEqual => true,
-        Op::IsNull | Op::Between | Op::And => true,
+        Op::IsNull | Op::Between | Op::In(_) | Op::Like => true,
+        Op::And | Op::Or | Op::Not => true,
         _ => false,
     }
 }
@@ -80,16 +82,95 @@ fn each_sought(
     Ok(Some(Key::of(values)))
 }
 
-// The first value to which the lines make a column equal.
+// The first value to which the lines make a column equal where they end with true. The lines are gone through from the
+// last one on, with the number of operands that needn't be true.
+#[tactic(auto, using(crate::proofs::Windows::free_end, crate::proofs::Windows::sought_end, crate::proofs::Windows::sought_back, crate::proofs::Windows::sought_start))]
 fn sought<'a>(column: u32, lines: &'a RawExpr, vars: &'a [Datum]) -> Option<&'a Datum>
     ensures { option_copied result ≡ asked.sought column vars.now lines.now }
 {
-    for at in 0..lines.len() {
-        if let Some(value) = sought_at(column, lines, at, vars) {
-            return Some(value);
-        }
+    let mut found = None;
+    let mut free = 0;
+    let mut at = lines.len();
+    while at >= 3 {
+        found = sought_before(column, lines, at, free, vars, found);
+        free = free_behind(lines, at, free);
+        at -= 1;
     }
-    None
+    found
+}
+
+// The value to which the three lines before a place make a column equal, if they have to be true, or one that was found.
+fn sought_before<'a>(
+    column: u32,
+    lines: &'a RawExpr,
+    at: usize,
+    free: u128,
+    vars: &'a [Datum],
+    found: Option<&'a Datum>,
+) -> Option<&'a Datum>
+    requires { 3 ≤ at }
+    ensures { option_copied result ≡ option_or (if nat_eq free 0 then asked.sought_first column vars.now (drop (at - 3) lines.now) else None) (option_copied found.entry) }
+{
+    if free != 0 {
+        return found;
+    }
+    match sought_at(column, lines, at - 3, vars) {
+        Some(value) => Some(value),
+        None => found,
+    }
+}
+
+// How many operands needn't be true before the line that ends at a place, with those before the lines after it.
+fn free_behind(lines: &RawExpr, at: usize, free: u128) -> u128
+    requires within { 1 ≤ at }
+    requires after { free ≡ asked.free (drop at lines.now) }
+    requires room { free < 2 ^ 127 }
+    ensures value { result ≡ asked.free (drop (at - 1) lines.now) }
+    ensures bound { result ≤ free + 2 ^ 33 }
+{
+    match lines.op(at - 1) {
+        Some(op) => free_before(op, free),
+        None => 0,
+    }
+}
+
+fn free_before(op: &Op, free: u128) -> u128
+    requires { free < 2 ^ 127 }
+    ensures value { result ≡ asked.free_before op.now free }
+    ensures bound { result ≤ free + 2 ^ 33 }
+{
+    if free > 0 {
+        free - 1 + taken(op)
+    } else if is_and(op) {
+        0
+    } else {
+        taken(op)
+    }
+}
+
+fn is_and(op: &Op) -> bool
+    ensures { result ≡ asked.is_and op.now }
+{
+    match op {
+        Op::And => true,
+        _ => false,
+    }
+}
+
+// How many operands an operation takes that raises nothing.
+fn taken(op: &Op) -> u128
+    ensures value { result ≡ asked.takes op.now }
+    ensures bound { result ≤ 2 ^ 33 }
+{
+    match op {
+        Op::Equal | Op::NotEqual => 2,
+        Op::Less | Op::LessOrEqual | Op::Greater | Op::GreaterOrEqual => 2,
+        Op::And | Op::Or | Op::Like => 2,
+        Op::IsNull | Op::Not => 1,
+        Op::Between => 3,
+        Op::In(count) => *count as u128 + 1,
+        _ => 0,
+    }
 }
 
 // The value to which the three lines from a place on make a column equal.

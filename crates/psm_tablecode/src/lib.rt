@@ -10,7 +10,7 @@ mod typing;
 mod walking;
 
 pub use evaluating::{meets, taken, truth, value, values};
-pub use laws::access_by_key;
+pub use laws::{access_between_bounds, access_by_key};
 pub use psm_cond::DataFault;
 pub use psm_exprcode::{Aggregate, ExprCode, Items, Operand, Query, SetFunction};
 pub use raising::raised;

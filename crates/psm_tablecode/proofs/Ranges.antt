@@ -1,0 +1,392 @@
+-- Where a test that raises nothing is true on a row, the key of the row is between the bounds for which it asks; so a walk over the
+-- rows between them takes what a walk over all rows takes.
+use Rattle.std.proofs.Common.{◌≡◌, ℕ, suc, Bool, true, false, ◌&&◌, List, [], ◌∷◌, drop, refl, ap, sym, ◌∙◌, eqb-true, Option, Some, None, Result, Ok}
+use Rattle.std.specs.Prelude.{cond, filter, nat_eq, slice_get, slice_index_or, if◌then◌else◌}
+use Rattle.std.specs.List.{cons_option}
+use Rattle.std.specs.Option.{option_or}
+use Rattle.std.specs.Ordering.{is_eq, is_ge, is_gt, is_le, is_lt, ordering_reverse}
+use Rattle.std.specs.declared.cmp.Ordering.{Ordering}
+use Rattle.std.specs.declared.cmp.Ordering.TheVariants.{Less, Equal, Greater}
+use Rattle.psm_num.proofs.Literals.{and_first, and_second}
+use Rattle.psm_sqlstate.specs.declared.state.SqlState.{SqlState}
+use Rattle.psm_value.proofs.DataOrder.{data_order-turned}
+use Rattle.psm_value.specs.declared.datum.Datum.{Datum}
+use Rattle.psm_value.specs.declared.datum.Datum.TheVariants.{Null, Num, Text}
+use Rattle.psm_value.specs.declared.truth.Truth as truth_value
+use Rattle.psm_value.specs.declared.truth.Truth.TheVariants.{True, False, Unknown}
+use Rattle.psm_value.specs.Order.{data_order}
+use Rattle.psm_value.specs.Truth.{is_certain}
+use Rattle.psm_exprcode.specs.declared.op.Line.{Line}
+use Rattle.psm_exprcode.specs.declared.op.Op.{Op}
+use Rattle.psm_exprcode.specs.declared.op.Op.TheVariants as op
+use Rattle.psm_exprcode.specs.declared.operand.Operand.{Operand}
+use Rattle.psm_exprcode.specs.declared.operand.Operand.TheVariants.{Value, Truth}
+use Rattle.psm_exprcode.specs.declared.operand.Next.TheVariants.{Ahead}
+use Rattle.psm_exprcode.specs.Applied.{applied, Went}
+use Rattle.psm_exprcode.specs.Comparison.{truth_of}
+use Rattle.psm_exprcode.specs.Evaluated.{evaluated}
+use Rattle.psm_table.specs.Evaluator.{and_then, mapped, test_of}
+use Rattle.psm_table.specs.Key.{values_at}
+use Rattle.psm_table.specs.Queries.{in_walk, is_met, taken, walked}
+use Rattle.psm_table.specs.Table.{Contents}
+use Rattle.psm_tablecode.specs.Asked.{are_quiet, fixed, free, is_column, is_quiet, sought}
+use Rattle.psm_tablecode.specs.Bounds.{bounds_asked, bounds_by, bounds_of, end_of, end_with, from_test, has_between, high_made, is_between, is_from, is_up_to, low_made, made, made_first, of_range, rows_within, up_to_test, Bounds, End}
+use Rattle.psm_tablecode.specs.Codes.{over}
+use Rattle.psm_tablecode.proofs.Conjunctions.{all_true, meets_next, raises_nothing, says, trues, Meets}
+use Rattle.psm_tablecode.proofs.Results.{mapped-same}
+use Rattle.psm_tablecode.proofs.Sought.{column_put, met_truth, quiet_truth, sought_equal}
+
+-- ---- rows on which a test can be true
+
+module _ {A : Type 0} (P : List Datum → Bool) (test : List Datum → Result truth_value.Truth SqlState) (take : List Datum → Result A SqlState)
+    (quiet : (row : List Datum) → (t : truth_value.Truth) × (test row ≡ Ok t)) (only : (row : List Datum) → test row ≡ Ok True → P row ≡ true) where
+  passed_over : (row : List Datum) (t : truth_value.Truth) → test row ≡ Ok t → P row ≡ false → taken test take row ≡ Ok None
+  passed_over row True e n = let has : P row ≡ true = only row e in cc
+  passed_over row False e n = ap (λ (r : Result truth_value.Truth SqlState). and_then r (λ met. if is_met met then mapped (λ a. Some a) (take row) else Ok None)) e
+  passed_over row Unknown e n = ap (λ (r : Result truth_value.Truth SqlState). and_then r (λ met. if is_met met then mapped (λ a. Some a) (take row) else Ok None)) e
+
+  walked_first : (row : List Datum) (rows : List (List Datum)) (b : Bool) → P row ≡ b → walked test take rows ≡ walked test take (filter P rows)
+      → walked test take (row ∷ rows) ≡ walked test take (cond b (row ∷ filter P rows) (filter P rows))
+  walked_first row rows true e h = ap (λ w. and_then (taken test take row) (λ a. mapped (λ more. cons_option a more) w)) h
+  walked_first row rows false e h =
+      ap (λ (t : Result (Option A) SqlState). and_then t (λ a. mapped (λ more. cons_option a more) (walked test take rows))) (passed_over row (quiet row).0 (quiet row).1 e)
+      ∙ mapped-same (walked test take rows) ∙ h
+
+  pub walked-where : (rows : List (List Datum)) → walked test take rows ≡ walked test take (filter P rows)
+  walked-where [] = refl
+  walked-where (row ∷ rows) = walked_first row rows (P row) refl (walked-where rows)
+
+-- ---- comparisons
+
+-- whether the order of two values is as it is asked; unknown where one is null
+abbrev judged_by : (Ordering → Bool) → Datum → Datum → truth_value.Truth
+judged_by f Null b = Unknown
+judged_by f (Num a) Null = Unknown
+judged_by f (Num a) (Num b) = truth_of (f (data_order (Num a) (Num b)))
+judged_by f (Num a) (Text b) = truth_of (f (data_order (Num a) (Text b)))
+judged_by f (Text a) Null = Unknown
+judged_by f (Text a) (Num b) = truth_of (f (data_order (Text a) (Num b)))
+judged_by f (Text a) (Text b) = truth_of (f (data_order (Text a) (Text b)))
+
+-- the operation puts that on two values
+abbrev Judges : (Ordering → Bool) → Op → Type 0
+Judges f o = (a b : Datum) (os : List Operand) (row vars : List Datum) → applied o (Value b ∷ Value a ∷ os) row vars ≡ Went Ahead (Truth (judged_by f a b) ∷ os)
+
+judges_greater : Judges is_gt op.Greater
+judges_greater Null b os row vars = refl
+judges_greater (Num a) Null os row vars = refl
+judges_greater (Num a) (Num b) os row vars = refl
+judges_greater (Num a) (Text b) os row vars = refl
+judges_greater (Text a) Null os row vars = refl
+judges_greater (Text a) (Num b) os row vars = refl
+judges_greater (Text a) (Text b) os row vars = refl
+
+judges_at_least : Judges is_ge op.GreaterOrEqual
+judges_at_least Null b os row vars = refl
+judges_at_least (Num a) Null os row vars = refl
+judges_at_least (Num a) (Num b) os row vars = refl
+judges_at_least (Num a) (Text b) os row vars = refl
+judges_at_least (Text a) Null os row vars = refl
+judges_at_least (Text a) (Num b) os row vars = refl
+judges_at_least (Text a) (Text b) os row vars = refl
+
+judges_less : Judges is_lt op.Less
+judges_less Null b os row vars = refl
+judges_less (Num a) Null os row vars = refl
+judges_less (Num a) (Num b) os row vars = refl
+judges_less (Num a) (Text b) os row vars = refl
+judges_less (Text a) Null os row vars = refl
+judges_less (Text a) (Num b) os row vars = refl
+judges_less (Text a) (Text b) os row vars = refl
+
+judges_at_most : Judges is_le op.LessOrEqual
+judges_at_most Null b os row vars = refl
+judges_at_most (Num a) Null os row vars = refl
+judges_at_most (Num a) (Num b) os row vars = refl
+judges_at_most (Num a) (Text b) os row vars = refl
+judges_at_most (Text a) Null os row vars = refl
+judges_at_most (Text a) (Num b) os row vars = refl
+judges_at_most (Text a) (Text b) os row vars = refl
+
+certain_of : (x : Bool) → is_certain (truth_of x) ≡ true → x ≡ true
+certain_of true h = refl
+certain_of false h = cc
+
+certain_judged : (f : Ordering → Bool) (a b : Datum) → is_certain (judged_by f a b) ≡ true → f (data_order a b) ≡ true
+certain_judged f Null b h = cc
+certain_judged f (Num a) Null h = cc
+certain_judged f (Num a) (Num b) h = certain_of (f (data_order (Num a) (Num b))) h
+certain_judged f (Num a) (Text b) h = certain_of (f (data_order (Num a) (Text b))) h
+certain_judged f (Text a) Null h = cc
+certain_judged f (Text a) (Num b) h = certain_of (f (data_order (Text a) (Num b))) h
+certain_judged f (Text a) (Text b) h = certain_of (f (data_order (Text a) (Text b))) h
+
+-- the orders of a value that is from an end on, or up to it
+abbrev from_order : Bool → Ordering → Bool
+from_order is_in o = if is_in then is_ge o else is_gt o
+
+abbrev up_to_order : Bool → Ordering → Bool
+up_to_order is_in o = if is_in then is_le o else is_lt o
+
+from_turned : (is_in : Bool) (o : Ordering) → up_to_order is_in o ≡ true → from_order is_in (ordering_reverse o) ≡ true
+from_turned true Less h = refl
+from_turned true Equal h = refl
+from_turned true Greater h = cc
+from_turned false Less h = refl
+from_turned false Equal h = cc
+from_turned false Greater h = cc
+
+up_to_turned : (is_in : Bool) (o : Ordering) → from_order is_in o ≡ true → up_to_order is_in (ordering_reverse o) ≡ true
+up_to_turned true Less h = cc
+up_to_turned true Equal h = refl
+up_to_turned true Greater h = refl
+up_to_turned false Less h = cc
+up_to_turned false Equal h = cc
+up_to_turned false Greater h = refl
+
+-- what the words for a comparison say of it
+record Tells (o : Op) : Type 0 where
+  pub from : (is_in : Bool) → from_test o ≡ Some is_in → Judges (from_order is_in) o
+  pub up_to : (is_in : Bool) → up_to_test o ≡ Some is_in → Judges (up_to_order is_in) o
+
+untold : (o : Op) → from_test o ≡ None → up_to_test o ≡ None → Tells o
+untold o f u = record {
+  from = λ is_in h. absurd (cc);
+  up_to = λ is_in h. absurd (cc);
+}
+
+from_greater : (is_in : Bool) → from_test op.Greater ≡ Some is_in → Judges (from_order is_in) op.Greater
+from_greater true h = absurd (cc)
+from_greater false h = judges_greater
+
+from_at_least : (is_in : Bool) → from_test op.GreaterOrEqual ≡ Some is_in → Judges (from_order is_in) op.GreaterOrEqual
+from_at_least true h = judges_at_least
+from_at_least false h = absurd (cc)
+
+up_to_less : (is_in : Bool) → up_to_test op.Less ≡ Some is_in → Judges (up_to_order is_in) op.Less
+up_to_less true h = absurd (cc)
+up_to_less false h = judges_less
+
+up_to_at_most : (is_in : Bool) → up_to_test op.LessOrEqual ≡ Some is_in → Judges (up_to_order is_in) op.LessOrEqual
+up_to_at_most true h = judges_at_most
+up_to_at_most false h = absurd (cc)
+
+tells : (o : Op) → Tells o
+tells (op.Constant k d) = untold (op.Constant k d) refl refl
+tells (op.Variable i) = untold (op.Variable i) refl refl
+tells (op.Column i) = untold (op.Column i) refl refl
+tells op.Duplicate = untold op.Duplicate refl refl
+tells op.Drop = untold op.Drop refl refl
+tells op.DropBelow = untold op.DropBelow refl refl
+tells op.Negate = untold op.Negate refl refl
+tells op.Add = untold op.Add refl refl
+tells op.Subtract = untold op.Subtract refl refl
+tells op.Multiply = untold op.Multiply refl refl
+tells op.Divide = untold op.Divide refl refl
+tells (op.Rescale s) = untold (op.Rescale s) refl refl
+tells op.Concatenate = untold op.Concatenate refl refl
+tells op.CharacterLength = untold op.CharacterLength refl refl
+tells op.Position = untold op.Position refl refl
+tells op.SubstringFrom = untold op.SubstringFrom refl refl
+tells op.SubstringFromFor = untold op.SubstringFromFor refl refl
+tells (op.Trim side) = untold (op.Trim side) refl refl
+tells op.Upper = untold op.Upper refl refl
+tells op.Lower = untold op.Lower refl refl
+tells op.Equal = untold op.Equal refl refl
+tells op.NotEqual = untold op.NotEqual refl refl
+tells op.Less = record { from = λ is_in h. absurd (cc); up_to = up_to_less }
+tells op.LessOrEqual = record { from = λ is_in h. absurd (cc); up_to = up_to_at_most }
+tells op.Greater = record { from = from_greater; up_to = λ is_in h. absurd (cc) }
+tells op.GreaterOrEqual = record { from = from_at_least; up_to = λ is_in h. absurd (cc) }
+tells op.And = untold op.And refl refl
+tells op.Or = untold op.Or refl refl
+tells op.Not = untold op.Not refl refl
+tells op.IsNull = untold op.IsNull refl refl
+tells op.Like = untold op.Like refl refl
+tells op.LikeEscape = untold op.LikeEscape refl refl
+tells op.Between = untold op.Between refl refl
+tells (op.In n) = untold (op.In n) refl refl
+tells op.NullIf = untold op.NullIf refl refl
+tells (op.Cast to) = untold (op.Cast to) refl refl
+tells (op.Jump p) = untold (op.Jump p) refl refl
+tells (op.JumpUnlessTrue p) = untold (op.JumpUnlessTrue p) refl refl
+tells (op.JumpUnlessNull p) = untold (op.JumpUnlessNull p) refl refl
+
+-- an end has both parts
+ends : (i : Option Bool) (v : Option Datum) (d : End) → end_of i v ≡ Some d → (i ≡ Some d.is_in) × (v ≡ Some d.value)
+ends None v d h = absurd (cc)
+ends (Some i) None d h = absurd (cc)
+ends (Some i) (Some v) d h =
+    let same : end_with v i ≡ d = cc in
+    (ap (λ (x : End). Some x.is_in) same, ap (λ (x : End). Some x.value) same)
+
+-- ---- three operations on end
+
+module _ (row vars : List Datum) (c : ℕ) (a b e : Op) (os first second third : List Operand)
+    (puts_a : applied a os row vars ≡ Went Ahead first) (puts_b : applied b first row vars ≡ Went Ahead second) (puts_e : applied e second row vars ≡ Went Ahead third) (t : all_true third ≡ true) where
+  abbrev here : Datum
+  here = slice_index_or row c Null
+
+  column_of : (o : Op) (under over : List Operand) → is_column c o ≡ true → applied o under row vars ≡ Went Ahead over → (x : Datum) × (here ≡ x) × (over ≡ Value x ∷ under)
+  column_of o under over i p = column_put row c under over (slice_get row c) refl (sym (ap (λ (q : Op). applied q under row vars) ((says row vars o).column c i)) ∙ p)
+
+  value_of : (d : Datum) (o : Op) (under over : List Operand) → fixed vars o ≡ Some d → applied o under row vars ≡ Went Ahead over → over ≡ Value d ∷ under
+  value_of d o under over f p = let went : Went Ahead (Value d ∷ under) ≡ Went Ahead over = sym ((says row vars o).puts d f under) ∙ p in let same : over ≡ Value d ∷ under = cc in same
+
+  judged_at : (f : Ordering → Bool) → Judges f e → (x y : Datum) → second ≡ Value y ∷ Value x ∷ os → f (data_order x y) ≡ true
+  judged_at f j x y u =
+      let went : Went Ahead (Truth (judged_by f x y) ∷ os) ≡ Went Ahead third = sym (ap (λ l. applied e l row vars) u ∙ j x y os row vars) ∙ puts_e in
+      let same : Truth (judged_by f x y) ∷ os ≡ third = cc in
+      certain_judged f x y (and_first (is_certain (judged_by f x y)) (all_true os) (ap all_true same ∙ t))
+
+  on_left : (f : Ordering → Bool) → Judges f e → (d : Datum) → is_column c a ≡ true → fixed vars b ≡ Some d → f (data_order here d) ≡ true
+  on_left f j d i v =
+      let x = column_of a os first i puts_a in
+      ap (λ y. f (data_order y d)) x.1 ∙ judged_at f j x.0 d (value_of d b first second v puts_b ∙ ap (λ l. Value d ∷ l) x.2)
+
+  on_right : (f : Ordering → Bool) → Judges f e → (d : Datum) → is_column c b ≡ true → fixed vars a ≡ Some d → f (data_order d here) ≡ true
+  on_right f j d i v =
+      let x = column_of b first second i puts_b in
+      ap (λ y. f (data_order d y)) x.1 ∙ judged_at f j d x.0 (x.2 ∙ ap (λ l. Value x.0 ∷ l) (value_of d a os first v puts_a))
+
+  low_left : (d : End) → is_column c a ≡ true → end_of (from_test e) (fixed vars b) ≡ Some d → is_from (Some d) here ≡ true
+  low_left d i h = let p = ends (from_test e) (fixed vars b) d h in on_left (from_order d.is_in) ((tells e).from d.is_in p.0) d.value i p.1
+
+  low_right : (d : End) → is_column c b ≡ true → end_of (up_to_test e) (fixed vars a) ≡ Some d → is_from (Some d) here ≡ true
+  low_right d i h =
+      let p = ends (up_to_test e) (fixed vars a) d h in
+      ap (from_order d.is_in) (data_order-turned here d.value)
+      ∙ from_turned d.is_in (data_order d.value here) (on_right (up_to_order d.is_in) ((tells e).up_to d.is_in p.0) d.value i p.1)
+
+  high_left : (d : End) → is_column c a ≡ true → end_of (up_to_test e) (fixed vars b) ≡ Some d → is_up_to (Some d) here ≡ true
+  high_left d i h = let p = ends (up_to_test e) (fixed vars b) d h in on_left (up_to_order d.is_in) ((tells e).up_to d.is_in p.0) d.value i p.1
+
+  high_right : (d : End) → is_column c b ≡ true → end_of (from_test e) (fixed vars a) ≡ Some d → is_up_to (Some d) here ≡ true
+  high_right d i h =
+      let p = ends (from_test e) (fixed vars a) d h in
+      ap (up_to_order d.is_in) (data_order-turned here d.value)
+      ∙ up_to_turned d.is_in (data_order d.value here) (on_right (from_order d.is_in) ((tells e).from d.is_in p.0) d.value i p.1)
+
+  low_by : (d : End) (i j : Bool) → is_column c a ≡ i → is_column c b ≡ j → (if i then end_of (from_test e) (fixed vars b) else if j then end_of (up_to_test e) (fixed vars a) else None) ≡ Some d
+      → is_from (Some d) here ≡ true
+  low_by d true j p q h = low_left d p h
+  low_by d false true p q h = low_right d q h
+  low_by d false false p q h = absurd (cc)
+
+  high_by : (d : End) (i j : Bool) → is_column c a ≡ i → is_column c b ≡ j → (if i then end_of (up_to_test e) (fixed vars b) else if j then end_of (from_test e) (fixed vars a) else None) ≡ Some d
+      → is_up_to (Some d) here ≡ true
+  high_by d true j p q h = high_left d p h
+  high_by d false true p q h = high_right d q h
+  high_by d false false p q h = absurd (cc)
+
+  pub low_holds : (d : End) → low_made c vars a b e ≡ Some d → is_from (Some d) here ≡ true
+  low_holds d h = low_by d (is_column c a) (is_column c b) refl refl h
+
+  pub high_holds : (d : End) → high_made c vars a b e ≡ Some d → is_up_to (Some d) here ≡ true
+  high_holds d h = high_by d (is_column c a) (is_column c b) refl refl h
+
+-- ---- all lines
+
+module _ (row vars : List Datum) {X : Type 0} (make : Op → Op → Op → Option X) (P : X → Type 0)
+    (sound : (a b e : Op) (os first second third : List Operand) → applied a os row vars ≡ Went Ahead first → applied b first row vars ≡ Went Ahead second
+    → applied e second row vars ≡ Went Ahead third → all_true third ≡ true → (x : X) → make a b e ≡ Some x → P x) where
+  rest_of : (l : Line) (lines : List Line) → are_quiet (l ∷ lines) ≡ true → are_quiet lines ≡ true
+  rest_of l lines h = and_second (is_quiet l.op) (are_quiet lines) h
+
+  abbrev Here : List Line → Option X
+  Here lines = if nat_eq (free (drop 3 lines)) 0 then made_first make lines else None
+
+  here_by : (b : Bool) (o : Option X) (x : X) → (if b then o else None) ≡ Some x → (b ≡ true) × (o ≡ Some x)
+  here_by true o x e = (refl, e)
+  here_by false o x e = absurd (cc)
+
+  first_holds : (x : X) (n : ℕ) (lines : List Line) (os : List Operand) → are_quiet lines ≡ true → Meets row vars n lines os → Here lines ≡ Some x → P x
+  first_holds x n [] os h m s = absurd (cc)
+  first_holds x n (a ∷ []) os h m s = absurd (cc)
+  first_holds x n (a ∷ b ∷ []) os h m s = absurd (cc)
+  first_holds x n (a ∷ b ∷ e ∷ lines) os h m s =
+      let h1 : are_quiet (b ∷ e ∷ lines) ≡ true = rest_of a (b ∷ e ∷ lines) h in
+      let h2 : are_quiet (e ∷ lines) ≡ true = rest_of b (e ∷ lines) h1 in
+      let u = meets_next row vars n a (b ∷ e ∷ lines) os h m in
+      let v = meets_next row vars (suc n) b (e ∷ lines) u.0 h1 u.2 in
+      let w = meets_next row vars (suc (suc n)) e lines v.0 h2 v.2 in
+      let k = here_by (nat_eq (free lines) 0) (make a.op b.op e.op) x s in
+      let t : all_true w.0 ≡ true = ap (λ j. all_true (drop j w.0)) (sym (eqb-true (free lines) 0 k.0)) ∙ trues row vars (suc (suc (suc n))) lines w.0 (rest_of e lines h2) w.2 in
+      sound a.op b.op e.op os u.0 v.0 w.0 u.1 v.1 w.1 t x k.1
+
+  made_by : (x : X) (n : ℕ) (l : Line) (lines : List Line) (os : List Operand) → are_quiet (l ∷ lines) ≡ true → Meets row vars n (l ∷ lines) os
+      → ((new : List Operand) → Meets row vars (suc n) lines new → made make lines ≡ Some x → P x)
+      → (o : Option X) → Here (l ∷ lines) ≡ o → option_or o (made make lines) ≡ Some x → P x
+  made_by x n l lines os h m rest (Some y) f s = first_holds x n (l ∷ lines) os h m (f ∙ s)
+  made_by x n l lines os h m rest None f s = let next = meets_next row vars n l lines os h m in rest next.0 next.2 s
+
+  pub made_holds : (x : X) (n : ℕ) (lines : List Line) (os : List Operand) → are_quiet lines ≡ true → Meets row vars n lines os → made make lines ≡ Some x → P x
+  made_holds x n [] os h m s = absurd (cc)
+  made_holds x n (l ∷ lines) os h m s = made_by x n l lines os h m (λ new k r. made_holds x (suc n) lines new (rest_of l lines h) k r) (Here (l ∷ lines)) refl s
+
+-- ---- keys
+
+any_from : (o : Option End) (x : Datum) → ((d : End) → o ≡ Some d → is_from (Some d) x ≡ true) → is_from o x ≡ true
+any_from None x f = refl
+any_from (Some d) x f = f d refl
+
+any_up_to : (o : Option End) (x : Datum) → ((d : End) → o ≡ Some d → is_up_to (Some d) x ≡ true) → is_up_to o x ≡ true
+any_up_to None x f = refl
+any_up_to (Some d) x f = f d refl
+
+both_true : (a b : Bool) → a ≡ true → b ≡ true → (a && b) ≡ true
+both_true a b p q = ap (λ x. x && b) p ∙ q
+
+abbrev Has : Bounds → List Datum → Type 0
+Has bounds key = has_between bounds.firsts bounds.low bounds.high key ≡ true
+
+has_by : (x : Datum) (xs : List Datum) (o : Option Datum) (more : Bounds) (low high : Option End) → ((d : Datum) → o ≡ Some d → data_order x d ≡ Equal) → Has more xs
+    → is_from low x ≡ true → is_up_to high x ≡ true → Has (bounds_by o more (of_range low high)) (x ∷ xs)
+has_by x xs (Some d) more low high f g p q = both_true (is_eq (data_order x d)) (has_between more.firsts more.low more.high xs) (ap is_eq (f d refl)) g
+has_by x xs None more low high f g p q = both_true (is_from low x) (is_up_to high x) p q
+
+module _ (row vars : List Datum) (lines : List Line) (quiet : are_quiet lines ≡ true) (met : Meets row vars 0 lines []) where
+  low_is : (c : ℕ) → is_from (made (low_made c vars) lines) (slice_index_or row c Null) ≡ true
+  low_is c = any_from (made (low_made c vars) lines) (slice_index_or row c Null) (λ d e.
+      made_holds row vars (low_made c vars) (λ x. is_from (Some x) (slice_index_or row c Null) ≡ true)
+      (λ a b o os first second third p q r t x m. low_holds row vars c a b o os first second third p q r t x m) d 0 lines [] quiet met e)
+
+  high_is : (c : ℕ) → is_up_to (made (high_made c vars) lines) (slice_index_or row c Null) ≡ true
+  high_is c = any_up_to (made (high_made c vars) lines) (slice_index_or row c Null) (λ d e.
+      made_holds row vars (high_made c vars) (λ x. is_up_to (Some x) (slice_index_or row c Null) ≡ true)
+      (λ a b o os first second third p q r t x m. high_holds row vars c a b o os first second third p q r t x m) d 0 lines [] quiet met e)
+
+  pub has_bounds : (columns : List ℕ) → Has (bounds_of columns vars lines) (values_at columns row)
+  has_bounds [] = refl
+  has_bounds (c ∷ columns) =
+      has_by (slice_index_or row c Null) (values_at columns row) (sought c vars lines) (bounds_of columns vars lines) (made (low_made c vars) lines) (made (high_made c vars) lines)
+      (λ d e. sought_equal row vars c d 0 lines [] quiet met e) (has_bounds columns) (low_is c) (high_is c)
+
+-- ---- tests
+
+asked_by : (b : Bool) (x bounds : Bounds) → (if b then Some x else None) ≡ Some bounds → (b ≡ true) × (x ≡ bounds)
+asked_by true x bounds e = (refl, (let same : x ≡ bounds = cc in same))
+asked_by false x bounds e = absurd (cc)
+
+module _ (vars : List Datum) (columns : List ℕ) (lines : List Line) (bounds : Bounds) (asks : bounds_asked columns vars (Some lines) ≡ Some bounds) where
+  asked : (are_quiet lines ≡ true) × (bounds_of columns vars lines ≡ bounds)
+  asked = asked_by (are_quiet lines) (bounds_of columns vars lines) bounds asks
+
+  pub bounds_quiet : (row : List Datum) → (t : truth_value.Truth) × (test_of (over vars) (Some lines) row ≡ Ok t)
+  bounds_quiet row = quiet_truth row vars (evaluated lines row vars) (λ s e. raises_nothing row vars 0 lines [] s asked.0 e)
+
+  pub bounds_only : (row : List Datum) → test_of (over vars) (Some lines) row ≡ Ok True → is_between columns bounds row ≡ true
+  bounds_only row e = ap (λ x. is_between columns x row) (sym asked.1) ∙ has_bounds row vars lines asked.0 (met_truth row vars (evaluated lines row vars) e) columns
+
+-- ---- walks
+
+module _ {A : Type 0} (t : Contents) (vars : List Datum) (take : List Datum → Result A SqlState) (downward : Bool) where
+  within : (lines : List Line) (o : Option Bounds) → bounds_asked t.def.key vars (Some lines) ≡ o
+      → walked (test_of (over vars) (Some lines)) take (rows_within t downward o) ≡ walked (test_of (over vars) (Some lines)) take (in_walk downward t.rows)
+  within lines None e = refl
+  within lines (Some bounds) e =
+      sym (walked-where (is_between t.def.key bounds) (test_of (over vars) (Some lines)) take (bounds_quiet vars t.def.key lines bounds e) (bounds_only vars t.def.key lines bounds e) (in_walk downward t.rows))
+
+  pub walked_within : (test : Option (List Line)) → walked (test_of (over vars) test) take (rows_within t downward (bounds_asked t.def.key vars test)) ≡ walked (test_of (over vars) test) take (in_walk downward t.rows)
+  walked_within None = refl
+  walked_within (Some lines) = within lines (bounds_asked t.def.key vars (Some lines)) refl
