@@ -12,8 +12,8 @@ mod module_file;
 mod optional;
 mod parameters;
 mod parse;
-mod routine;
 mod references;
+mod routine;
 mod rules;
 mod table;
 

@@ -108,9 +108,9 @@ module _ (tables : List (List Row)) (t : ℕ) where
   all_stay columns new key rows h e =
       let after : List Row = in_order columns (rows_at tables t ++ new) in
       elim (eqb_tells key.to t) as (λ _. list_all (is_referred key.columns key.target (rows_at (slice_set tables t after) key.to)) rows ≡ true) [
-        inl p ↦ ap (λ o. list_all (is_referred key.columns key.target o) rows) (there after key.to h p.1)
+        | inl p ↦ ap (λ o. list_all (is_referred key.columns key.target o) rows) (there after key.to h p.1)
             ∙ all_referred_more key.columns key.target columns (rows_at tables t) new rows (ap (λ n. list_all (is_referred key.columns key.target (rows_at tables n)) rows) (sym p.1) ∙ e)
-      | inr p ↦ ap (λ o. list_all (is_referred key.columns key.target o) rows) (elsewhere after key.to p.1) ∙ e
+        | inr p ↦ ap (λ o. list_all (is_referred key.columns key.target o) rows) (elsewhere after key.to p.1) ∙ e
       ]
 
   pub added_are_referred : (columns : List ℕ) (new : List Row) (key : ForeignKey) → t < length tables → is_keyed tables key ≡ true
@@ -120,8 +120,8 @@ module _ (tables : List (List Row)) (t : ℕ) where
       let after : List (List Row) = slice_set tables t rows in
       let p : Row → Bool = is_referred key.columns key.target (rows_at after key.to) in
       elim (eqb_tells key.from t) as (λ _. is_keyed after key ≡ new_are_referred key t after new) [
-        inl q ↦ ap (list_all p) (there rows key.from h q.1)
+        | inl q ↦ ap (list_all p) (there rows key.from h q.1)
             ∙ all-new p columns (rows_at tables t) new (all_stay columns new key (rows_at tables t) h (ap (λ n. list_all (is_referred key.columns key.target (rows_at tables key.to)) (rows_at tables n)) (sym q.1) ∙ e))
             ∙ sym (ap (λ b. if b then list_all p new else true) q.0)
-      | inr q ↦ ap (list_all p) (elsewhere rows key.from q.1) ∙ all_stay columns new key (rows_at tables key.from) h e ∙ sym (ap (λ b. if b then list_all p new else true) q.0)
+        | inr q ↦ ap (list_all p) (elsewhere rows key.from q.1) ∙ all_stay columns new key (rows_at tables key.from) h e ∙ sym (ap (λ b. if b then list_all p new else true) q.0)
       ]

@@ -19,8 +19,9 @@ pub use definition::{Column, ForeignKey, TableDef};
 pub use fault::RowFault;
 pub use key::{Key, Parts};
 pub use laws::{
-    cursor_laws, foreign_keys_come_last, legal_rows_add_nothing, order_of_rows, statements_leave_keyed_tables,
-    statements_leave_legal_tables, tests_of_foreign_keys, undo_laws, unique_laws,
+    cursor_laws, foreign_keys_come_last, legal_rows_add_nothing, order_of_rows,
+    statements_leave_keyed_tables, statements_leave_legal_tables, tests_of_foreign_keys, undo_laws,
+    unique_laws,
 };
 pub use psm_list::List;
 pub use psm_text::Name;
