@@ -1,6 +1,7 @@
 -- The rules of tables and of expressions in code, line by line of the listing.
-use Rattle.std.specs.Prelude.{ℕ, suc, Bool, true, false, ◌&&◌, ◌||◌, not, nat_eq, nat_le, nat_lt, List, [], ◌∷◌, ◌++◌, length, map, reverse, slice_get, Option, Some, None, Result, Ok, Err}
-use Rattle.std.specs.List.{flat_map, list_all}
+use Rattle.std.specs.Cmp.Lexicographic.{pointwise}
+use Rattle.std.specs.Prelude.{ℕ, suc, Bool, true, false, ◌&&◌, ◌||◌, not, nat_eq, nat_le, nat_lt, List, [], ◌∷◌, ◌++◌, filter, length, map, reverse, slice_get, zip, Option, Some, None, Result, Ok, Err}
+use Rattle.std.specs.List.{flat_map, list_all, list_any}
 use Rattle.std.specs.Ordering.{int_eq}
 use Rattle.psm_sqlstate.specs.declared.state.SqlState.{SqlState}
 use Rattle.psm_value.specs.declared.datum.Datum.{Datum}
@@ -12,10 +13,11 @@ use Rattle.psm_exprcode.specs.declared.op.Letter.TheVariants.{N, B}
 use Rattle.psm_exprcode.specs.declared.op.Line.{Line}
 use Rattle.psm_exprcode.specs.declared.op.Op.{Op}
 use Rattle.psm_exprcode.specs.declared.op.Op.TheVariants as op
-use Rattle.psm_exprcode.specs.Kinds.{has_letter, is_letter, some_letter, some_value}
+use Rattle.psm_exprcode.specs.Kinds.{has_letter, is_letter, letter_of, some_letter, some_value}
 use Rattle.psm_exprcode.specs.Operations.{Effect, effect}
 use Rattle.psm_exprcode.specs.WellFormed.{is_of_kind, is_type, left_of, same_stack}
 use Rattle.psm_table.specs.declared.definition.Column.{Column}
+use Rattle.psm_table.specs.declared.definition.ForeignKey.{ForeignKey}
 use Rattle.psm_table.specs.declared.definition.TableDef.{TableDef}
 use Rattle.psm_code.specs.declared.code.CodeTable.{CodeTable}
 use Rattle.psm_code.specs.declared.rule.CodeRule.{CodeRule}
@@ -181,7 +183,7 @@ are_in_turn at count (key ∷ keys) = (nat_le at key.from && nat_lt key.from cou
 
 -- whether a column of one table and a column of the other are of one family
 abbrev pub pairs_up : TableDef → TableDef → ℕ × ℕ → Bool
-pairs_up from to (a, b) = where_there (slice_get from.columns a) (λ c. where_there (slice_get to.columns b) (λ d. is_kind_of_family c.kind d.kind))
+pairs_up from to (a, b) = where_there (slice_get from.columns a) (λ c. where_there (slice_get to.columns b) (λ d. is_letter (letter_of c.kind) (letter_of d.kind)))
 
 -- the key or one of the UNIQUE lists, in order
 abbrev pub is_one_of_keys : TableDef → List ℕ → Bool

@@ -28,7 +28,7 @@ pub fn expressions_that_fit_break_no_rule()
 
 /// Code without tables and routines is well-formed.
 pub fn empty_code_is_well_formed()
-    ensures { first_fault (record { tables = []; routines = [] }) ≡ None }
+    ensures { first_fault (record { tables = []; keys = []; routines = [] }) ≡ None }
 {}
 
 /// Well-formed code is never stuck: no instruction names what isn't there, and none finds other operands than it takes. What
