@@ -79,7 +79,7 @@ found (x ∷ xs) (suc n) l = found xs n (omega (arith, l))
 columns_below : {A : Type 0} (columns : List A) (ns : List ℕ) → are_there columns ns ≡ true → All (λ n. n < length columns) ns
 columns_below columns [] h = All-nil (λ n. n < length columns)
 columns_below columns (n ∷ ns) h =
-    let below : n < length columns = ltb-true (there_below columns n (and_first (is_there columns n) (are_there columns ns) h)) in
+    let below : n < length columns = ltb-true n (length columns) (there_below columns n (and_first (is_there columns n) (are_there columns ns) h)) in
     All-cons (λ n. n < length columns) n ns below (columns_below columns ns (and_second (is_there columns n) (are_there columns ns) h))
 
 -- a table that is referred to is there, and the two have the columns
@@ -104,13 +104,13 @@ module _ (code : RawCode) (e : first_fault code ≡ None) where
 
   key_at : (i : ℕ) (key : ForeignKey) → slice_get code.keys i ≡ Some key → IsKeyOf Defs key
   key_at i key g =
-      let t = found code.tables key.from (ltb-true (turn_at 0 (length code.tables) code.keys i key (keys_in_turn code e) g)) in
+      let t = found code.tables key.from (ltb-true key.from (length code.tables) (turn_at 0 (length code.tables) code.keys i key (keys_in_turn code e) g)) in
       let p = placed (table_faults code.keys) [] code.tables code.tables key.from t.0 refl (tables_clean code e) t.1 in
       let def = t.0.definition in
       let front = name_fault p.before t.0 ∷ each_after column_fault [] def.columns ++ key_fault def ∷ map (unique_fault def) def.unique in
       let own = map (foreign_key_fault p.before t.0) (keys_from code.keys (length p.before)) in
       let here : key.from ≡ length p.before = omega (arith, p.long) in
-      let none : foreign_key_fault p.before t.0 key ≡ None = clean_filter (foreign_key_fault p.before t.0) (λ (k : ForeignKey). nat_eq k.from (length p.before)) code.keys i key (clean_second front own (clean_first (front ++ own) _ p.clean)) g (eq-eqb here) in
+      let none : foreign_key_fault p.before t.0 key ≡ None = clean_filter (foreign_key_fault p.before t.0) (λ (k : ForeignKey). nat_eq k.from (length p.before)) code.keys i key (clean_second front own (clean_first (front ++ own) _ p.clean)) g (eq-eqb key.from (length p.before) here) in
       let q = pairs code.tables def key (slice_get (p.before ++ t.0 ∷ []) key.to) (λ to o. p.same key.to to o) none in
       record {
         refers = (def, definition_at code.tables key.from t.0 t.1, columns_below def.columns key.columns q.2);

@@ -35,7 +35,7 @@ pub fn empty_code_is_well_formed()
 
 /// Well-formed code is never stuck: no instruction names what isn't there, and none finds other operands than it takes. What
 /// is always true of a machine is true where a run begins, and each row keeps it. So a run that ends ends with values,
-/// with an exception or because turns ran out, and its tables are legal then. The arguments need not be of the parameters' types: where one can't be stored, that is the run's exception.
+/// with an exception or because turns ran out, and its tables keep all their rules then. The arguments need not be of the parameters' types: where one can't be stored, that is the run's exception.
 pub fn well_formed_code_never_gets_stuck()
     ensures kept { (code : RawCode) → first_fault code ≡ None → (m : Machine) → MachineInvariant code m → StaysWellFormed code (step code m) }
     ensures start { (code : RawCode) → first_fault code ≡ None → (routine : ℕ) (r : RawRoutine) → routine_at code routine ≡ Some r → (args : List Datum) (tables : List Contents) (turns : ℕ) → length args ≡ length (taking r.parameters) → AreLawful code tables → StaysWellFormed code (started code routine args tables turns) }
