@@ -1,5 +1,6 @@
 -- Routines that can be told apart, by their signatures.
 use Rattle.std.proofs.Common.{◌≡◌, Bool, true, false, ◌&&◌, not, List, [], ◌∷◌, length, map, refl, ap, sym, ◌∙◌}
+use Rattle.std.proofs.Math.Bool.{and-true}
 use Rattle.std.specs.Prelude.{nat_eq, if◌then◌else◌}
 use Rattle.std.specs.List.{list_all}
 use Rattle.std.specs.Cmp.Lexicographic.{pointwise}
@@ -25,10 +26,6 @@ same_kinds [] (q ∷ qs) = refl
 same_kinds (p ∷ ps) [] = refl
 same_kinds (p ∷ ps) (q ∷ qs) = ap (λ b. b && pointwise nat_eq (kind_numbers ps) (kind_numbers qs)) (same_kind p.kind q.kind) ∙ ap (λ b. is_same_kind p.kind q.kind && b) (same_kinds ps qs)
 
-and_true : (b : Bool) → (b && true) ≡ b
-and_true true = refl
-and_true false = refl
-
 never : (b : Bool) → true ≡ not (b && false)
 never true = refl
 never false = refl
@@ -41,7 +38,7 @@ module _ (q r : RawRoutine) where
   apart_by : (f g : Bool) → are_distinct_of f g q r ≡ not (shaped f g)
   unfolding shaped
   apart_by true true = ap (λ b. not (is_same q.name r.name && b)) (sym (same_kinds q.parameters r.parameters))
-  apart_by false false = ap (λ b. not (is_same q.name r.name && b)) (sym (and_true (nat_eq (length q.parameters) (length r.parameters))))
+  apart_by false false = ap (λ b. not (is_same q.name r.name && b)) (sym (and-true (nat_eq (length q.parameters) (length r.parameters))))
   apart_by true false = never (is_same q.name r.name)
   apart_by false true = never (is_same q.name r.name)
 

@@ -1,23 +1,16 @@
 -- Numbers of which none stands twice are each new after those before it.
 use Rattle.std.proofs.Common.{◌≡◌, ℕ, Bool, true, false, ◌&&◌, not, List, [], ◌∷◌, ◌++◌, refl, ap, sym, ◌∙◌}
+use Rattle.std.proofs.Math.Bool.{and-true, and_assoc}
 use Rattle.std.specs.Prelude.{nat_eq, if◌then◌else◌}
 use Rattle.std.specs.List.{list_all}
 use Rattle.psm_keys.specs.Fresh.{are_new, is_new}
 use Rattle.psm_code.specs.Rules.{are_distinct, is_among}
 use Rattle.psm_keys.proofs.Turned.{numbers_turned}
 
-and_assoc : (a b c : Bool) → (a && (b && c)) ≡ ((a && b) && c)
-and_assoc true b c = refl
-and_assoc false b c = refl
-
-and_true : (b : Bool) → b ≡ (b && true)
-and_true true = refl
-and_true false = refl
-
 -- a number is new after one more number if it is new after the others and isn't that one
 new_after_last : (y x : ℕ) (old : List ℕ) → is_new nat_eq y (old ++ x ∷ []) ≡ (is_new nat_eq y old && not (nat_eq x y))
-new_after_last y x [] = sym (and_true (not (nat_eq x y)))
-new_after_last y x (z ∷ zs) = ap (λ b. not (nat_eq z y) && b) (new_after_last y x zs) ∙ and_assoc (not (nat_eq z y)) (is_new nat_eq y zs) (not (nat_eq x y))
+new_after_last y x [] = and-true (not (nat_eq x y))
+new_after_last y x (z ∷ zs) = ap (λ b. not (nat_eq z y) && b) (new_after_last y x zs) ∙ sym (and_assoc (not (nat_eq z y)) (is_new nat_eq y zs) (not (nat_eq x y)))
 
 -- whether all of some are new after others
 abbrev all_new : List ℕ → List ℕ → Bool

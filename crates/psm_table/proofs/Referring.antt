@@ -74,3 +74,17 @@ columns_of_rows def columns (row ∷ rows) c h =
     All-cons (λ (row : Row). AreColumnsOf row columns) row rows
     (subst (λ n. All (λ c. c < n) columns) (sym (All-head (IsRow def) row rows h).long) c)
     (columns_of_rows def columns rows c (All-tail (IsRow def) row rows h))
+
+module _ (columns : List ℕ) (rows : List Row) (row : Row) (left : List Row) (is : rows ≡ row ∷ left) (exist : All (λ row. AreColumnsOf row columns) rows) where
+  here : All (λ row. AreColumnsOf row columns) (row ∷ left)
+  here = subst (All (λ row. AreColumnsOf row columns)) is exist
+
+  pub next_exists : AreColumnsOf row columns
+  next_exists = All-head (λ (row : Row). AreColumnsOf row columns) row left here
+
+  pub others_exist : All (λ row. AreColumnsOf row columns) left
+  others_exist = All-tail (λ (row : Row). AreColumnsOf row columns) row left here
+
+  -- a row that doesn't have the values is passed over
+  pub passed_over : (values : List Datum) → equal_values values (values_at columns row) ≡ false → has_values columns values rows ≡ has_values columns values left
+  passed_over values e = ap (has_values columns values) is ∙ ap (λ b. b || has_values columns values left) e

@@ -1,5 +1,5 @@
 -- The innermost action that runs: its end, and the area with which its handler was activated (ISO/IEC 9075-4:1996).
-use Rattle.std.specs.Prelude.{◌≡◌, Bool, true, false, List, [], ◌∷◌, length, reverse, option_map, Option, Some, None, Result}
+use Rattle.std.specs.Prelude.{◌≡◌, Bool, true, false, List, [], ◌∷◌, length, reverse, Option, Some, None, Result}
 use Rattle.psm_value.specs.declared.datum.Datum.{Datum}
 use Rattle.psm_cond.specs.declared.fault.AreaFault.{AreaFault}
 use Rattle.psm_cond.specs.declared.item.ConditionItem.{ConditionItem}
