@@ -12,7 +12,7 @@ use Rattle.psm_table.specs.Changing.{deleted_at, Changed, Failure, IsLegal, Move
 use Rattle.psm_table.specs.declared.definition.ForeignKey.{ForeignKey}
 use Rattle.psm_table.specs.Key.{values_at}
 use Rattle.psm_table.specs.Keyed.{are_keyed_with, rows_in}
-use Rattle.psm_table.specs.Table.{without_row, Contents}
+use Rattle.psm_table.specs.Table.{Contents}
 use Rattle.psm_tablecode.specs.Codes.{over}
 
 -- the condition is that of the SQLSTATE alone, and bears the name of the table where it is one of the table
@@ -70,6 +70,12 @@ EndsAtRow c due None old t new (Ok b) = (b ≡ false) × (new ≡ old)
 EndsAtRow c due None old t new (Err (fault.Raised condition)) = ⊥
 EndsAtRow c due None old t new (Err fault.Memory) = new ≡ old
 
--- for all CHECKs for which the table is legal, DELETE of a row that has the key leaves the others
-abbrev pub ErasesByRules : List Datum → Contents → Type 0
-ErasesByRules key c = (row : List Datum) → key ≡ values_at c.def.key row → (checks : List (List Line)) → IsLegal (over []) (schema_of c.def checks) c.rows → deleted_at (over []) (schema_of c.def checks) row c.rows ≡ Ok (without_row key c).rows
+-- the same of a positioned DELETE
+abbrev pub EndsErased : Contents → Result (List (List Datum)) Failure → List Contents → ℕ → List Contents → Result (Unit {0}) DataFault → Type 0
+EndsErased c due old t new (Ok u) = (rows : List (List Datum)) × (due ≡ Ok rows) × (new ≡ slice_set old t (record c { rows = rows }))
+EndsErased c due old t new (Err (fault.Raised condition)) = IsDue c.def due condition × (new ≡ old)
+EndsErased c due old t new (Err fault.Memory) = new ≡ old
+
+-- for all CHECKs for which the table is legal, DELETE of a row that has the key ends as is due
+abbrev pub ErasesByRules : List ForeignKey → List Datum → List Contents → ℕ → List Contents → Result (Unit {0}) DataFault → Contents → Type 0
+ErasesByRules keys key old t new result c = (row : List Datum) → key ≡ values_at c.def.key row → (checks : List (List Line)) → IsLegal (over []) (schema_of c.def checks) c.rows → EndsErased c (deleted_at (over []) (keyed_schema keys old t c.def checks) row c.rows) old t new result

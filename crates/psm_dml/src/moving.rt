@@ -1,15 +1,16 @@
 //! UPDATE of the row that has a key (ISO/IEC 9075:1992, 13.9).
-ghost use Rattle.std.specs.Prelude.{◌≡◌, ◌<◌, [], IfSome, length, map, slice_get};
+ghost use Rattle.std.specs.Prelude.{◌≡◌, ◌<◌, [], All, IfSome, length, map, slice_get, true};
 ghost use Rattle.std.specs.Ordering.{is_ne};
 ghost use Rattle.psm_value.specs.Answer.{Gives};
 ghost use Rattle.psm_table.specs.Changing.{updated_at, IsLegal};
 ghost use Rattle.psm_table.specs.Definition.{IsKey, IsRow};
 ghost use Rattle.psm_table.specs.Key.{key_order, values_at, AreColumnsOf};
+ghost use Rattle.psm_table.specs.Keyed.{are_keyed, defs_in, rows_in, IsKeyOf};
 ghost use Rattle.psm_table.specs.Table.{keyed, IsTable};
 ghost use Rattle.psm_store.specs.Marks.{AnyMark, Keeps, most_marks};
 ghost use Rattle.psm_tablecode.specs.Codes.{over};
 ghost use Rattle.psm_dml.specs.Changes.{changing, row_set, set_of};
-ghost use Rattle.psm_dml.specs.Ends.{schema_of, EndsAtRow};
+ghost use Rattle.psm_dml.specs.Ends.{keyed_schema, schema_of, EndsAtRow};
 ghost use Rattle.psm_dml.specs.TypeChecks.{ChecksTypeCheck, SetsTypeCheck};
 
 use crate::comparing::order;
@@ -19,6 +20,7 @@ use crate::setting::set_row;
 use psm_cond::DataFault;
 use psm_exprcode::{ExprCode, SetItem};
 use psm_store::{Key, Row, Store, Table};
+use psm_table::ForeignKey;
 use psm_tablecode::raised;
 use psm_value::{Datum, ValueFault};
 use std::alloc::Global;
@@ -29,13 +31,14 @@ use std::alloc::Global;
 /// where memory runs out, the tables are as before.
 ///
 /// The table has to be there and to be legal for the CHECKs, and CHECKs and assignments have to fit its columns, the
-/// latter the variables too. `vars` are the values of the variables. Marks stay as they are; fewer than 2^100 have to be
+/// latter the variables too. The FOREIGN KEY constraints have to be of the store's tables, and to hold. `vars` are the values of the variables. Marks stay as they are; fewer than 2^100 have to be
 /// open.
 pub fn update_at<S: Store>(
     alloc: Global,
     store: &mut S,
     t: u32,
     checks: &[ExprCode],
+    keys: &[ForeignKey],
     key: &Key,
     sets: &[SetItem],
     vars: &[Datum],
@@ -45,8 +48,10 @@ pub fn update_at<S: Store>(
     requires fits { IfSome (slice_get (S.tables store.old) t) (λ c. IsKey c.def key.now) }
     requires sets { IfSome (slice_get (S.tables store.old) t) (λ c. SetsTypeCheck sets.now vars.now c.def) }
     requires legal { IfSome (slice_get (S.tables store.old) t) (λ c. IsLegal (over []) (schema_of c.def checks.now) c.rows) }
+    requires keys { All (IsKeyOf (defs_in (S.tables store.old))) keys.now }
+    requires lawful { are_keyed keys.now (rows_in (S.tables store.old)) ≡ true }
     requires room { S.marks store.old < most_marks }
-    ensures answer { IfSome (slice_get (S.tables store.old) t) (λ c. EndsAtRow c (λ row. updated_at (over vars.now) (over []) (schema_of c.def checks.now) (map set_of sets.now) row c.rows) (keyed c key.now) (S.tables store.old) t (S.tables store.new) result) }
+    ensures answer { IfSome (slice_get (S.tables store.old) t) (λ c. EndsAtRow c (λ row. updated_at (over vars.now) (over []) (keyed_schema keys.now (S.tables store.old) t c.def checks.now) (map set_of sets.now) row c.rows) (keyed c key.now) (S.tables store.old) t (S.tables store.new) result) }
     ensures marks { S.marks store.new ≡ S.marks store.old }
     ensures keeps { Keeps AnyMark (S.holds store.old) (S.at store.old) (S.holds store.new) (S.at store.new) }
 {
@@ -59,8 +64,8 @@ pub fn update_at<S: Store>(
         Err(fault) => return Err(raised(alloc, &fault)),
     };
     let moved = has_moved(table.def().key.items(), row, &change.made);
-    let Plan { keys, rows } = split(alloc, vec![in alloc; change]?)?;
-    finish(alloc, store, t, checks, keys.as_slice(), rows)?;
+    let Plan { keys: gone, rows } = split(alloc, vec![in alloc; change]?)?;
+    finish(alloc, store, t, checks, keys, gone.as_slice(), rows)?;
     Ok(moved)
 }
 

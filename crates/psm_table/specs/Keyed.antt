@@ -1,7 +1,6 @@
 -- FOREIGN KEY constraints (ISO/IEC 9075:1992, 11.8), tested over the rows of all tables, which have numbers.
-use Rattle.std.specs.Prelude.{◌<◌, ℕ, All, Bool, true, ◌||◌, List, [], if◌then◌else◌, length, map, nat_eq, slice_get, slice_index_or, slice_set}
+use Rattle.std.specs.Prelude.{◌≡◌, ◌<◌, ℕ, All, Bool, true, ◌||◌, List, [], Some, if◌then◌else◌, length, map, nat_eq, slice_get, slice_index_or, slice_set}
 use Rattle.std.specs.List.{list_all, list_any}
-use Rattle.std.specs.Option.{ForSome}
 use Rattle.psm_value.specs.declared.datum.Datum.{Datum}
 use Rattle.psm_table.specs.declared.definition.ForeignKey.{ForeignKey}
 use Rattle.psm_table.specs.declared.definition.TableDef.{TableDef}
@@ -11,7 +10,7 @@ use Rattle.psm_table.specs.Unique.{equal_values, has_null}
 
 -- the table is there, with these columns
 abbrev pub HasColumnsAt : List TableDef → ℕ → List ℕ → Type 0
-HasColumnsAt defs t columns = ForSome (slice_get defs t) (λ def. All (λ c. c < length def.columns) columns)
+HasColumnsAt defs t columns = (def : TableDef) × (slice_get defs t ≡ Some def) × All (λ c. c < length def.columns) columns
 
 -- a constraint is one of tables with these definitions: both tables are there, with the columns that it names
 pub record IsKeyOf (defs : List TableDef) (key : ForeignKey) : Type 0 where

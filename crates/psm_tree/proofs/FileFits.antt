@@ -20,34 +20,44 @@ Fits follow g = Fit after follow g
 abbrev after_element : List ℕ
 after_element = sign_kind s.Comma ∷ sign_kind s.RightParen ∷ []
 
-plain_column_rule_fit : (follow : List ℕ) → Fits follow FileGrammar.plain_column_rule
+-- a rule of a column is followed by another one, or ends the column
+abbrev after_column_rule : List ℕ
+after_column_rule = kinds_of column_rule_words ++ after_element
+
+references_rest_fit : Fits after_column_rule FileGrammar.references_rest
 unfolding FileGrammar.all_files
-plain_column_rule_fit follow = fit_or refl refl (fit_seq (fit_token refl) (fit_token refl))
+references_rest_fit = record { holds = refl }
+
+plain_column_rule_fit : Fits after_column_rule FileGrammar.plain_column_rule
+unfolding FileGrammar.all_files
+plain_column_rule_fit = fit_or refl refl (fit_seq (fit_token refl) (fit_token refl))
     (fit_or refl refl (fit_seq (fit_token refl) (fit_token refl))
     (fit_or refl refl (fit_image (fit_token refl))
-    (fit_seq (fit_token refl) (parens_fit follow (fit_fewer refl expr_fit)))))
+    (fit_or refl refl (fit_seq (fit_token refl) (parens_fit after_column_rule (fit_fewer refl expr_fit)))
+    (fit_seq (fit_token refl) references_rest_fit))))
 
-column_rule_fit : (follow : List ℕ) → Fits follow FileGrammar.column_rule
+column_rule_fit : Fits after_column_rule FileGrammar.column_rule
 unfolding FileGrammar.all_files
-column_rule_fit follow = fit_or refl refl (fit_seq (fit_token refl) (fit_seq (fit_token refl) (plain_column_rule_fit follow))) (plain_column_rule_fit follow)
+column_rule_fit = fit_or refl refl (fit_seq (fit_token refl) (fit_seq (fit_token refl) plain_column_rule_fit)) plain_column_rule_fit
 
 column_fit : Fits after_element FileGrammar.column
 unfolding FileGrammar.all_files
-column_fit = fit_seq (fit_token refl) (fit_seq (record { holds = refl }) (fit_seq (record { holds = refl }) (fit_many refl refl (column_rule_fit (kinds_of column_rule_words ++ after_element)))))
+column_fit = fit_seq (fit_token refl) (fit_seq (record { holds = refl }) (fit_seq (record { holds = refl }) (fit_many refl refl column_rule_fit)))
 
-plain_table_rule_fit : (follow : List ℕ) → Fits follow FileGrammar.plain_table_rule
+plain_table_rule_fit : Fits after_element FileGrammar.plain_table_rule
 unfolding FileGrammar.all_files
-plain_table_rule_fit follow = fit_or refl refl (fit_seq (fit_token refl) (fit_seq (fit_token refl) (parens_fit follow (record { holds = refl }))))
-    (fit_or refl refl (fit_seq (fit_token refl) (parens_fit follow (record { holds = refl })))
-    (fit_seq (fit_token refl) (parens_fit follow (fit_fewer refl expr_fit))))
+plain_table_rule_fit = fit_or refl refl (fit_seq (fit_token refl) (fit_seq (fit_token refl) (parens_fit after_element (record { holds = refl }))))
+    (fit_or refl refl (fit_seq (fit_token refl) (parens_fit after_element (record { holds = refl })))
+    (fit_or refl refl (fit_seq (fit_token refl) (parens_fit after_element (fit_fewer refl expr_fit)))
+    (fit_seq (fit_token refl) (fit_seq (fit_token refl) (fit_seq (record { holds = refl }) (fit_seq (fit_token refl) (fit_fewer refl references_rest_fit)))))))
 
-table_rule_fit : (follow : List ℕ) → Fits follow FileGrammar.table_rule
+table_rule_fit : Fits after_element FileGrammar.table_rule
 unfolding FileGrammar.all_files
-table_rule_fit follow = fit_or refl refl (fit_seq (fit_token refl) (fit_seq (fit_token refl) (plain_table_rule_fit follow))) (plain_table_rule_fit follow)
+table_rule_fit = fit_or refl refl (fit_seq (fit_token refl) (fit_seq (fit_token refl) plain_table_rule_fit)) plain_table_rule_fit
 
 element_fit : Fits after_element FileGrammar.element
 unfolding FileGrammar.all_files
-element_fit = fit_or refl refl column_fit (fit_image (table_rule_fit after_element))
+element_fit = fit_or refl refl column_fit (fit_image table_rule_fit)
 
 table_fit : (follow : List ℕ) → Fits follow FileGrammar.table
 unfolding FileGrammar.all_files

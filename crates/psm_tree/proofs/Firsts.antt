@@ -656,15 +656,51 @@ first_ended_statement = refl
 
 pub ruleset statement_firsts = (first_ended_statement, first_state_text, first_state, first_direction, first_column_order, first_next_column_order, first_next_column_orders, first_column_orders, first_order, first_ordered_select, first_message, first_state_signalled, first_name_signalled, first_current, first_where_part, first_values, first_next_values, first_more_values, first_all_values, first_insert_values, first_insert_source, first_assignment, first_next_assignment, first_next_assignments, first_statement_info, first_next_statement_info, first_next_statement_infos, first_statement_infos, first_condition_info, first_next_condition_info, first_next_condition_infos, first_condition_infos, first_exception_diagnostics, first_set_statement, first_call_statement, first_return_statement, first_leave_statement, first_iterate_statement, first_signal_statement, first_resignal_statement, first_diagnostics_area, first_diagnostics_statement, first_into_targets, first_select_statement, first_insert_statement, first_assignments, first_update_statement, first_delete_statement, first_open_statement, first_fetched, first_fetch_from, first_fetch_statement, first_close_statement, first_data_statement, first_simple, first_block, first_labelled_block, first_labelled_statement, first_if_statement, first_case_statement, first_otherwise_statements, first_elseif_branch, first_elseif_branches, first_if_end, first_when_branch, first_when_branches, first_case_end, first_all_when_branches, first_case_branches, first_while_body, first_until, first_insensitive, first_for_cursor_part, first_for_body, first_for_rest, first_default_source, first_typed, first_other_variables, first_for_state, first_declaration_rest, first_read_only_part, first_updatability, first_cursor_query, first_cursor_rest, first_next_handler_value, first_next_handler_values, first_handler_rest, first_declared_handler, first_declared_cursor, first_declared_variables, first_not_atomic, first_atomic)
 
-pub first_plain_column_rule : first FileGrammar.plain_column_rule ≡ word_kind w.Not ∷ word_kind w.Primary ∷ word_kind w.Unique ∷ word_kind w.Check ∷ []
+pub first_no_action : first FileGrammar.no_action ≡ word_kind w.No ∷ []
+unfolding FileGrammar.all_files
+first_no_action = refl
+
+pub first_delete_action : first FileGrammar.delete_action ≡ word_kind w.Delete ∷ []
+unfolding FileGrammar.all_files
+first_delete_action = refl
+
+pub first_update_action : first FileGrammar.update_action ≡ word_kind w.Update ∷ []
+unfolding FileGrammar.all_files
+first_update_action = refl
+
+pub first_next_delete_action : first FileGrammar.next_delete_action ≡ word_kind w.On ∷ []
+unfolding FileGrammar.all_files
+first_next_delete_action = refl
+
+pub first_next_update_action : first FileGrammar.next_update_action ≡ word_kind w.On ∷ []
+unfolding FileGrammar.all_files
+first_next_update_action = refl
+
+pub first_either_action : first FileGrammar.either_action ≡ word_kind w.Delete ∷ word_kind w.Update ∷ []
+unfolding FileGrammar.all_files
+first_either_action = refl
+
+pub first_actions : first FileGrammar.actions ≡ word_kind w.On ∷ []
+unfolding FileGrammar.all_files
+first_actions = refl
+
+pub first_references_rest : first FileGrammar.references_rest ≡ name_kinds
+unfolding FileGrammar.all_files
+first_references_rest = refl
+
+pub first_references : first FileGrammar.references ≡ word_kind w.References ∷ []
+unfolding FileGrammar.all_files
+first_references = refl
+
+pub first_plain_column_rule : first FileGrammar.plain_column_rule ≡ word_kind w.Not ∷ word_kind w.Primary ∷ word_kind w.Unique ∷ word_kind w.Check ∷ word_kind w.References ∷ []
 unfolding FileGrammar.all_files
 first_plain_column_rule = refl
 
-pub first_column_rule : first FileGrammar.column_rule ≡ word_kind w.Constraint ∷ word_kind w.Not ∷ word_kind w.Primary ∷ word_kind w.Unique ∷ word_kind w.Check ∷ []
+pub first_column_rule : first FileGrammar.column_rule ≡ word_kind w.Constraint ∷ word_kind w.Not ∷ word_kind w.Primary ∷ word_kind w.Unique ∷ word_kind w.Check ∷ word_kind w.References ∷ []
 unfolding FileGrammar.all_files
 first_column_rule = refl
 
-pub first_column_rule_list : first FileGrammar.column_rule_list ≡ word_kind w.Constraint ∷ word_kind w.Not ∷ word_kind w.Primary ∷ word_kind w.Unique ∷ word_kind w.Check ∷ []
+pub first_column_rule_list : first FileGrammar.column_rule_list ≡ word_kind w.Constraint ∷ word_kind w.Not ∷ word_kind w.Primary ∷ word_kind w.Unique ∷ word_kind w.Check ∷ word_kind w.References ∷ []
 unfolding FileGrammar.all_files
 first_column_rule_list = refl
 
@@ -676,11 +712,11 @@ pub first_column : first FileGrammar.column ≡ name_kinds
 unfolding FileGrammar.all_files
 first_column = refl
 
-pub first_plain_table_rule : first FileGrammar.plain_table_rule ≡ word_kind w.Primary ∷ word_kind w.Unique ∷ word_kind w.Check ∷ []
+pub first_plain_table_rule : first FileGrammar.plain_table_rule ≡ word_kind w.Primary ∷ word_kind w.Unique ∷ word_kind w.Check ∷ word_kind w.Foreign ∷ []
 unfolding FileGrammar.all_files
 first_plain_table_rule = refl
 
-pub first_table_rule : first FileGrammar.table_rule ≡ word_kind w.Constraint ∷ word_kind w.Primary ∷ word_kind w.Unique ∷ word_kind w.Check ∷ []
+pub first_table_rule : first FileGrammar.table_rule ≡ word_kind w.Constraint ∷ word_kind w.Primary ∷ word_kind w.Unique ∷ word_kind w.Check ∷ word_kind w.Foreign ∷ []
 unfolding FileGrammar.all_files
 first_table_rule = refl
 
@@ -856,4 +892,4 @@ pub first_script : first FileGrammar.script ≡ word_kind w.Call ∷ word_kind w
 unfolding FileGrammar.all_files
 first_script = refl
 
-pub ruleset file_firsts = (first_plain_column_rule, first_column_rule, first_column_rule_list, first_default_constant, first_column, first_plain_table_rule, first_table_rule, first_next_element, first_next_elements, first_table, first_named_type, first_next_param, first_next_params, first_params, first_sql_data, first_characteristic, first_characteristic_list, first_procedure, first_returned, first_function, first_plain_routine, first_routine, first_ended_routine, first_ended_routines, first_language, first_module_body, first_module_part, first_created_table, first_created_tables, first_last_module, first_file, first_argument, first_next_argument, first_next_arguments, first_script_argument_list, first_script_arguments, first_script_call, first_next_constant, first_next_constants, first_constants, first_row, first_next_row, first_next_rows, first_rows, first_script_values, first_script_insert, first_command, first_ended_command, first_ended_commands, first_script)
+pub ruleset file_firsts = (first_no_action, first_delete_action, first_update_action, first_next_delete_action, first_next_update_action, first_either_action, first_actions, first_references_rest, first_references, first_plain_column_rule, first_column_rule, first_column_rule_list, first_default_constant, first_column, first_plain_table_rule, first_table_rule, first_next_element, first_next_elements, first_table, first_named_type, first_next_param, first_next_params, first_params, first_sql_data, first_characteristic, first_characteristic_list, first_procedure, first_returned, first_function, first_plain_routine, first_routine, first_ended_routine, first_ended_routines, first_language, first_module_body, first_module_part, first_created_table, first_created_tables, first_last_module, first_file, first_argument, first_next_argument, first_next_arguments, first_script_argument_list, first_script_arguments, first_script_call, first_next_constant, first_next_constants, first_constants, first_row, first_next_row, first_next_rows, first_rows, first_script_values, first_script_insert, first_command, first_ended_command, first_ended_commands, first_script)

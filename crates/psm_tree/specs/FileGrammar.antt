@@ -10,7 +10,7 @@ use Rattle.psm_token.specs.Words.{word_kind}
 use Rattle.psm_token.specs.Signs.{sign_kind}
 use Rattle.psm_tree.specs.Tests.{word, sign, name, char_word, mode}
 use Rattle.psm_tree.specs.ExprValues.{pair, triple, several, cons, none}
-use Rattle.psm_tree.specs.FileValues.{column_rule_at, column_rule_by, column_check, primary_key, unique, table_check, column_of, rule_element, TableRest, table_rest, moded, unmoded, characteristic_at, characteristic_by, returned_char, procedure_rest, procedure_of, function_rest, function_of, ModuleRest, module_rest, file_of, placeholder, constant_argument, constant_row, call_command, insert_command, select_command, commit_command, rollback_command, script_of}
+use Rattle.psm_tree.specs.FileValues.{column_rule_at, column_rule_by, column_check, references_to, first_place, column_references, primary_key, unique, table_check, foreign_key, column_of, rule_element, TableRest, table_rest, moded, unmoded, characteristic_at, characteristic_by, returned_char, procedure_rest, procedure_of, function_rest, function_of, ModuleRest, module_rest, file_of, placeholder, constant_argument, constant_row, call_command, insert_command, select_command, commit_command, rollback_command, script_of}
 use Rattle.psm_tree.specs.ExprGrammar.{Gram, closed, within_parens, names_in_parens, varying, char_length, plain_type, data_type, constant, expr}
 use Rattle.psm_tree.specs.StatementGrammar.{all_statements, statement, ordered_select}
 use Rattle.psm_tree.specs.declared.name.Identifier.{Identifier}
@@ -22,6 +22,7 @@ use Rattle.psm_tree.specs.declared.file.FileTree.{FileTree}
 use Rattle.psm_tree.specs.declared.file.Element.{Element}
 use Rattle.psm_tree.specs.declared.file.ColumnRule.{ColumnRule}
 use Rattle.psm_tree.specs.declared.file.ColumnRuleForm.TheVariants as column_rules
+use Rattle.psm_tree.specs.declared.file.References.{References}
 use Rattle.psm_tree.specs.declared.file.TableRule.{TableRule}
 use Rattle.psm_tree.specs.declared.file.Parameter.{Parameter}
 use Rattle.psm_tree.specs.declared.file.CharacteristicForm.TheVariants as characteristics
