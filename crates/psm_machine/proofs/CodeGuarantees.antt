@@ -81,7 +81,7 @@ module _ (code : RawCode) (tables : List Contents) (well_formed_code : first_fau
 
   -- rows may be put in
   pub put_right : (n : ℕ) → MayPut code tables n
-  put_right n = if_some (λ t. HasTable t tables n) (slice_get code.tables n) (λ t e. has_table n t e)
+  put_right n = if_some (λ t. HasTable code.keys t tables n) (slice_get code.tables n) (λ t e. has_table n t e)
 
   -- and the tables stay those of the code with the rows that are due
   pub put_kept : (n : ℕ) (t : CodeTable) (c : Contents) → slice_get code.tables n ≡ Some t → slice_get tables n ≡ Some c → (columns : List ℕ) (rows : List (List Datum)) (changed : Changed) → put_due (are_keyed_with code.keys (rows_in tables) n) t columns rows c ≡ Ok changed

@@ -1,5 +1,5 @@
 -- Statements that leave a table with other rows, as parts of an instruction.
-use Rattle.std.proofs.Common.{◌≡◌, ℕ, zero, suc, List, [], ◌∷◌, map, slice_get, Option, Some, IfSome, IsErrAnd, Result, Ok, Err, refl, ap, sym, subst, ◌∙◌}
+use Rattle.std.proofs.Common.{◌≡◌, ℕ, zero, suc, Bool, List, [], ◌∷◌, map, slice_get, Option, Some, IfSome, IsErrAnd, Result, Ok, Err, refl, ap, sym, subst, ◌∙◌}
 use Rattle.psm_cond.specs.Condition.{Entries}
 use Rattle.psm_cond.specs.declared.fault.DataFault.{DataFault}
 use Rattle.psm_cond.specs.declared.fault.DataFault.TheVariants as fault

@@ -125,7 +125,15 @@ pub fn put_rows<S: Store>(
 {
     let keys = code.keys.items();
     let tables = code.tables.items();
-    put_into(alloc, keys, &tables[table as usize], store, table, columns, rows)
+    put_into(
+        alloc,
+        keys,
+        &tables[table as usize],
+        store,
+        table,
+        columns,
+        rows,
+    )
 }
 
 // Puts rows into the table that is declared so.

@@ -1,9 +1,10 @@
-use Rattle.std.proofs.Common.{List, [], IfSome, slice_get, ap, sym, subst, ◌∙◌}
+use Rattle.std.proofs.Common.{List, [], All, IfSome, slice_get, ap, sym, subst, ◌∙◌}
 use Rattle.std.specs.Option.{option_copied}
 use Rattle.psm_value.specs.declared.datum.Datum.{Datum}
 use Rattle.psm_exprcode.specs.declared.op.Line.{Line}
 use Rattle.psm_table.specs.declared.definition.ForeignKey.{ForeignKey}
 use Rattle.psm_table.specs.Changing.{deleted, IsLegal}
+use Rattle.psm_table.specs.Keyed.{defs_in, IsKeyOf}
 use Rattle.psm_table.specs.Table.{Contents}
 use Rattle.psm_tablecode.specs.Codes.{over}
 use Rattle.psm_dml.specs.Ends.{keyed_schema, schema_of, Ends}
@@ -14,6 +15,14 @@ use Rattle.psm_machine.specs.ActResults.{Evaluates}
 use Rattle.psm_machine.proofs.Asking.{of_some}
 use Rattle.psm_machine.proofs.Counting.{as_err, delete_counted, Counted}
 use Rattle.psm_machine.proofs.plans.delete_rows.Goals as goal
+
+pub delete-requires-clause-keys : goal.delete-requires-clause-keys
+delete-requires-clause-keys g c =
+    let old : List Contents = g.S.Store.tables c.args.store.now in
+    let code = c.args.code.now in
+    let may = MayErase code.keys old c.args.table c.args.run.now.running.variables.items (option_copied c.args.test) in
+    let h = of_some may (slice_get code.tables c.args.table) c.in-Some._declared.now (sym c.table_at.ensures ∙ ap option_copied c.in-Some.is) c.requires.may in
+    subst (λ (keys : List ForeignKey). All (IsKeyOf (defs_in old)) keys) (sym c.items-keys.ensures) h.table.keys_there
 
 pub returns-in_err-count-clause-due : goal.returns-in_err-count-clause-due
 returns-in_err-count-clause-due g c = λ at.

@@ -1,6 +1,7 @@
-use Rattle.std.proofs.Common.{List, IfSome, slice_get, ap, sym, subst, ◌∙◌}
+use Rattle.std.proofs.Common.{List, All, IfSome, slice_get, ap, sym, subst, ◌∙◌}
 use Rattle.std.specs.Option.{option_copied}
 use Rattle.psm_table.specs.declared.definition.ForeignKey.{ForeignKey}
+use Rattle.psm_table.specs.Keyed.{defs_in, IsKeyOf}
 use Rattle.psm_table.specs.Table.{Contents}
 use Rattle.psm_dml.specs.Ends.{ErasesByRules}
 use Rattle.psm_code.specs.Plans.{delete_at, leave_row}
@@ -10,6 +11,22 @@ use Rattle.psm_machine.specs.ActResults.{Evaluates}
 use Rattle.psm_machine.proofs.Counting.{as_err}
 use Rattle.psm_machine.proofs.Positions.{erases, gone_by, may_at, Moves}
 use Rattle.psm_machine.proofs.positioned.delete_at.Goals as goal
+
+pub delete_at-requires-clause-keys : goal.delete_at-requires-clause-keys
+delete_at-requires-clause-keys g c =
+    let old : List Contents = g.S.Store.tables c.args.store.now in
+    let code = c.args.code.now in
+    let r = c.args.routine.now in
+    let n = c.args.number in
+    let run = c.args.run.now in
+    let q = c.in-Some-query_at.query.now in
+    let cursor = c.in-Some-cursor_at.cursor.now in
+    let d = sym c.declared_at.ensures ∙ ap option_copied c.in-Some.is in
+    let a = sym c.query_at.ensures ∙ ap option_copied c.in-Some-query_at.is in
+    let b = sym c.table_at.ensures ∙ ap option_copied c.in-Some-table_at.is in
+    let s = sym c.cursor_at.ensures ∙ ap option_copied c.in-Some-cursor_at.is in
+    let may = may_at (λ n c. MayEraseAt code.keys old n c) code r run.running.cursors.items n c.in-Some.declared.now q c.in-Some-table_at._declared.now cursor d a b s c.requires.may in
+    subst (λ (keys : List ForeignKey). All (IsKeyOf (defs_in old)) keys) (sym c.items-keys.ensures) may.table.keys_there
 
 pub returns-in_err-part_of-clause-due : goal.returns-in_err-part_of-clause-due
 returns-in_err-part_of-clause-due g c = λ at.
