@@ -1,5 +1,5 @@
 -- Statements that leave a table with other rows, as parts of an instruction.
-use Rattle.std.proofs.Common.{◌≡◌, ℕ, zero, suc, Bool, List, [], ◌∷◌, map, slice_get, Option, Some, IfSome, IsErrAnd, Result, Ok, Err, refl, ap, sym, subst, ◌∙◌}
+use Rattle.std.proofs.Common.{◌≡◌, ◌<◌, ℕ, zero, suc, length, Bool, List, [], ◌∷◌, map, slice_get, Option, Some, IfSome, IsErrAnd, Result, Ok, Err, refl, ap, sym, subst, ◌∙◌, arith}
 use Rattle.psm_cond.specs.Condition.{Entries}
 use Rattle.psm_cond.specs.declared.fault.DataFault.{DataFault}
 use Rattle.psm_cond.specs.declared.fault.DataFault.TheVariants as fault
@@ -18,7 +18,7 @@ use Rattle.psm_dml.specs.Ends as ends
 use Rattle.psm_dml.specs.Ends.{Ends, IsDue, IsOf}
 use Rattle.psm_code.specs.declared.code.CodeTable.{CodeTable}
 use Rattle.psm_code.specs.declared.code.RawCode.{RawCode}
-use Rattle.psm_code.specs.Plans.{delete_rows, leaves, plain, put_in, schema_of, set_item, some_row, unless_failed, update_rows}
+use Rattle.psm_code.specs.Plans.{delete_rows, leaves, plain, put_in, schema_of, set_item, some_row, some_rows, unless_failed, update_rows}
 use Rattle.psm_code.specs.State.{Machine}
 use Rattle.psm_code.specs.Steps.{Act, Came, Raises, go_on, got, raises, ◌>>=◌, ◌>>◌}
 use Rattle.psm_code.proofs.Planning.{any_rows}
@@ -76,6 +76,11 @@ counted_by c due rest t old at r new (Ok n) h =
 counted_by c due rest t old at r new (Err (fault.Raised e)) h =
     stopped_by c.def due (left_with t c rest) e (machine_of old at r) (machine_of new at r) h.0 (ap (λ tables. machine_of tables at r) (sym h.1))
 counted_by c due rest t old at r new (Err fault.Memory) h = tt
+
+-- some rows of a query go on
+pub some_go : (rows : List (List Datum)) (go : List (List Datum) → Act (Unit {0})) (m : Machine) → 0 < length rows → ◌>>=◌ (some_rows rows) go m ≡ go rows m
+some_go [] go m h = absurd (omega (arith, h))
+some_go (row ∷ rows) go m h = refl
 
 -- after INSERT nothing comes
 abbrev pub nothing_more : ℕ → Act (Unit {0})

@@ -1,8 +1,7 @@
 -- Values off the operands, and the rows that are made of them.
-use Rattle.std.proofs.Common.{◌≡◌, ◌<◌, ◌≤◌, ◌+◌, ◌-◌, ℕ, zero, suc, false, nat_eq, List, [], ◌∷◌, ◌++◌, length, drop, drop_of_length-le, get_or, map, reverse, take, All, append_assoc, append-nil, IsErrAnd, OnOk, Result, Ok, Err, if◌then◌else◌, refl, ap, sym, subst, ◌∙◌, arith}
+use Rattle.std.proofs.Common.{◌≡◌, ◌<◌, ◌≤◌, ◌+◌, ◌-◌, ℕ, zero, suc, false, nat_eq, List, [], ◌∷◌, ◌++◌, length, drop, drop_of_length-le, get_or, map, reverse, take, All, append_assoc, append-nil, IsErrAnd, Result, Err, if◌then◌else◌, refl, ap, sym, subst, ◌∙◌, arith}
 use Rattle.std.proofs.lemmas.List.{drop_more, reverse-append}
 use Rattle.std.proofs.lemmas.List.Elements.{All-cons, All-nil}
-use Rattle.psm_cond.specs.declared.fault.DataFault.{DataFault}
 use Rattle.psm_value.specs.declared.datum.Datum.{Datum}
 use Rattle.psm_exprcode.specs.declared.operand.Operand.{Operand}
 use Rattle.psm_exprcode.specs.declared.operand.Operand.TheVariants.{Value, Truth}
@@ -16,7 +15,6 @@ use Rattle.psm_code.specs.Steps.{Came, Ends, Got, go_on, got, pop, pops}
 use Rattle.psm_unwind.specs.View.{at_end}
 use Rattle.psm_machine.specs.declared.stop.Stop.{Stop}
 use Rattle.psm_machine.specs.ActResults.{Evaluates}
-use Rattle.psm_machine.specs.Over.{part_of}
 use Rattle.psm_machine.proofs.ActSequences.{stopped}
 
 -- ---- values off the operands
@@ -128,9 +126,3 @@ row_long place (c ∷ cs) columns ds = ap suc (row_long (suc place) cs columns d
 pub rows_fit : (def : TableDef) (columns : List ℕ) (rows : List (List Datum)) → All (HasColumns def) (map (new_row def columns) rows)
 rows_fit def columns [] = All-nil (HasColumns def)
 rows_fit def columns (row ∷ rows) = All-cons (HasColumns def) (new_row def columns row) (map (new_row def columns) rows) (row_long 0 def.columns columns row) (rows_fit def columns rows)
-
--- ---- statements that are done
-
-pub done_ok : {A : Type 0} (r : Result A DataFault) (P : Type 0) (a : A) → ◌≡◌ {A = Result A Stop} (Ok a) (part_of r) → OnOk r P → P
-done_ok (Ok b) P a e h = h
-done_ok (Err f) P a e h = absurd (cc)

@@ -1,4 +1,4 @@
-use Rattle.std.proofs.Common.{List, All, IfSome, slice_get, ap, sym, subst, ◌∙◌}
+use Rattle.std.proofs.Common.{true, List, All, IfSome, slice_get, ap, sym, subst, ◌∙◌}
 use Rattle.std.specs.Option.{option_copied}
 use Rattle.psm_table.specs.declared.definition.ForeignKey.{ForeignKey}
 use Rattle.psm_table.specs.Keyed.{defs_in, IsKeyOf}
@@ -50,7 +50,7 @@ returns-in_err-part_of-clause-due g c = λ at.
     let done = erases code r n x q y cursor t c.in_ok-key.key c.in-Some-current.row.now old new at run c.delete_at.result d a b may.table c.table-table.ensures s
     (sym c.current.ensures.row ∙ ap option_copied c.in-Some-current.is) c.in_ok-key.ensures.value ruled in
     let stopped = subst (λ p. Moves (delete_at code r n) n cursor old at run new (gone_by p)) (sym c.in_err-part_of.ensures) done in
-    subst (λ p. Evaluates (delete_at code r n (machine_of old at run)) p (machine_of new at run)) (as_err c.from_residual.result c.in_err-part_of.field-0.0 c.from_residual.ensures.1) stopped
+    subst (λ p. Evaluates (delete_at code r n (machine_of old at run)) p (machine_of new at run)) (as_err c.from_residual-in_err-part_of.result c.in_err-part_of.field-0.0 c.from_residual-in_err-part_of.ensures.1) stopped
 
 pub returns-clause-due : goal.returns-clause-due
 returns-clause-due g c = λ at.
