@@ -15,7 +15,7 @@ pub fn write(alloc: Global, code: &RawCode) -> Result<Vec<u8>, AllocError>
 {
     let mut out = Vec::new(alloc);
     put_first_line(&mut out, code)?;
-    put_tables(&mut out, code.tables.items())?;
+    put_tables(&mut out, code.tables.items(), code.keys.items())?;
     put_routines(&mut out, code.routines.items())?;
     Ok(out)
 }
@@ -23,7 +23,7 @@ pub fn write(alloc: Global, code: &RawCode) -> Result<Vec<u8>, AllocError>
 fn put_first_line(out: &mut Vec<u8>, code: &RawCode) -> Result<(), AllocError>
     ensures { OnOk result (out.new.items ≡ out.old.items ++ ended (first_line code.now)) }
 {
-    out.extend_from_slice(b"PSM 2")?;
+    out.extend_from_slice(b"PSM 3")?;
     put_count(out, code.tables.items().len())?;
     put_count(out, code.routines.items().len())?;
     end_line(out)
