@@ -4,3 +4,4 @@ pub mod LinesInOrder
 pub mod Mnemonics
 pub mod OwnKeys
 pub mod Pieces
+pub mod TableLines

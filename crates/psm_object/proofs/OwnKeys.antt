@@ -1,10 +1,17 @@
 -- FOREIGN KEY constraints in the order of the tables that refer.
-use Rattle.std.proofs.Common.{◌≡◌, ◌<◌, ◌≤◌, ℕ, zero, suc, ◌+◌, Bool, true, false, ◌&&◌, nat_eq, nat_le, List, [], ◌∷◌, cond, drop, length, take, refl, ap, sym, ◌∙◌, arith, eqb-false, eqb-true, le-leb, leb-true, ne_eqb, ⊎_elim}
-use Rattle.std.proofs.lemmas.Bool.{cases_lt}
-use Rattle.psm_num.proofs.Literals.{and_first, and_second}
+use Rattle.std.proofs.Common.{◌≡◌, ◌<◌, ◌≤◌, ℕ, zero, suc, ◌+◌, Bool, true, false, ◌&&◌, nat_eq, nat_le, List, [], ◌∷◌, cond, drop, length, take, refl, ap, sym, ◌∙◌, arith, inl, inr}
+use Rattle.std.proofs.lemmas.Bool.{cases_lt, eqb-false, eqb-true, le-leb, leb-true, ne_eqb}
 use Rattle.psm_table.specs.declared.definition.ForeignKey.{ForeignKey}
 use Rattle.psm_code.specs.TableRules.{keys_from}
 use Rattle.psm_object.specs.OwnKeys.{ascend, count_at_front}
+
+and_first : (a b : Bool) → (a && b) ≡ true → a ≡ true
+and_first true b h = refl
+and_first false b h = absurd (cc)
+
+and_second : (a b : Bool) → (a && b) ≡ true → b ≡ true
+and_second true b h = h
+and_second false b h = absurd (cc)
 
 pub count_within : (n : ℕ) (keys : List ForeignKey) → count_at_front n keys ≤ length keys
 count_within n [] = omega arith
@@ -28,7 +35,7 @@ none_from n at (key ∷ keys) h l =
     ap (λ b. cond b (key ∷ keys_from keys n) (keys_from keys n)) other ∙ none_from n key.from keys (and_second (nat_le at key.from) (ascend key.from keys) h) (omega (arith, l, first))
 
 above : (n m : ℕ) → n ≤ m → nat_eq m n ≡ false → n < m
-above n m l e = ⊎_elim (λ h. h) (λ h. absurd (eqb-false m n e (omega (arith, l, h)))) (cases_lt n m)
+above n m l e = elim (cases_lt n m) [ inl h ↦ h | inr h ↦ absurd (eqb-false m n e (omega (arith, l, h))) ]
 
 -- those at the front are all of the table
 pub own_is : (n : ℕ) (keys : List ForeignKey) → ascend n keys ≡ true → keys_from (take (count_at_front n keys) keys) n ≡ keys_from keys n
@@ -37,10 +44,10 @@ own_is n (key ∷ keys) h =
     let first : n ≤ key.from = leb-true n key.from (and_first (nat_le n key.from) (ascend key.from keys) h) in
     let rest : ascend key.from keys ≡ true = and_second (nat_le n key.from) (ascend key.from keys) h in
     by (nat_eq key.from n) (own_is n keys (ascend_from key.from n keys rest first)) (λ e. none_from n key.from keys rest (above n key.from first e)) refl where
-  by : (b : Bool) → keys_from (take (count_at_front n keys) keys) n ≡ keys_from keys n → (nat_eq key.from n ≡ false → keys_from keys n ≡ []) → nat_eq key.from n ≡ b
-      → keys_from (take (cond b (suc (count_at_front n keys)) 0) (key ∷ keys)) n ≡ keys_from (key ∷ keys) n
-  by true q none e = ap (λ b. cond b (key ∷ keys_from (take (count_at_front n keys) keys) n) (keys_from (take (count_at_front n keys) keys) n)) e ∙ ap (λ l. key ∷ l) q ∙ sym (ap (λ b. cond b (key ∷ keys_from keys n) (keys_from keys n)) e)
-  by false q none e = sym (none e) ∙ sym (ap (λ b. cond b (key ∷ keys_from keys n) (keys_from keys n)) e)
+      by : (b : Bool) → keys_from (take (count_at_front n keys) keys) n ≡ keys_from keys n → (nat_eq key.from n ≡ false → keys_from keys n ≡ []) → nat_eq key.from n ≡ b
+          → keys_from (take (cond b (suc (count_at_front n keys)) 0) (key ∷ keys)) n ≡ keys_from (key ∷ keys) n
+      by true q none e = ap (λ b. cond b (key ∷ keys_from (take (count_at_front n keys) keys) n) (keys_from (take (count_at_front n keys) keys) n)) e ∙ ap (λ l. key ∷ l) q ∙ sym (ap (λ b. cond b (key ∷ keys_from keys n) (keys_from keys n)) e)
+      by false q none e = sym (none e) ∙ sym (ap (λ b. cond b (key ∷ keys_from keys n) (keys_from keys n)) e)
 
 -- the others are those of all other tables
 pub others_are : (n : ℕ) (keys : List ForeignKey) (m : ℕ) → n < m → keys_from (drop (count_at_front n keys) keys) m ≡ keys_from keys m
@@ -59,6 +66,6 @@ others_ascend n (key ∷ keys) h =
     let first : n ≤ key.from = leb-true n key.from (and_first (nat_le n key.from) (ascend key.from keys) h) in
     let rest : ascend key.from keys ≡ true = and_second (nat_le n key.from) (ascend key.from keys) h in
     by (nat_eq key.from n) (others_ascend n keys (ascend_from key.from n keys rest first)) (λ e. ap (λ b. b && ascend key.from keys) (le-leb (suc n) key.from (omega (arith, above n key.from first e))) ∙ rest) refl where
-  by : (b : Bool) → ascend (suc n) (drop (count_at_front n keys) keys) ≡ true → (nat_eq key.from n ≡ false → ascend (suc n) (key ∷ keys) ≡ true) → nat_eq key.from n ≡ b → ascend (suc n) (drop (cond b (suc (count_at_front n keys)) 0) (key ∷ keys)) ≡ true
-  by true q later e = q
-  by false q later e = later e
+      by : (b : Bool) → ascend (suc n) (drop (count_at_front n keys) keys) ≡ true → (nat_eq key.from n ≡ false → ascend (suc n) (key ∷ keys) ≡ true) → nat_eq key.from n ≡ b → ascend (suc n) (drop (cond b (suc (count_at_front n keys)) 0) (key ∷ keys)) ≡ true
+      by true q later e = q
+      by false q later e = later e

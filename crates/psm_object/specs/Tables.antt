@@ -38,8 +38,12 @@ key_line columns = spaced (codes "KEY" ∷ numbers columns)
 abbrev pub unique_line : List ℕ → List ℕ
 unique_line columns = spaced (codes "UNI" ∷ numbers columns)
 
+-- to which table and columns a FOREIGN KEY constraint refers
+abbrev pub referred_words : ForeignKey → List (List ℕ)
+referred_words key = codes "TO" ∷ number key.to ∷ numbers key.target
+
 abbrev pub reference_line : ForeignKey → List ℕ
-reference_line key = spaced (codes "REF" ∷ (numbers key.columns ++ codes "TO" ∷ number key.to ∷ numbers key.target))
+reference_line key = spaced (codes "REF" ∷ (numbers key.columns ++ referred_words key))
 
 -- the lines of a table with its constraints
 abbrev pub table_lines : List ForeignKey → CodeTable → List (List ℕ)

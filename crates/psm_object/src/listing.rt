@@ -9,7 +9,8 @@ use crate::words::{end_line, put_count};
 use psm_code::RawCode;
 use std::alloc::{AllocError, Global};
 
-/// The listing of code, which need not be well-formed. Takes the time of its text.
+/// The listing of code, which need not be well-formed. Takes the time of its text, if the FOREIGN KEY constraints stand in the order
+/// of the tables that refer.
 pub fn write(alloc: Global, code: &RawCode) -> Result<Vec<u8>, AllocError>
     ensures { IfOk result (λ text. text.items ≡ listing code.now) }
 {

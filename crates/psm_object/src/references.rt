@@ -2,8 +2,8 @@
 ghost use Rattle.std.specs.Prelude.{◌≡◌, ◌++◌, ◌<◌, ℕ, suc, true, length, map, OnOk};
 ghost use Rattle.psm_code.specs.TableRules.{keys_from};
 ghost use Rattle.psm_object.specs.OwnKeys as order;
-ghost use Rattle.psm_object.specs.Tables.{reference_line};
-ghost use Rattle.psm_object.specs.Words.{ended, text};
+ghost use Rattle.psm_object.specs.Tables.{reference_line, referred_words};
+ghost use Rattle.psm_object.specs.Words.{ended, further, text};
 
 use crate::words::{end_line, put_index, put_indices, put_word};
 use psm_table::ForeignKey;
@@ -27,7 +27,6 @@ pub(crate) fn ascend(keys: &[ForeignKey]) -> bool
 
 /// The constraints among which are all of a table, and those among which are all of later tables. Where they stand in order,
 /// the first are those of the table alone, and the second are of later tables alone.
-#[tactic(auto, using(crate::proofs::OwnKeys::count_within, crate::proofs::OwnKeys::own_is, crate::proofs::OwnKeys::others_are, crate::proofs::OwnKeys::others_ascend))]
 pub(crate) fn parted(
     keys: &[ForeignKey],
     table: usize,
@@ -62,9 +61,7 @@ fn count_at_front(keys: &[ForeignKey], table: usize) -> usize
 pub(crate) fn count_of(keys: &[ForeignKey], table: usize) -> usize
     ensures { result ≡ length (keys_from keys.now table) }
 {
-    keys.iter()
-        .filter(|key| key.from as usize == table)
-        .count()
+    keys.iter().filter(|key| key.from as usize == table).count()
 }
 
 /// Appends the lines of the constraints of a table.
@@ -88,6 +85,13 @@ fn put_reference(out: &mut Vec<u8>, key: &ForeignKey) -> Result<(), AllocError>
 {
     out.extend_from_slice(b"REF")?;
     put_indices(out, key.columns.items())?;
+    put_referred(out, key)
+}
+
+// The table and the columns to which a constraint refers.
+fn put_referred(out: &mut Vec<u8>, key: &ForeignKey) -> Result<(), AllocError>
+    ensures { OnOk result (out.new.items ≡ out.old.items ++ ended (further (referred_words key.now))) }
+{
     put_word(out, "TO")?;
     put_index(out, key.to)?;
     put_indices(out, key.target.items())?;

@@ -15,8 +15,8 @@ use psm_list::List;
 use psm_table::{Column, ForeignKey};
 use std::alloc::AllocError;
 
-/// Appends the lines of tables with their FOREIGN KEY constraints. No table is looked for among those of others, if they stand
-/// in the order of the tables that refer.
+/// Appends the lines of tables with their FOREIGN KEY constraints. Takes the time of the text, if these stand in the order of the
+/// tables that refer.
 pub(crate) fn put_tables(
     out: &mut Vec<u8>,
     tables: &[CodeTable],
