@@ -143,20 +143,23 @@ module _ (f : FileTree) (xs : List TableTree) (t : TableTree) (ts : List TableTr
       let meant : IsMeant tables found.place columns ms u r.columns = are-meant tables found.place columns place ms u there b r.columns (ap (λ to. match_fault columns place (names_of ms) to r.columns) (sym found.is) ∙ none) in
       let here : 0 + found.place ≡ found.place = omega arith in
       let at : table_at scope r.table.name ≡ Some (found.place, columns_of (table_elements u)) =
-          ap (index_named 0 r.table.name) (tables-placed f p.names ∙ ap (map table_pair) all) ∙ found.at ∙ ap (λ k. Some (k, columns_of (table_elements u))) here in
+      ap (index_named 0 r.table.name) (tables-placed f p.names ∙ ap (map table_pair) all) ∙ found.at ∙ ap (λ k. Some (k, columns_of (table_elements u))) here in
       let key : ForeignKey = record { from = length xs; columns = map (column_of columns) ms; to = found.place; target = map (column_of (columns_of (table_elements u))) meant.meant } in
       let is : key_to tables scope (length xs) cs r ≡ key =
-          ap (λ o. record { from = length xs; columns = cs; to = number_of o; target = target_of tables o r.columns }) at
-          ∙ ap (λ l. record { from = length xs; columns = cs; to = found.place; target = l }) meant.places
-          ∙ ap (λ l. record { from = length xs; columns = l; to = found.place; target = map (column_of (columns_of (table_elements u))) meant.meant }) are in
-      subst IsWell (sym is) (refl, record {
-        from = resolve_table t;
-        to = resolve_table u;
-        from_there = from-there;
-        to_there = there;
-        before = omega (arith, found.below, longer xs);
-        fits = fits t u own b ms meant.meant l meant.list meant.match (length xs) found.place;
-      })
+      ap (λ o. record { from = length xs; columns = cs; to = number_of o; target = target_of tables o r.columns }) at
+      ∙ ap (λ l. record { from = length xs; columns = cs; to = found.place; target = l }) meant.places
+      ∙ ap (λ l. record { from = length xs; columns = l; to = found.place; target = map (column_of (columns_of (table_elements u))) meant.meant }) are in
+      subst IsWell (sym is) (
+        refl,
+        record {
+          from = resolve_table t;
+          to = resolve_table u;
+          from_there = from-there;
+          to_there = there;
+          before = omega (arith, found.below, longer xs);
+          fits = fits t u own b ms meant.meant l meant.list meant.match (length xs) found.place;
+        },
+      )
 
   well-by : (place : Place) (ms : List Identifier) (cs : List ℕ) (r : References) (o : Option Referred) → named r.table.name known ≡ o → IsList columns ms → cs ≡ map (column_of columns) ms → reference_to columns place (names_of ms) r o ≡ None
       → IsWell (key_to tables scope (length xs) cs r)
@@ -216,7 +219,7 @@ tables-well f p seen xs (t ∷ ts) all k new sound none =
     let is : with_referred (map referred_pair xs) t ≡ map referred_pair more = declared-new seen t.name.name (referred_of t) (map referred_pair xs) k new.0 ∙ sym (map-append referred_pair xs (t ∷ [])) in
     let whole : f.tables ≡ more ++ ts = all ∙ sym (append_assoc xs (t ∷ []) ts) in
     let parts = none-first (references_fault (map referred_pair more) t) (references_faults (map referred_pair more) ts)
-        (ap (λ l. first_of (references_fault l t ∷ references_faults l ts)) (sym is) ∙ none) in
+    (ap (λ l. first_of (references_fault l t ∷ references_faults l ts)) (sym is) ∙ none) in
     let knows : Knows (t.name.name ∷ seen) (map referred_pair more) = subst (Knows (t.name.name ∷ seen)) (sym (map-append referred_pair xs (t ∷ []))) (knows-more seen t.name.name (referred_of t) (map referred_pair xs) k) in
     (table-well f xs t ts whole p (table-referable t sound.0) parts.0, subst (λ n. AreWell f n ts) (as-long xs t) (tables-well f p (t.name.name ∷ seen) more ts whole knows new.1 sound.1 parts.1))
 

@@ -61,9 +61,11 @@ placed-after columns before seen (elements.Column name kind default rules ∷ es
     let none : is_some (named name.name before) ≡ false = sym (k name.name) ∙ new.0 in
     let p : Spelling × Option SqlType = (name.name, type_of kind) in
     let e : 0 + length before ≡ length before = omega arith in
-    let at : column_of columns name ≡ length before = ap (λ c. place_in (index_named 0 name.name c)) is ∙ ap place_in (place-after 0 name.name (type_of kind) before (pairs_of es) none) ∙ e in
-    (at, subst (λ m. Placed columns m es) (longer before p)
-    (placed-after columns (before ++ p ∷ []) (name.name ∷ seen) es (is ∙ sym (append_assoc before (p ∷ []) (pairs_of es))) (knows-more seen name.name (type_of kind) before k) new.1))
+    let at : column_of columns name ≡ length before = ap (λ c. place_in (index_named 0 name.name c)) is ∙ ap place_in (place-after 0 name.name (type_of kind) before (pairs_of es) none) ∙ e in (
+      at,
+      subst (λ m. Placed columns m es) (longer before p)
+          (placed-after columns (before ++ p ∷ []) (name.name ∷ seen) es (is ∙ sym (append_assoc before (p ∷ []) (pairs_of es))) (knows-more seen name.name (type_of kind) before k) new.1),
+    )
 placed-after columns before seen (elements.Rule r ∷ es) is k new = placed-after columns before seen es is k new
 
 pub columns-placed : (es : List Element) → repeated rule.ColumnRepeated (column_names es) ≡ None → Placed (columns_of es) 0 es
