@@ -1,12 +1,11 @@
 -- A module file without a fault is well-formed, where NULL stands in it as the grammar lets it stand.
 use Rattle.std.proofs.Common.{◌≡◌, true, List, [], ◌∷◌, ◌++◌, length, map, Option, None, refl, ap, sym, ◌∙◌, subst, arith}
 use Rattle.std.specs.List.{list_all}
-use Rattle.std.proofs.lemmas.List.{length-map}
 use Rattle.psm_exprcode.specs.declared.op.Letter.{Letter}
 use Rattle.psm_exprcode.specs.WellFormed.{is_type}
 use Rattle.psm_rules.specs.declared.rule.Rule.TheVariants as rule
 use Rattle.psm_rules.specs.Faults.{first_of}
-use Rattle.psm_rules.specs.FileFaults.{body_context, file_fault, references_faults, routines_fault, table_fault, symbols_of}
+use Rattle.psm_rules.specs.FileFaults.{body_context, file_fault, routines_fault, table_fault, symbols_of}
 use Rattle.psm_rules.specs.StatementFaults.{repeated}
 use Rattle.psm_tree.specs.declared.file.FileTree.{FileTree}
 use Rattle.psm_tree.specs.declared.file.Routine.{Routine}
@@ -16,7 +15,7 @@ use Rattle.psm_resolved.specs.declared.file.ResolvedRoutine.{ResolvedRoutine}
 use Rattle.psm_resolved.specs.declared.file.ResolvedTable.{ResolvedTable}
 use Rattle.psm_resolved.specs.declared.statement.ResolvedCursor.{ResolvedCursor}
 use Rattle.psm_resolve.specs.Blocks.{resolve_statement}
-use Rattle.psm_resolve.specs.Files.{in_file, resolved_file, resolve_parameter, resolve_routine, routine_numbered, resolve_table}
+use Rattle.psm_resolve.specs.Files.{resolved_file, resolve_parameter, resolve_routine, routine_numbered, resolve_table}
 use Rattle.psm_resolve.specs.SymbolTables.{known_symbols}
 use Rattle.psm_resolve.proofs.EachOwn.{each-own}
 use Rattle.psm_codegen.specs.declared.known.Known.{Known}
@@ -24,7 +23,7 @@ use Rattle.psm_codegen.specs.Files.{known_of}
 use Rattle.psm_codegen.specs.Queries.{item_letters}
 use Rattle.psm_codegen.specs.Writing.{BeginsWith}
 use Rattle.psm_typing.specs.TypingContext.{Begin, Each, TypingContext, Shape}
-use Rattle.psm_wellformed.specs.Files.{WellFormedFile, WellFormedKey, WellFormedRoutine, WellFormedTable, body}
+use Rattle.psm_wellformed.specs.Files.{WellFormedFile, WellFormedRoutine, WellFormedTable, body}
 use Rattle.psm_wellformed.specs.Statements.{Letters}
 use Rattle.psm_checker_sound.specs.Numbered.{Cursors, IsNumbered, cursors_in}
 use Rattle.psm_checker_sound.specs.StatementsStand.{FileStands, StatementStands, TableStands}
@@ -37,33 +36,26 @@ use Rattle.psm_checker_sound.proofs.Growing.{Grows, begins-here, statement-grows
 use Rattle.psm_checker_sound.proofs.Heads.{head-modes, head-names, head-result, parameter-slots, slots-begin, slots-typed, type_in_slot}
 use Rattle.psm_checker_sound.proofs.NewNames.{AreNew, names-new, new-names}
 use Rattle.psm_checker_sound.proofs.WellFormedParts.{HaveColumns}
-use Rattle.psm_checker_sound.proofs.Referred.{IsReferable, table-referable}
-use Rattle.psm_checker_sound.proofs.Referring.{all-keys, keys-in_turn}
 use Rattle.psm_checker_sound.proofs.Routines.{AreDistinct, IsAccepted, routines-accepted, routines-apart}
-use Rattle.psm_checker_sound.proofs.SymbolTables.{tables-placed}
 use Rattle.psm_checker_sound.proofs.Tables.{table-columns, table-well_formed}
 
 -- ---- a file without a fault
 
 pub record FileAccepted (f : FileTree) : Type 0 where
   pub parts : FileParts f
-  pub references : first_of (references_faults [] f.tables) ≡ None
   pub apart : AreDistinct [] f.«module».routines
 
 pub file-accepted : (f : FileTree) → file_fault f ≡ None → FileAccepted f
 file-accepted f none =
     let names : Option _ = repeated rule.TableRepeated (map (λ t. t.name) f.tables) in
     let tables : Option _ = first_of (map table_fault f.tables) in
-    let references : Option _ = first_of (references_faults [] f.tables) in
     let routines : Option _ = first_of (routines_fault (symbols_of f) [] f.«module».routines) in
-    let one = none-first names (tables ∷ references ∷ routines ∷ []) none in
-    let two = none-first tables (references ∷ routines ∷ []) one.1 in
-    let three = none-first references (routines ∷ []) two.1 in
-    let four = none-first routines [] three.1 in
+    let one = none-first names (tables ∷ routines ∷ []) none in
+    let two = none-first tables (routines ∷ []) one.1 in
+    let three = none-first routines [] two.1 in
     record {
-      parts = record { names = one.0; tables = none-each table_fault f.tables two.0; routines = routines-accepted (symbols_of f) [] f.«module».routines four.0 };
-      references = three.0;
-      apart = routines-apart (symbols_of f) [] f.«module».routines four.0;
+      parts = record { names = one.0; tables = none-each table_fault f.tables two.0; routines = routines-accepted (symbols_of f) [] f.«module».routines three.0 };
+      apart = routines-apart (symbols_of f) [] f.«module».routines three.0;
     }
 
 abbrev HasColumn : ResolvedTable → Type 0
@@ -146,23 +138,12 @@ table-names : (ts : List TableTree) → map (λ n. n.name) (map (λ t. t.name) t
 table-names [] = refl
 table-names (t ∷ ts) = ap (λ ns. t.name.name ∷ ns) (table-names ts)
 
-tree-names : (ts : List TableTree) → map (λ n. n.name) (map (λ t. t.name) ts) ≡ map (λ t. t.name.name) ts
-tree-names [] = refl
-tree-names (t ∷ ts) = ap (λ ns. t.name.name ∷ ns) (tree-names ts)
-
-file-keys : (f : FileTree) → FileAccepted f → Each (WellFormedKey (resolved_file f).tables) (resolved_file f).keys
-file-keys f a =
-    all-keys (in_file (known_symbols f)) f.tables (tables-placed f a.parts.names) (each-as (λ t. table_fault t ≡ None) IsReferable table-referable f.tables a.parts.tables)
-    (subst (AreNew []) (tree-names f.tables) (names-new rule.TableRepeated [] (map (λ t. t.name) f.tables) a.parts.names)) a.references
-
 pub file-well_formed : (f : FileTree) → FileStands f → file_fault f ≡ None → WellFormedFile (resolved_file f)
 file-well_formed f well none =
     let a : FileAccepted f = file-accepted f none in
     record {
       names = new-names [] _ (subst (AreNew []) (table-names f.tables) (names-new rule.TableRepeated [] (map (λ t. t.name) f.tables) a.parts.names));
       tables = each-mapped WellFormedTable resolve_table f.tables (each-both TableStands (λ t. table_fault t ≡ None) (λ t. WellFormedTable (resolve_table t)) table-well_formed f.tables well.tables a.parts.tables);
-      turns = keys-in_turn (in_file (known_symbols f)) (map resolve_table f.tables) 0 0 (length (map resolve_table f.tables)) f.tables (omega arith) (omega (arith, length-map f.tables resolve_table));
-      keys = file-keys f a;
       apart = routines-so_far (symbols_of f) (known_symbols f) f.«module».routines a.parts.routines a.apart;
       routines = each-mapped (WellFormedRoutine (resolved_file f)) (resolve_body f) f.«module».routines
           (each-both (IsAccepted (symbols_of f)) (λ r. StatementStands r.body) (λ r. WellFormedRoutine (resolved_file f) (resolve_body f r)) (routine-well_formed f a.parts) f.«module».routines a.parts.routines well.routines);

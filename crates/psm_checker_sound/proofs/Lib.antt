@@ -62,12 +62,9 @@ pub mod Columns
 pub mod Keys
 pub mod Refusing
 pub mod Tables
-pub mod KeyPlaces
-pub mod Referred
 pub mod Routines
 pub mod Apart
 pub mod SymbolTables
-pub mod Referring
 pub mod Procedures
 pub mod Heads
 pub mod Bodies

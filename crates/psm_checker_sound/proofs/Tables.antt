@@ -53,7 +53,7 @@ use Rattle.psm_checker_sound.proofs.Whole.{expr_accepted}
 -- ---- CHECKs, which see the columns of their table alone
 
 abbrev nowhere : TypingContext
-nowhere = record { file = record { tables = []; keys = []; routines = [] }; routine = no_routine; shapes = [] }
+nowhere = record { file = record { tables = []; routines = [] }; routine = no_routine; shapes = [] }
 
 check-agree : (name : Spelling) (columns : Columns) → Agree nowhere (alone name columns) (on_columns name columns)
 check-agree name columns = record { tables = refl; functions = refl; scopes = refl; row = refl; known_tables = tt; known_functions = tt; slots = tt }
@@ -78,7 +78,6 @@ module _ (name : Spelling) (columns : Columns) (types : List SqlType) (typed : H
   own-test r column_rules.PrimaryKey well none = refl
   own-test r column_rules.Unique well none = refl
   own-test r (column_rules.Check e) well none = one-test e well none
-  own-test r (column_rules.References to) well none = refl
 
   own-tests : (rules : List ColumnRule) → Each ColumnRuleStands rules → Each (λ r. column_rule_fault (alone name columns) r.form ≡ None) rules → AreTests (own_checks (on_columns name columns) rules)
   own-tests [] well none = refl
@@ -88,7 +87,6 @@ module _ (name : Spelling) (columns : Columns) (types : List SqlType) (typed : H
   rule-test (table_rules.PrimaryKey names) well none = refl
   rule-test (table_rules.Unique names) well none = refl
   rule-test (table_rules.Check e) well none = one-test e well none
-  rule-test (table_rules.ForeignKey names to) well none = refl
 
   element-tests : (e : Element) → ElementStands e → element_fault (alone name columns) columns e ≡ None → AreTests (checks_in (on_columns name columns) e)
   element-tests (elements.Column n kind default rules) well none =
@@ -108,18 +106,18 @@ pub record IsGood (t : TableTree) : Type 0 where
   pub columns : columns_of (table_elements t) ≡ pairs_of (table_elements t)
   pub typed : HaveTypes (columns_of (table_elements t)) (kinds_of (resolve_table t).definition.columns)
 
-pub as-long : (columns : Columns) (cs : List Column) → HaveTypes columns (kinds_of cs) → length columns ≡ length cs
+as-long : (columns : Columns) (cs : List Column) → HaveTypes columns (kinds_of cs) → length columns ≡ length cs
 as-long [] [] h = refl
 as-long [] (c ∷ cs) h = absurd h
 as-long (p ∷ columns) [] h = absurd h
 as-long (p ∷ columns) (c ∷ cs) h = ap suc (as-long columns cs h.2)
 
-pub record Parts (t : TableTree) : Type 0 where
-  pub names : repeated rule.ColumnRepeated (column_names (table_elements t)) ≡ None
-  pub key : key_fault t.name (keys_of (table_elements t)) ≡ None
-  pub each : Each (λ e. element_fault (alone t.name.name (columns_of (table_elements t))) (columns_of (table_elements t)) e ≡ None) (table_elements t)
+record Parts (t : TableTree) : Type 0 where
+  names : repeated rule.ColumnRepeated (column_names (table_elements t)) ≡ None
+  key : key_fault t.name (keys_of (table_elements t)) ≡ None
+  each : Each (λ e. element_fault (alone t.name.name (columns_of (table_elements t))) (columns_of (table_elements t)) e ≡ None) (table_elements t)
 
-pub table-parts : (t : TableTree) → table_fault t ≡ None → Parts t
+table-parts : (t : TableTree) → table_fault t ≡ None → Parts t
 table-parts t none =
     let es : List Element = table_elements t in
     let faults : List (Option Fault) = map (element_fault (alone t.name.name (columns_of es)) (columns_of es)) es in

@@ -2,7 +2,6 @@
 ghost use Rattle.std.specs.Prelude.{◌≡◌, IfOk};
 ghost use Rattle.psm_resolve.specs.Files.{resolved_file};
 
-use crate::references::foreign_keys;
 use crate::routines::resolve_routines;
 use crate::symbol_tables::known_symbols;
 use crate::tables::resolve_tables;
@@ -23,10 +22,9 @@ pub fn resolve_file(alloc: Global, file: &FileTree) -> Result<ResolvedFile, Allo
     };
     let routines = resolve_routines(resolver, file.module.routines.items())?;
     let tables = resolve_tables(alloc, file.tables.items())?;
-    let keys = foreign_keys(alloc, &symbols, tables.items(), file.tables.items())?;
     Ok(ResolvedFile {
         tables,
-        keys,
+        keys: List::of(Vec::new(alloc)),
         routines,
     })
 }

@@ -12,7 +12,6 @@ mod handlers;
 mod keys;
 mod known;
 mod laws;
-mod references;
 mod routines;
 mod rows;
 mod simple;
