@@ -208,9 +208,11 @@ TAKEN = {"DUP": 1, "DROP": 1, "ISNULL": 1, "CAST": 1, "JSET": 1, "BETW": 3}
 # ---- The parts of code. Each has the number of the line that states it.
 
 Code = collections.namedtuple("Code", "tables routines")
-Table = collections.namedtuple("Table", "at name columns key uniques checks")
+Table = collections.namedtuple("Table", "at name columns key uniques references checks")
 Column = collections.namedtuple("Column", "at name type is_not_null default")
 Columns = collections.namedtuple("Columns", "at numbers")
+# A foreign key: the columns of its table, and the table and the columns to which they refer.
+Reference = collections.namedtuple("Reference", "at columns table target")
 Expression = collections.namedtuple("Expression", "at lines")
 ExpressionLine = collections.namedtuple("ExpressionLine", "at stack instruction")
 Routine = collections.namedtuple(
@@ -233,11 +235,12 @@ Line = collections.namedtuple("Line", "at context resume stack instruction")
 
 # ---- Reading: each line says by its numbers which lines follow.
 
-HEAD = re.compile(f"PSM 2 {NUMBER} {NUMBER}")
-TABLE = re.compile(f"TABLE {NAME} {NUMBER} {NUMBER} {NUMBER}")
+HEAD = re.compile(f"PSM 3 {NUMBER} {NUMBER}")
+TABLE = re.compile(f"TABLE {NAME} {NUMBER} {NUMBER} {NUMBER} {NUMBER}")
 COLUMN = re.compile(f"COL {NAME} {TYPE} ([01]) {DATUM}")
 KEY = re.compile(f"KEY {NUMBERS}")
 UNIQUE = re.compile(f"UNI {NUMBERS}")
+REFERENCE = re.compile(f"REF {NUMBERS} TO {NUMBER} {NUMBERS}")
 EXPRESSION = re.compile(f"EXPR {NUMBER}")
 UNDER_EXPRESSION = re.compile(f"{STACK} (.*)")
 ROUTINE = re.compile(f"ROUTINE ([PF]) {NAME} {' '.join([NUMBER] * 9)} (?:-|{TYPE})")
@@ -317,11 +320,12 @@ def read_head(lines):
 @fits
 def read_table(lines):
     at, found = lines.due(TABLE)
-    name, columns, uniques, checks = name_of(found[1]), *map(number_of, found.groups()[1:])
+    name, columns, uniques, checks, keys = name_of(found[1]), *map(number_of, found.groups()[1:])
     listed = [read_column(lines) for _ in range(columns)]
     key = read_columns(lines, KEY)
     lists = [read_columns(lines, UNIQUE) for _ in range(uniques)]
-    return Table(at, name, listed, key, lists, [read_expression(lines) for _ in range(checks)])
+    references = [read_reference(lines) for _ in range(keys)]
+    return Table(at, name, listed, key, lists, references, [read_expression(lines) for _ in range(checks)])
 
 
 @fits
@@ -334,6 +338,12 @@ def read_column(lines):
 def read_columns(lines, form):
     at, found = lines.due(form)
     return Columns(at, numbers_of(found[1]))
+
+
+@fits
+def read_reference(lines):
+    at, found = lines.due(REFERENCE)
+    return Reference(at, numbers_of(found[1]), number_of(found[2]), numbers_of(found[3]))
 
 
 @fits
@@ -449,7 +459,7 @@ def refuse(at, *broken):
 
 def check_code(code):
     for number, table in enumerate(code.tables):
-        check_table(table, {it.name for it in code.tables[:number]})
+        check_table(table, code.tables[:number])
     for number, routine in enumerate(code.routines):
         check_routine(code, number, routine)
 
@@ -486,8 +496,8 @@ def has_twice(numbers):
     return len(set(numbers)) < len(numbers)
 
 
-def check_table(table, names):
-    refuse(table.at, (8, table.name in names))
+def check_table(table, before):
+    refuse(table.at, (8, table.name in {it.name for it in before}))
     names = set()
     for column in table.columns:
         is_good = is_within(column.type)
@@ -498,8 +508,20 @@ def check_table(table, names):
         refuse(columns.at, (1, not is_there), (8, has_twice(columns.numbers)))
         if columns is table.key:
             refuse(columns.at, (8, any(not table.columns[it].is_not_null for it in columns.numbers)))
+    for reference in table.references:
+        check_reference(reference, table, [*before, table])
     for check in table.checks:
         check_expression(check, letters_of_columns(table), "", "B")
+
+
+def check_reference(reference, table, tables):
+    refuse(reference.at, (1, reference.table >= len(tables)))
+    other = tables[reference.table]
+    sides = (table, reference.columns), (other, reference.target)
+    refuse(reference.at, (1, any(it >= len(side.columns) for side, numbers in sides for it in numbers)))
+    letters = [[letters_of_columns(side)[it] for it in numbers] for side, numbers in sides]
+    refuse(reference.at, (8, any(has_twice(numbers) for _, numbers in sides)), (8, letters[0] != letters[1]))
+    refuse(reference.at, (8, all(it.numbers != reference.target for it in (other.key, *other.uniques))))
 
 
 def letters_of_columns(table):

@@ -59,9 +59,11 @@ ROWS = [
     # tables
     ("", "NULL|KEY|UNIQUE", "DEFAULT", "DEFAULT stands directly after the type, before NOT NULL and PRIMARY KEY"),
     ("", "UNIQUE|KEY", "INDEX|N", "a list of columns in parentheses follows: UNIQUE (a, b)"),
-    ("", "", "FOREIGN|REFERENCES", "there are no foreign keys: test for the row in the procedure"),
+    ("START", "ON (DELETE|UPDATE)", ".*", "only NO ACTION stands here: change the rows that refer to it before, in a BEGIN ATOMIC"),
+    ("START", "REFERENCES .*", "MATCH|DEFERRABLE|INITIALLY", "there is no {found}: a foreign key is tested at the end of each statement, and a null refers to no row"),
+    ("", "", "FOREIGN|REFERENCES", "REFERENCES t (k) stands after the type of a column, FOREIGN KEY (a, b) REFERENCES t (c, d) among the elements of a table"),
     ("", "VARCHAR|VARYING", "[^(]+", "a length follows: VARCHAR(20)"),
-    ("START", f"({'|'.join(TYPES)}|\\)|NULL|KEY)", "N", "after the type of a column only DEFAULT, NOT NULL, PRIMARY KEY, UNIQUE and CHECK (condition) are allowed"),
+    ("START", f"({'|'.join(TYPES)}|\\)|NULL|KEY)", "N", "after the type of a column only DEFAULT, NOT NULL, PRIMARY KEY, UNIQUE, CHECK (condition) and REFERENCES are allowed"),
     # routines and declarations
     ("", r"[(,] N", "IN|OUT|INOUT", "the mode stands before the name: IN name type"),
     ("", r"(PROCEDURE|FUNCTION) N \( [^;]* (?:%s)( \( [^()]* \))?" % "|".join(TYPES), "DEFAULT", "a parameter has no DEFAULT: write a second procedure with fewer parameters"),

@@ -12,7 +12,7 @@ const FIVE_SEVEN: &str = "CALL P ( 5 , 7 , ? ) ;\n";
 
 const THREE_LINES: &str = "1 CALL P\nB = 3\nC = NULL\nOK\n";
 
-const THREE_MODES_LISTING: &str = "PSM 2 0 1
+const THREE_MODES_LISTING: &str = "PSM 3 0 1
 ROUTINE P 'P' 3 0 0 0 0 0 0 0 8 -
 PAR IN 'A' INTEGER
 PAR INOUT 'B' INTEGER
@@ -101,7 +101,7 @@ fn a_listing_and_a_script_print_their_lines(rt: HostRuntime) -> Result<(), Fail>
     let (answer, text) = call(
         rt.alloc(),
         "exec M S --turns 0",
-        "PSM 2 0 1\nROUTINE P 'P' 0 0 0 0 0 0 0 0 2 -\n0 - - JMP 2\n0 - - END\n",
+        "PSM 3 0 1\nROUTINE P 'P' 0 0 0 0 0 0 0 0 2 -\n0 - - JMP 2\n0 - - END\n",
         "CALL p();",
     )?;
     assert_eq!(rt; answer, Status::ObjectRefused);
@@ -246,6 +246,6 @@ fn a_listing_is_cut_by_a_put_that_fails(rt: HostRuntime) -> Result<(), Fail> {
     let puts = vec![in alloc; (1, 10)]?;
     let (answer, text) = failing_call(alloc, "compile M", THREE_MODES, "", Vec::new(alloc), puts)?;
     assert_eq!(rt; answer, Status::WriteFault);
-    assert_eq!(rt; text.as_str(), "PSM 2 0 1\n");
+    assert_eq!(rt; text.as_str(), "PSM 3 0 1\n");
     Ok(())
 }

@@ -1,9 +1,12 @@
 -- The tables with which a session over code begins: one without rows for each of the code, which are those of the module file.
-use Rattle.std.proofs.Common.{◌≡◌, List, [], ◌∷◌, map, refl, sym, ap, ◌∙◌, subst}
+use Rattle.std.proofs.Common.{◌≡◌, ℕ, zero, suc, true, ◌&&◌, List, [], ◌∷◌, map, refl, sym, ap, ◌∙◌, subst}
+use Rattle.std.specs.List.{list_all}
 use Rattle.std.specs.Prelude.{All}
 use Rattle.std.proofs.lemmas.List.Elements.{All-nil}
+use Rattle.psm_table.specs.declared.definition.ForeignKey.{ForeignKey}
 use Rattle.psm_table.specs.declared.definition.TableDef.{TableDef}
 use Rattle.psm_table.specs.Definition.{IsDefinition, IsRow}
+use Rattle.psm_table.specs.Keyed.{are_keyed, is_referred, rows_at, rows_in}
 use Rattle.psm_table.specs.Table.{Contents, empty_table}
 use Rattle.psm_resolved.specs.declared.file.ResolvedFile.{ResolvedFile}
 use Rattle.psm_resolved.specs.declared.file.ResolvedTable.{ResolvedTable}
@@ -31,7 +34,7 @@ empty_at (t ∷ ts) (suc n) = empty_at ts n
 empty_keyed : (keys : List ForeignKey) (ts : List CodeTable) → are_keyed keys (rows_in (map empty_table (map (λ t. t.definition) ts))) ≡ true
 empty_keyed [] ts = refl
 empty_keyed (key ∷ keys) ts =
-    let tables : List (List (List Datum)) = rows_in (map empty_table (map (λ t. t.definition) ts)) in
+    let tables = rows_in (map empty_table (map (λ t. t.definition) ts)) in
     ap (λ b. b && are_keyed keys tables) (ap (list_all (is_referred key.columns key.target (rows_at tables key.to))) (empty_at ts key.from)) ∙ empty_keyed keys ts
 
 pub empty_tables_kept : (code : RawCode) → AreLawful code (empty_tables code)

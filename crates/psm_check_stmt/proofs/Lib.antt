@@ -2,12 +2,15 @@ pub mod Apart
 pub mod ForItems
 pub mod WalkSteps
 pub mod Handling
+pub mod ListKeys
 pub mod NamesSoFar
 pub mod Noted
 pub mod Once
 pub mod Orders
 pub mod Outside
+pub mod Paired
 pub mod Pairs
+pub mod Referring
 pub mod Returning
 pub mod StatementEquations
 pub mod TableKeys

@@ -38,7 +38,7 @@ module _ {A B : Type 0} (f : A → B) where
       by true = refl
       by false = last_seen xs (n, x)
 
-added_once : {A : Type 0} (n : Spelling) (x : A) (old new : List (Spelling × A)) (added : Bool) → Adds n x old new (Ok added) → new ≡ declared_once old n x
+pub added_once : {A : Type 0} (n : Spelling) (x : A) (old new : List (Spelling × A)) (added : Bool) → Adds n x old new (Ok added) → new ≡ declared_once old n x
 added_once n x old new true a = a.1 ∙ sym (ap (λ o. if is_some o then old else old ++ (n, x) ∷ []) a.0)
 added_once n x old new false a = a.1 ∙ sym (ap (λ b. if b then old else old ++ (n, x) ∷ []) a.0)
 

@@ -1,6 +1,7 @@
 pub mod ForItems
 pub mod Handling
 pub mod InRoutine
+pub mod KeyLists
 pub mod Keys
 pub mod Listed
 pub mod SeenRoutines

@@ -5,6 +5,7 @@ ghost use Rattle.psm_rules.specs.Faults.{first_of};
 ghost use Rattle.psm_rules.specs.StatementFaults.{repeated};
 ghost use Rattle.psm_rules.specs.FileFaults.{file_fault, routines_fault, table_fault, with_table, symbols_of};
 
+use crate::references::references_fault;
 use crate::repeated::Repeats;
 use crate::routines::{declare_routines, routine_fault};
 use crate::seen_routines::SeenRoutines;
@@ -22,9 +23,10 @@ pub fn file_fault(alloc: Global, file: &FileTree) -> Result<Option<Fault>, Alloc
 {
     let names = table_names_fault(alloc, file.tables.items())?;
     let tables = tables_fault(alloc, file.tables.items())?;
+    let references = references_fault(alloc, file.tables.items())?;
     let symbols = symbols_of(alloc, file)?;
     let routines = routines_fault(alloc, &symbols, file.module.routines.items())?;
-    Ok(earlier(earlier(names, tables), routines))
+    Ok(earlier(earlier(earlier(names, tables), references), routines))
 }
 
 // The first table whose name stands before.

@@ -61,7 +61,9 @@ fn with_keys<'a>(keys: Keys<'a>, element: &'a Element) -> Keys<'a>
         Element::Column { name, rules, .. } => with_own_keys(keys, name, rules.items()),
         Element::Rule(rule) => match &rule.form {
             TableRuleForm::PrimaryKey(names) => with_key(keys, Key::Rule(names)),
-            TableRuleForm::Unique(_) | TableRuleForm::Check(_) => keys,
+            TableRuleForm::Unique(_)
+            | TableRuleForm::Check(_)
+            | TableRuleForm::ForeignKey { .. } => keys,
         },
     }
 }
@@ -82,7 +84,10 @@ fn with_column_rule<'a>(keys: Keys<'a>, name: &'a Identifier, form: &ColumnRuleF
 {
     match form {
         ColumnRuleForm::PrimaryKey => with_key(keys, Key::Column(name)),
-        ColumnRuleForm::NotNull | ColumnRuleForm::Unique | ColumnRuleForm::Check(_) => keys,
+        ColumnRuleForm::NotNull
+        | ColumnRuleForm::Unique
+        | ColumnRuleForm::Check(_)
+        | ColumnRuleForm::References(_) => keys,
     }
 }
 
@@ -274,7 +279,9 @@ fn table_rule_fault(
     ensures { IfOk result (λ f. f ≡ table_rule_fault (seen_in_checker_scope checker_scope.entry) columns.now form.now) }
 {
     match form {
-        TableRuleForm::PrimaryKey(names) | TableRuleForm::Unique(names) => {
+        TableRuleForm::PrimaryKey(names)
+        | TableRuleForm::Unique(names)
+        | TableRuleForm::ForeignKey { columns: names, .. } => {
             columns_fault(alloc, Some(columns), names)
         }
         TableRuleForm::Check(e) => check_fault(alloc, e.get(), checker_scope),
@@ -320,7 +327,10 @@ fn column_rule_fault(
 {
     match form {
         ColumnRuleForm::Check(e) => check_fault(alloc, e.get(), checker_scope),
-        ColumnRuleForm::NotNull | ColumnRuleForm::PrimaryKey | ColumnRuleForm::Unique => Ok(None),
+        ColumnRuleForm::NotNull
+        | ColumnRuleForm::PrimaryKey
+        | ColumnRuleForm::Unique
+        | ColumnRuleForm::References(_) => Ok(None),
     }
 }
 

@@ -22,7 +22,7 @@ use Rattle.psm_code.specs.PlanRules.{cursor_fault, plan_faults, query_faults}
 use Rattle.psm_code.specs.RoutineRules.{code_faults, context_fault, context_faults, declared_fault, first_fault, handler_fault, line_fault, line_faults, parameter_fault, routine_fault, routine_faults, type_fault}
 use Rattle.psm_code.specs.RoutineRules as rules
 use Rattle.psm_code.specs.Rules.{each_after, fault_in, first_of, is_some, there, unless, where_there}
-use Rattle.psm_code.specs.TableRules.{table_faults}
+use Rattle.psm_code.specs.TableRules.{are_in_turn, table_faults}
 
 -- ---- lines without a fault
 
@@ -234,8 +234,27 @@ well_formed_routine code before r types h =
 
 -- ---- code
 
-code_clean : (code : RawCode) → first_fault code ≡ None → Clean (each_after table_faults [] code.tables ++ each_after (routine_faults code) [] code.routines)
-code_clean code e = clean_of 1 (code_faults code) e
+abbrev head_fault : RawCode → Option CodeRule
+head_fault code = unless (are_in_turn 0 (length code.tables) code.keys) Definition
+
+abbrev tables_faults : RawCode → List (Option CodeRule)
+tables_faults code = each_after (table_faults code.keys) [] code.tables
+
+abbrev routines_faults : RawCode → List (Option CodeRule)
+routines_faults code = each_after (routine_faults code) [] code.routines
+
+code_clean : (code : RawCode) → first_fault code ≡ None → Clean (tables_faults code ++ routines_faults code)
+code_clean code e = clean_tail (head_fault code) (tables_faults code ++ routines_faults code) (clean_of 1 (code_faults code) e)
+
+passes : (b : Bool) (q : CodeRule) → unless b q ≡ None → b ≡ true
+passes true q e = refl
+passes false q e = absurd (cc)
+
+pub keys_in_turn : (code : RawCode) → first_fault code ≡ None → are_in_turn 0 (length code.tables) code.keys ≡ true
+keys_in_turn code e = passes (are_in_turn 0 (length code.tables) code.keys) Definition (clean_head (head_fault code) (tables_faults code ++ routines_faults code) (clean_of 1 (code_faults code) e))
+
+pub tables_clean : (code : RawCode) → first_fault code ≡ None → Clean (tables_faults code)
+tables_clean code e = clean_first (tables_faults code) (routines_faults code) (code_clean code e)
 
 own_type : (before : List RawRoutine) (r : RawRoutine) → routine_fault before r ≡ None → rules.same_truth r.is_function (there r.returns) ≡ true
 own_type before r h =
@@ -245,17 +264,17 @@ own_type before r h =
 
 has_types : (code : RawCode) → first_fault code ≡ None → HasTypes code
 has_types code e n q g =
-    let h = clean_each (routine_faults code) [] code.routines n q (clean_second (each_after table_faults [] code.tables) (each_after (routine_faults code) [] code.routines) (code_clean code e)) g in
+    let h = clean_each (routine_faults code) [] code.routines n q (clean_second (tables_faults code) (routines_faults code) (code_clean code e)) g in
     own_type h.before q (clean_head (routine_fault h.before q) _ h.clean)
 
 pub routine_well_formed : (code : RawCode) (n : ℕ) (r : RawRoutine) → first_fault code ≡ None → routine_at code n ≡ Some r → WellFormedRoutineCode code r
 routine_well_formed code n r e g =
-    let h = clean_each (routine_faults code) [] code.routines n r (clean_second (each_after table_faults [] code.tables) (each_after (routine_faults code) [] code.routines) (code_clean code e)) g in
+    let h = clean_each (routine_faults code) [] code.routines n r (clean_second (tables_faults code) (routines_faults code) (code_clean code e)) g in
     well_formed_routine code h.before r (has_types code e) h.clean
 
-pub table_well_formed : (code : RawCode) (n : ℕ) (t : CodeTable) → first_fault code ≡ None → slice_get code.tables n ≡ Some t → (before : List CodeTable) × Clean (table_faults before t)
+pub table_well_formed : (code : RawCode) (n : ℕ) (t : CodeTable) → first_fault code ≡ None → slice_get code.tables n ≡ Some t → (before : List CodeTable) × Clean (table_faults code.keys before t)
 table_well_formed code n t e g =
-    let h = clean_each table_faults [] code.tables n t (clean_first (each_after table_faults [] code.tables) (each_after (routine_faults code) [] code.routines) (code_clean code e)) g in
+    let h = clean_each (table_faults code.keys) [] code.tables n t (tables_clean code e) g in
     (h.before, h.clean)
 
 pub line_well_formed : (code : RawCode) (r : RawRoutine) (at : ℕ) (l : CodeLine) → WellFormedRoutineCode code r → line_at r at ≡ Some l → WellFormedLine code r at l

@@ -36,7 +36,7 @@ use Rattle.psm_code.specs.RoutineRules.{first_fault}
 use Rattle.psm_code.specs.Rules.{each_after, is_among, is_there, unless, where_there}
 use Rattle.psm_code.specs.MachineInvariant.{are_stored, MachineInvariant}
 use Rattle.psm_code.specs.State.{Machine}
-use Rattle.psm_code.specs.TableRules.{column_fault, expr_faults, key_fault, name_fault, unique_fault}
+use Rattle.psm_code.specs.TableRules.{column_fault, expr_faults, foreign_key_fault, key_fault, keys_from, name_fault, unique_fault}
 use Rattle.psm_code.proofs.Acts.{Has}
 use Rattle.psm_code.proofs.Evaluating.{expr_fits, Fits}
 use Rattle.psm_code.proofs.Faults.{clean_first, clean_head, clean_second, clean_tail, routine_well_formed, two_hold, table_well_formed, Clean}
@@ -154,7 +154,7 @@ checks_type_check code n t well_formed_code e =
     let h = table_well_formed code n t well_formed_code e in
     let front = each_after column_fault [] t.definition.columns in
     let checks = flat_map (expr_faults (column_letters t) [] (is_letter B)) t.checks in
-    truths_given (column_letters t) [] t.checks (clean_second (name_fault h.0 t ∷ front ++ key_fault t.definition ∷ map (unique_fault t.definition) t.definition.unique) checks h.1)
+    truths_given (column_letters t) [] t.checks (clean_second (name_fault h.0 t ∷ front ++ key_fault t.definition ∷ map (unique_fault t.definition) t.definition.unique ++ map (foreign_key_fault h.0 t) (keys_from code.keys (length h.0))) checks h.1)
 
 -- ---- SET
 

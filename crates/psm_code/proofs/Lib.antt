@@ -31,3 +31,4 @@ pub mod Changes
 pub mod NeverStuck
 pub mod Guarantees
 pub mod HandlerTables
+pub mod KeysOfTables

@@ -8,7 +8,6 @@ use Rattle.psm_exprcode.specs.declared.set_item.SetItem as set_code
 use Rattle.psm_table.specs.Changing.{deleted_at, updated_at, Moved, Schema}
 use Rattle.psm_value.specs.declared.datum.Datum.{Datum}
 use Rattle.psm_table.specs.Cursors.{current, Closed, Cursor, Insensitive, Plain}
-use Rattle.psm_table.specs.Definition.{IsRow}
 use Rattle.psm_table.specs.Table.{Contents}
 use Rattle.psm_table.proofs.Legal.{keyed_deleted_at, keyed_updated_at, legal_deleted_at, legal_updated_at}
 use Rattle.psm_tablecode.specs.Codes.{over}

@@ -35,7 +35,7 @@ use Rattle.psm_code.specs.Instructions.{arguments, instruction_effect, may_raise
 use Rattle.psm_code.specs.Parts.{block_at, gives, handler_at, line_at, routine_at, slots_of}
 use Rattle.psm_code.specs.PlanRules.{cursor_fault, plan_faults, query_faults}
 use Rattle.psm_code.specs.Rules.{each_after, fault_in, first_of, is_same, is_some, is_there, there, unless, where_there}
-use Rattle.psm_code.specs.TableRules.{are_there, is_in_bounds, is_of_letter, table_faults, target_of}
+use Rattle.psm_code.specs.TableRules.{are_in_turn, are_there, is_in_bounds, is_of_letter, table_faults, target_of}
 
 -- ---- the line of a routine, and those of its parameters and variables
 

@@ -1,6 +1,7 @@
 -- The rules of tables and of expressions in code, line by line of the listing.
-use Rattle.std.specs.Prelude.{ℕ, suc, Bool, true, false, ◌&&◌, ◌||◌, not, nat_eq, nat_le, nat_lt, List, [], ◌∷◌, ◌++◌, length, map, reverse, slice_get, Option, Some, None, Result, Ok, Err}
-use Rattle.std.specs.List.{flat_map, list_all}
+use Rattle.std.specs.Cmp.Lexicographic.{pointwise}
+use Rattle.std.specs.Prelude.{ℕ, suc, Bool, true, false, ◌&&◌, ◌||◌, not, nat_eq, nat_le, nat_lt, List, [], ◌∷◌, ◌++◌, filter, length, map, reverse, slice_get, zip, Option, Some, None, Result, Ok, Err}
+use Rattle.std.specs.List.{flat_map, list_all, list_any}
 use Rattle.std.specs.Ordering.{int_eq}
 use Rattle.psm_sqlstate.specs.declared.state.SqlState.{SqlState}
 use Rattle.psm_value.specs.declared.datum.Datum.{Datum}
@@ -12,10 +13,11 @@ use Rattle.psm_exprcode.specs.declared.op.Letter.TheVariants.{N, B}
 use Rattle.psm_exprcode.specs.declared.op.Line.{Line}
 use Rattle.psm_exprcode.specs.declared.op.Op.{Op}
 use Rattle.psm_exprcode.specs.declared.op.Op.TheVariants as op
-use Rattle.psm_exprcode.specs.Kinds.{has_letter, is_letter, some_letter, some_value}
+use Rattle.psm_exprcode.specs.Kinds.{has_letter, is_letter, letter_of, some_letter, some_value}
 use Rattle.psm_exprcode.specs.Operations.{Effect, effect}
 use Rattle.psm_exprcode.specs.WellFormed.{is_of_kind, is_type, left_of, same_stack}
 use Rattle.psm_table.specs.declared.definition.Column.{Column}
+use Rattle.psm_table.specs.declared.definition.ForeignKey.{ForeignKey}
 use Rattle.psm_table.specs.declared.definition.TableDef.{TableDef}
 use Rattle.psm_code.specs.declared.code.CodeTable.{CodeTable}
 use Rattle.psm_code.specs.declared.rule.CodeRule.{CodeRule}
@@ -163,12 +165,7 @@ key_fault def = first_of (
 abbrev pub unique_fault : TableDef → List ℕ → Option CodeRule
 unique_fault def columns = first_of (unless (are_there def.columns columns) Range ∷ unless (is_column_list columns) Definition ∷ [])
 
--- ---- tables: the line of the table, those of its columns, of its key, of its UNIQUE lists and of its CHECKs, which see no variable
-
-abbrev pub name_fault : List CodeTable → CodeTable → Option CodeRule
-name_fault before t = unless (list_all (λ u. not (is_same u.definition.name t.definition.name)) before) Definition
-
--- ---- FOREIGN KEY constraints, each behind the UNIQUE lists of the table that refers
+-- ---- FOREIGN KEY constraints
 
 -- the constraints of a table
 abbrev pub keys_from : List ForeignKey → ℕ → List ForeignKey
@@ -181,27 +178,41 @@ are_in_turn at count (key ∷ keys) = (nat_le at key.from && nat_lt key.from cou
 
 -- whether a column of one table and a column of the other are of one family
 abbrev pub pairs_up : TableDef → TableDef → ℕ × ℕ → Bool
-pairs_up from to (a, b) = where_there (slice_get from.columns a) (λ c. where_there (slice_get to.columns b) (λ d. is_kind_of_family c.kind d.kind))
+pairs_up from to (a, b) = where_there (slice_get from.columns a) (λ c. where_there (slice_get to.columns b) (λ d. is_letter (letter_of c.kind) (letter_of d.kind)))
 
 -- the key or one of the UNIQUE lists, in order
 abbrev pub is_one_of_keys : TableDef → List ℕ → Bool
 is_one_of_keys def target = list_any (pointwise nat_eq target) (def.key ∷ def.unique)
 
+-- between a table and one that it refers to
+abbrev pub pair_fault : TableDef → ForeignKey → TableDef → Option CodeRule
+pair_fault from key to = first_of (
+    unless (are_there from.columns key.columns && are_there to.columns key.target) Range
+    ∷ unless ((is_column_list key.columns && is_column_list key.target)
+    && ((nat_eq (length key.columns) (length key.target) && list_all (pairs_up from to) (zip key.columns key.target)) && is_one_of_keys to key.target)) Definition ∷ [])
+
 abbrev pub foreign_key_to : TableDef → ForeignKey → Option CodeTable → Option CodeRule
 foreign_key_to from key None = Some Range
-foreign_key_to from key (Some to) = first_of (
-    unless (are_there from.columns key.columns && are_there to.definition.columns key.target) Range
-    ∷ unless ((is_column_list key.columns && is_column_list key.target)
-    && ((nat_eq (length key.columns) (length key.target) && list_all (pairs_up from to.definition) (zip key.columns key.target)) && is_one_of_keys to.definition key.target)) Definition ∷ [])
+foreign_key_to from key (Some to) = pair_fault from key to.definition
 
 abbrev pub foreign_key_fault : List CodeTable → CodeTable → ForeignKey → Option CodeRule
 foreign_key_fault before t key = foreign_key_to t.definition key (slice_get (before ++ t ∷ []) key.to)
 
-abbrev pub table_faults : List ForeignKey → List CodeTable → CodeTable → List (Option CodeRule)
-table_faults keys before t =
+-- ---- tables: the line of the table, those of its columns, of its key, of its UNIQUE lists, of its FOREIGN KEY constraints and of its CHECKs,
+-- which see no variable
+
+abbrev pub name_fault : List CodeTable → CodeTable → Option CodeRule
+name_fault before t = unless (list_all (λ u. not (is_same u.definition.name t.definition.name)) before) Definition
+
+-- a table with its constraints
+abbrev pub faults_of_table : List ForeignKey → List CodeTable → CodeTable → List (Option CodeRule)
+faults_of_table own before t =
     name_fault before t
     ∷ each_after column_fault [] t.definition.columns
     ++ key_fault t.definition
     ∷ map (unique_fault t.definition) t.definition.unique
-    ++ map (foreign_key_fault before t) (keys_from keys (length before))
+    ++ map (foreign_key_fault before t) own
     ++ flat_map (expr_faults (column_letters t) [] (is_letter B)) t.checks
+
+abbrev pub table_faults : List ForeignKey → List CodeTable → CodeTable → List (Option CodeRule)
+table_faults keys before t = faults_of_table (keys_from keys (length before)) before t

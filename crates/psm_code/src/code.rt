@@ -4,7 +4,7 @@ use crate::lines::Lines;
 use psm_cond::HandlerTable;
 use psm_exprcode::{ExprCode, Query, SetItem};
 use psm_list::List;
-use psm_table::TableDef;
+use psm_table::{ForeignKey, TableDef};
 use psm_text::Name;
 use psm_value::SqlType;
 

@@ -1,10 +1,12 @@
 //! Laws of code and of its runs.
-ghost use Rattle.std.specs.Prelude.{◌≡◌, ◌↔◌, ℕ, Bool, List, [], length, IsTrue, Some, None};
+ghost use Rattle.std.specs.Prelude.{◌≡◌, ◌↔◌, ℕ, Bool, List, [], All, length, map, IsTrue, Some, None};
 ghost use Rattle.psm_value.specs.declared.datum.Datum.{Datum};
 ghost use Rattle.psm_exprcode.specs.declared.op.Letter.{Letter};
 ghost use Rattle.psm_exprcode.specs.declared.op.Line.{Line};
 ghost use Rattle.psm_exprcode.specs.WellFormed.{does_fit};
+ghost use Rattle.psm_table.specs.Keyed.{defs_in, IsKeyOf};
 ghost use Rattle.psm_table.specs.Table.{Contents};
+ghost use Rattle.psm_code.specs.declared.code.CodeTable.{CodeTable};
 ghost use Rattle.psm_code.specs.declared.code.RawCode.{RawCode};
 ghost use Rattle.psm_code.specs.declared.code.RawRoutine.{RawRoutine};
 ghost use Rattle.psm_code.specs.Calling.{started};
@@ -12,7 +14,7 @@ ghost use Rattle.psm_code.specs.Parts.{routine_at, taking};
 ghost use Rattle.psm_code.specs.RoutineRules.{first_fault};
 ghost use Rattle.psm_code.specs.Rules.{fault_in};
 ghost use Rattle.psm_code.specs.Run.{step, Ran};
-ghost use Rattle.psm_code.specs.MachineInvariant.{is_due, AreLawful, MachineInvariant, StaysWellFormed};
+ghost use Rattle.psm_code.specs.MachineInvariant.{is_due, AreKept, AreLawful, MachineInvariant, StaysWellFormed};
 ghost use Rattle.psm_code.specs.State.{End, Machine};
 ghost use Rattle.psm_code.specs.TableRules.{expr_faults};
 
@@ -28,14 +30,21 @@ pub fn expressions_that_fit_break_no_rule()
 
 /// Code without tables and routines is well-formed.
 pub fn empty_code_is_well_formed()
-    ensures { first_fault (record { tables = []; routines = [] }) ≡ None }
+    ensures { first_fault (record { tables = []; keys = []; routines = [] }) ≡ None }
 {}
 
 /// Well-formed code is never stuck: no instruction names what isn't there, and none finds other operands than it takes. What
 /// is always true of a machine is true where a run begins, and each row keeps it. So a run that ends ends with values,
-/// with an exception or because turns ran out, and its tables are legal then. The arguments need not be of the parameters' types: where one can't be stored, that is the run's exception.
+/// with an exception or because turns ran out, and its tables keep all their rules then. The arguments need not be of the parameters' types: where one can't be stored, that is the run's exception.
 pub fn well_formed_code_never_gets_stuck()
     ensures kept { (code : RawCode) → first_fault code ≡ None → (m : Machine) → MachineInvariant code m → StaysWellFormed code (step code m) }
     ensures start { (code : RawCode) → first_fault code ≡ None → (routine : ℕ) (r : RawRoutine) → routine_at code routine ≡ Some r → (args : List Datum) (tables : List Contents) (turns : ℕ) → length args ≡ length (taking r.parameters) → AreLawful code tables → StaysWellFormed code (started code routine args tables turns) }
     ensures run { (code : RawCode) → first_fault code ≡ None → (routine : ℕ) (r : RawRoutine) → routine_at code routine ≡ Some r → (args : List Datum) (tables : List Contents) (turns : ℕ) → length args ≡ length (taking r.parameters) → AreLawful code tables → (e : End) (last : Machine) → Ran code routine args tables turns e last → IsTrue (is_due e) × AreLawful code last.tables }
+{}
+
+/// The FOREIGN KEY constraints of well-formed code (ISO/IEC 9075:1992, 11.8) are of tables that are there, with the columns that they name;
+/// and tables that are those of the code have its definitions.
+pub fn foreign_keys_are_of_tables_that_are_there()
+    ensures keys { (code : RawCode) → first_fault code ≡ None → All (IsKeyOf (map (λ (t : CodeTable). t.definition) code.tables)) code.keys }
+    ensures definitions { (code : RawCode) (tables : List Contents) → AreKept code.tables tables → defs_in tables ≡ map (λ (t : CodeTable). t.definition) code.tables }
 {}

@@ -12,7 +12,8 @@ mod writing;
 pub use code::{CodeCursor, CodeTable, Parameter, ParameterMode, Plan, RawCode, RawRoutine};
 pub use instruction::Instruction;
 pub use laws::{
-    empty_code_is_well_formed, expressions_that_fit_break_no_rule, runs_have_one_end,
+    empty_code_is_well_formed, expressions_that_fit_break_no_rule,
+    foreign_keys_are_of_tables_that_are_there, runs_have_one_end,
     well_formed_code_never_gets_stuck,
 };
 pub use lines::{CodeLine, Lines};

@@ -6,6 +6,7 @@ use Rattle.psm_value.specs.declared.datum.Datum.{Datum}
 use Rattle.psm_sqlstate.specs.declared.state.SqlState.{SqlState}
 use Rattle.psm_exprcode.specs.declared.query.Query.{Query}
 use Rattle.psm_table.specs.Changing.{Changed, Failure, inserted}
+use Rattle.psm_table.specs.Keyed.{are_keyed_with, rows_in}
 use Rattle.psm_table.specs.Queries.{Answer, answer}
 use Rattle.psm_table.specs.Table.{Contents}
 use Rattle.psm_tablecode.specs.Codes.{over, query_of}
@@ -106,8 +107,8 @@ executes_once code first s (commands.Call n values) p q (call {r = r} {end = e} 
     let one = one_end code n values s.tables s.turns e f m m2 ran ran2 in
     ap (λ x. called first s x e m) (same_Some r r2 (sym at ∙ at2)) ∙ ap (λ x. called first s r2 x m) one.0 ∙ ap (λ x. called first s r2 f x) one.1
 executes_once code first s (commands.Insert n columns rows) p q (insert {t = t} {c = c} at here) (insert {t = u} {c = d} at2 here2) =
-    ap (λ x. put_in first s n x c (inserted plain (schema_of x) (map (new_row x.definition columns) rows) c.rows)) (same_Some t u (sym at ∙ at2))
-    ∙ ap (λ x. put_in first s n u x (inserted plain (schema_of u) (map (new_row u.definition columns) rows) x.rows)) (same_Some c d (sym here ∙ here2))
+    ap (λ x. put_in first s n x c (inserted plain (schema_of (are_keyed_with code.keys (rows_in s.tables) n) x) (map (new_row x.definition columns) rows) c.rows)) (same_Some t u (sym at ∙ at2))
+    ∙ ap (λ x. put_in first s n u x (inserted plain (schema_of (are_keyed_with code.keys (rows_in s.tables) n) u) (map (new_row u.definition columns) rows) x.rows)) (same_Some c d (sym here ∙ here2))
 executes_once code first s (commands.Select query) p q (select {c = c} at) (select {c = d} at2) =
     ap (λ x. selected first s (answer (over []) (query_of query) x.rows)) (same_Some c d (sym at ∙ at2))
 executes_once code first s commands.Commit p q commit commit = refl

@@ -19,8 +19,8 @@ use Rattle.psm_code.specs.declared.code.RawRoutine.{RawRoutine}
 use Rattle.psm_code.specs.declared.rule.CodeRule.TheVariants.{Range, Target, Definition}
 use Rattle.psm_code.specs.Parts.{routine_at}
 use Rattle.psm_code.specs.RoutineRules.{are_apart, are_distinct_of, first_fault, code_faults, routine_fault, routine_faults, same_truth}
-use Rattle.psm_code.specs.Rules.{each_after, is_same, is_some, there, where_there}
-use Rattle.psm_code.specs.TableRules.{table_faults}
+use Rattle.psm_code.specs.Rules.{each_after, is_same, is_some, there, unless, where_there}
+use Rattle.psm_code.specs.TableRules.{are_in_turn, table_faults}
 use Rattle.psm_code.proofs.Faults.{Clean, clean_first, clean_head, clean_of, clean_second, three_hold}
 use Rattle.psm_exprcode.specs.WellFormed.{is_type}
 use Rattle.psm_typing.specs.TypingContext.{Each}
@@ -113,7 +113,7 @@ module _ (code : RawCode) where
   one_number r kind before (y ∷ rs) (suc n) (suc m) clean at other = ap suc (one_number r kind (before ++ y ∷ []) rs n m (clean_later y before rs clean) at other)
 
   routines_clean : first_fault code ≡ None → AreClean [] code.routines
-  routines_clean well_formed_code = clean_second (each_after table_faults [] code.tables) (each_after (routine_faults code) [] code.routines) (clean_of 1 (code_faults code) well_formed_code)
+  routines_clean well_formed_code = clean_second (unless (are_in_turn 0 (length code.tables) code.keys) Definition ∷ each_after (table_faults code.keys) [] code.tables) (each_after (routine_faults code) [] code.routines) (clean_of 1 (code_faults code) well_formed_code)
 
 -- a procedure is no function
 procedures_are : (rs : List RawRoutine) (n : ℕ) (r : RawRoutine) → slice_get (procedures_in rs) n ≡ Some r → r.is_function ≡ false

@@ -52,6 +52,7 @@ pub mod Adding
 pub mod AddingAll
 pub mod DataWellFormed
 pub mod Names
+pub mod KeysWellFormed
 pub mod TablesWellFormed
 pub mod HeadsWellFormed
 pub mod Unbroken

@@ -16,6 +16,7 @@ use Rattle.psm_typing.specs.TypingContext.{Each}
 use Rattle.psm_codegen_wellformed.proofs.DataWellFormed.{data-well_formed}
 use Rattle.psm_codegen_wellformed.proofs.Faultless.{Faultless, each-at, faultless-append, faultless-none}
 use Rattle.psm_codegen_wellformed.proofs.HeadsWellFormed.{head-well_formed, parameters-well_formed, variables-well_formed}
+use Rattle.psm_codegen_wellformed.proofs.KeysWellFormed.{keys-in_turn}
 use Rattle.psm_codegen_wellformed.proofs.TablesWellFormed.{tables-well_formed}
 
 -- no part of a routine after its own line breaks a rule
@@ -96,4 +97,4 @@ none-broken file code made accepted lines contexts =
     } in
     let tables = tables-well_formed file code made accepted in
     let routines = routines-from file code [] file.routines [] code.routines tt made.routines accepted.apart accepted.routines each in
-    faultless-none 1 (code_faults code) (refl, faultless-append (each_after table_faults [] code.tables) (each_after (routine_faults code) [] code.routines) tables routines)
+    faultless-none 1 (code_faults code) (keys-in_turn file code made accepted, faultless-append (each_after (table_faults code.keys) [] code.tables) (each_after (routine_faults code) [] code.routines) tables routines)

@@ -41,7 +41,7 @@ use Rattle.psm_meaning.specs.Values.{Layer, came, worked, scaled, scalar}
 use Rattle.psm_meaning.specs.Assigning.{assign, assign_each, assign_all, retrieve, retrieve_all, given_back, ended_well}
 use Rattle.psm_meaning.specs.Signalling.{entry_for, message_text, activating, stacked_area, area_read, assign_items, numbered, number_given, get_diagnostics}
 use Rattle.psm_meaning.specs.Cursors.{cursor_now, open_as, opened, «open», let_go, close, items_on, items_of_found, next_of, next, warned, fetched_into, fetch, only_row, select_into}
-use Rattle.psm_meaning.specs.Data.{unless_failed, some_row, some_rows, put_in, update_rows, delete_rows, standing_on, row_of_cursor, leave_row, update_at, delete_at, update, delete}
+use Rattle.psm_meaning.specs.Data.{unless_failed, some_row, some_rows, put_in, update_rows, delete_rows, standing_on, row_of_cursor, leave_row, schema_at, update_at, delete_at, update, delete}
 use Rattle.psm_meaning.specs.Flow.{kept, row_of_for}
 use Rattle.psm_meaning.specs.Session.{call_lines, inserted, answer_lines, selected}
 use Rattle.psm_meaning.proofs.Pure.{Pure, pure-bind, pure-got, pure-raises, pure-stuck, pure-variable, pure}
@@ -248,14 +248,17 @@ pub pure-some_rows : (rows : List (List Datum)) → Pure (some_rows rows)
 pure-some_rows [] = search pure
 pure-some_rows (r ∷ rows) = search pure
 
+pure-schema_at : (file : ResolvedFile) (table : ℕ) → Pure (schema_at file table)
+pure-schema_at file table = search pure
+
 pub pure-put_in : (file : ResolvedFile) (table : ℕ) (columns : List ℕ) (rows : List (List Datum)) → Pure (put_in file table columns rows)
-pure-put_in file table columns rows = search (pure, pure-table_now, pure-unless_failed)
+pure-put_in file table columns rows = search (pure, pure-schema_at, pure-table_now, pure-unless_failed)
 
 pure-update_rows : (file : ResolvedFile) (table : ℕ) (sets : List ResolvedSet) (test : Option ResolvedExpr) → Pure (update_rows file table sets test)
-pure-update_rows file table sets test = search (pure, pure-table_now, pure-unless_failed, pure-some_row) depth 8
+pure-update_rows file table sets test = search (pure, pure-schema_at, pure-table_now, pure-unless_failed, pure-some_row) depth 8
 
 pure-delete_rows : (file : ResolvedFile) (table : ℕ) (test : Option ResolvedExpr) → Pure (delete_rows file table test)
-pure-delete_rows file table test = search (pure, pure-table_now, pure-unless_failed, pure-some_row) depth 8
+pure-delete_rows file table test = search (pure, pure-schema_at, pure-table_now, pure-unless_failed, pure-some_row) depth 8
 
 pure-standing_on : (x : ResolvedCursor) (row : Option (List Datum)) → Pure (standing_on x row)
 pure-standing_on x None = search pure
@@ -271,10 +274,10 @@ pure-leave_row true x c = search pure
 pure-leave_row false x c = search pure
 
 pure-update_at : (file : ResolvedFile) (eval_context : EvalContext) (table : ℕ) (sets : List ResolvedSet) (cursor : ℕ) → Pure (update_at file eval_context table sets cursor)
-pure-update_at file eval_context table sets cursor = search (pure, pure-table_now, pure-cursor_now, pure-found, pure-unless_failed, pure-leave_row) depth 12
+pure-update_at file eval_context table sets cursor = search (pure, pure-schema_at, pure-table_now, pure-cursor_now, pure-found, pure-unless_failed, pure-leave_row) depth 12
 
 pure-delete_at : (file : ResolvedFile) (eval_context : EvalContext) (table cursor : ℕ) → Pure (delete_at file eval_context table cursor)
-pure-delete_at file eval_context table cursor = search (pure, pure-table_now, pure-cursor_now, pure-found, pure-unless_failed) depth 11
+pure-delete_at file eval_context table cursor = search (pure, pure-schema_at, pure-table_now, pure-cursor_now, pure-found, pure-unless_failed) depth 11
 
 pub pure-update : (file : ResolvedFile) (eval_context : EvalContext) (table : ℕ) (sets : List ResolvedSet) (which : ResolvedWhere) → Pure (update file eval_context table sets which)
 pure-update file eval_context table sets All = search (pure, pure-update_rows)

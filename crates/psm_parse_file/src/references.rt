@@ -114,10 +114,10 @@ fn perhaps_actions(tokens: &mut Tokens, levels: u32) -> Result<Option<Place>, Ha
 
 /// `[names]`
 #[tactic(auto, using(psm_tree::proofs::Reading::steps))]
-fn perhaps_names(alloc: Global, tokens: &mut Tokens, levels: u32) -> Result<Option<Names>, Halt>
+fn perhaps_columns(alloc: Global, tokens: &mut Tokens, levels: u32) -> Result<Option<Names>, Halt>
     ensures { Takes (reading levels (optional names_part) tokens.old.rest.now) result tokens.new.rest.now }
 {
-    if tokens.at(Sign::LeftParen) {
+    if tokens.at_sign(Sign::LeftParen) {
         return Ok(Some(names_in_parens(alloc, tokens, levels)?));
     }
     Ok(None)
@@ -133,7 +133,7 @@ pub(crate) fn references_rest(
     ensures { Takes (reading levels references_rest_part tokens.old.rest.now) result tokens.new.rest.now }
 {
     let table = tokens.name(alloc)?;
-    let columns = perhaps_names(alloc, tokens, levels)?;
+    let columns = perhaps_columns(alloc, tokens, levels)?;
     perhaps_actions(tokens, levels)?;
     Ok(References { table, columns })
 }

@@ -10,7 +10,7 @@ use Rattle.psm_tree.specs.declared.file.Characteristic.{Characteristic}
 use Rattle.psm_print.specs.WithoutPositions.{origin}
 use Rattle.psm_print.specs.ExprWithoutPositions.{name_without_positions, type_without_positions}
 use Rattle.psm_print.specs.StatementWithoutPositions.{statement_without_positions}
-use Rattle.psm_print.specs.FileWithoutPositions.{column_rule_without_positions, table_rule_without_positions, element_without_positions, table_without_positions, parameter_without_positions, characteristic_without_positions, routine_without_positions, file_without_positions, argument_without_positions, row_without_positions, command_without_positions, script_without_positions}
+use Rattle.psm_print.specs.FileWithoutPositions.{references_without_positions, column_rule_without_positions, table_rule_without_positions, element_without_positions, table_without_positions, parameter_without_positions, characteristic_without_positions, routine_without_positions, file_without_positions, argument_without_positions, row_without_positions, command_without_positions, script_without_positions}
 use Rattle.psm_print.proofs.ValuesWithoutPositions.{same, both, place_without_positions}
 use Rattle.psm_print.proofs.Carried.{Carried, carried_place, carried_at, carried_name, carried_seq, carried_or, carried_ahead, carried_many, carried_image, carried_pair, carried_triple, carried_several, carried_cons, carried_optional, carried_after, carried_before, carried_within}
 use Rattle.psm_print.proofs.ExprCarried.{names_in_parens_carried, varying_carried, char_length_carried, plain_type_carried, data_type_carried, constant_carried, expr_carried}
@@ -18,12 +18,26 @@ use Rattle.psm_print.proofs.StatementCarried.{ordered_select_carried, statement_
 
 -- ---- tables
 
+no_action_carried : Carried place_without_positions FileGrammar.no_action
+unfolding FileGrammar.all_files
+no_action_carried = carried_after carried_place
+
+actions_carried : Carried place_without_positions FileGrammar.actions
+unfolding FileGrammar.all_files
+actions_carried = carried_after (carried_or (carried_seq (carried_after no_action_carried) (carried_optional (carried_after (carried_after no_action_carried))) (λ x y. refl))
+    (carried_seq (carried_after no_action_carried) (carried_optional (carried_after (carried_after no_action_carried))) (λ x y. refl)))
+
+references_rest_carried : Carried references_without_positions FileGrammar.references_rest
+unfolding FileGrammar.all_files
+references_rest_carried = carried_seq carried_name (carried_pair (carried_optional names_in_parens_carried) (carried_optional actions_carried)) (λ x y. refl)
+
 plain_column_rule_carried : Carried column_rule_without_positions FileGrammar.plain_column_rule
 unfolding FileGrammar.all_files
 plain_column_rule_carried = carried_or (carried_seq carried_place carried_place (λ x y. refl))
     (carried_or (carried_seq carried_place carried_place (λ x y. refl))
     (carried_or (carried_image carried_place (λ x. refl))
-    (carried_seq carried_place (carried_within expr_carried) (λ x y. refl))))
+    (carried_or (carried_seq carried_place (carried_within expr_carried) (λ x y. refl))
+    (carried_seq carried_place references_rest_carried (λ x y. refl)))))
 
 column_rule_carried : Carried column_rule_without_positions FileGrammar.column_rule
 unfolding FileGrammar.all_files
@@ -38,7 +52,8 @@ plain_table_rule_carried : Carried table_rule_without_positions FileGrammar.plai
 unfolding FileGrammar.all_files
 plain_table_rule_carried = carried_or (carried_seq carried_place (carried_after names_in_parens_carried) (λ x y. refl))
     (carried_or (carried_seq carried_place names_in_parens_carried (λ x y. refl))
-    (carried_seq carried_place (carried_within expr_carried) (λ x y. refl)))
+    (carried_or (carried_seq carried_place (carried_within expr_carried) (λ x y. refl))
+    (carried_seq carried_place (carried_after (carried_pair names_in_parens_carried (carried_after references_rest_carried))) (λ x y. refl))))
 
 table_rule_carried : Carried table_rule_without_positions FileGrammar.table_rule
 unfolding FileGrammar.all_files

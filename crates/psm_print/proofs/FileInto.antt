@@ -12,17 +12,17 @@ use Rattle.psm_tree.specs.ExprValues.{pair, formed}
 use Rattle.psm_tree.specs.FileValues.{TableRest, ProcedureRest, FunctionRest, ModuleRest, tables_from, file_of, returned_char}
 use Rattle.psm_tree.specs.ExprGrammar.{varying, char_length}
 use Rattle.psm_tree.specs.FileGrammar
-use Rattle.psm_tree.specs.FileGrammar.{plain_column_rule, column_rule, column_rule_list, column, plain_table_rule, table_rule, element, table, params, characteristic, noted_statement, procedure, returned, function, plain_routine, routine, module_part, created_tables, file}
+use Rattle.psm_tree.specs.FileGrammar.{references_rest, plain_column_rule, column_rule, column_rule_list, column, plain_table_rule, table_rule, element, table, params, characteristic, noted_statement, procedure, returned, function, plain_routine, routine, module_part, created_tables, file}
 use Rattle.psm_tree.specs.declared.types.DataType.{DataType}
 use Rattle.psm_tree.specs.declared.types.TypeForm.{TypeForm}
 use Rattle.psm_tree.specs.declared.statement.Statement.{Statement}
 use Rattle.psm_tree.specs.declared.file.Characteristic.{Characteristic}
 use Rattle.psm_print.specs.Spelling.{Spelling, word, sign, perhaps, each, separated, ended, in_parens}
-use Rattle.psm_print.specs.ExprTokens.{name_tokens, type_tokens, constant_tokens}
+use Rattle.psm_print.specs.ExprTokens.{name_tokens, enclosed_names_tokens, type_tokens, constant_tokens}
 use Rattle.psm_print.specs.StatementTokens.{statement_tokens}
-use Rattle.psm_print.specs.FileTokens.{column_rule_tokens, table_rule_tokens, element_tokens, table_tree_tokens, parameter_tokens, parameters_tokens, characteristic_tokens, routine_tokens, module_tokens, file_tokens}
+use Rattle.psm_print.specs.FileTokens.{referred_tokens, references_tokens, column_rule_tokens, table_rule_tokens, element_tokens, table_tree_tokens, parameter_tokens, parameters_tokens, characteristic_tokens, routine_tokens, module_tokens, file_tokens}
 use Rattle.psm_print.proofs.Regrouped.{before2}
-use Rattle.psm_print.proofs.Into.{PrintContext, Into, into_seq, into_seq_if, into_both, into_front, left_out, or_from, or_left, or_right, into_or, ahead_right, seq_ahead, seq_again, into_image, into_perhaps, into_each, into_ended}
+use Rattle.psm_print.proofs.Into.{PrintContext, Into, into_seq, into_seq_if, into_both, into_before, into_front, left_out, or_from, or_left, or_right, into_or, ahead_right, seq_ahead, seq_again, into_image, into_perhaps, into_each, into_ended}
 use Rattle.psm_print.proofs.Tokens.{into_word, into_sign, after_word, after_sign, before_word, before_sign, into_closed, into_parens, into_commas}
 use Rattle.psm_print.proofs.Chosen.{into_name, into_char}
 use Rattle.psm_print.proofs.TypesInto.{names_in_parens_into, rest_tokens, IsChar, is_char, char_told, plain_into, varying_into, char_length_into, data_type_into, constant_into}
@@ -32,10 +32,16 @@ use Rattle.psm_print.proofs.StatementInto.{statement_into}
 
 -- ---- tables
 
+-- NO ACTION is left out
+references_rest_into : {z : PrintContext} → Into z references_rest references_rest referred_tokens
+unfolding FileGrammar.all_files
+references_rest_into = into_before referred_tokens into_name (into_perhaps [] enclosed_names_tokens names_in_parens_into (λ x. refl)) (λ x y o. refl) (λ x y. refl)
+
 plain_column_rule_into : {z : PrintContext} → Into z plain_column_rule plain_column_rule column_rule_tokens
 unfolding FileGrammar.all_files
 plain_column_rule_into = into_or (into_seq column_rule_tokens (into_word w.Not) (into_word w.Null) (λ x y. refl)) (into_or (into_seq column_rule_tokens (into_word w.Primary) (into_word w.Key) (λ x y. refl))
-    (into_or (into_image column_rule_tokens (into_word w.Unique) (λ x. refl)) (into_seq column_rule_tokens (into_word w.Check) (into_parens expr_into) (λ x y. refl))))
+    (into_or (into_image column_rule_tokens (into_word w.Unique) (λ x. refl)) (into_or (into_seq column_rule_tokens (into_word w.Check) (into_parens expr_into) (λ x y. refl))
+    (into_seq column_rule_tokens (into_word w.References) references_rest_into (λ x y. refl)))))
 
 -- CONSTRAINT and the name of a rule are left out
 column_rule_into : {z : PrintContext} → Into z column_rule column_rule column_rule_tokens
@@ -55,7 +61,8 @@ column_into = into_seq element_tokens into_name (into_seq (λ p. type_tokens p.0
 plain_table_rule_into : {z : PrintContext} → Into z plain_table_rule plain_table_rule table_rule_tokens
 unfolding FileGrammar.all_files
 plain_table_rule_into = into_or (into_seq table_rule_tokens (into_word w.Primary) (after_word w.Key names_in_parens_into) (λ x y. refl))
-    (into_or (into_seq table_rule_tokens (into_word w.Unique) names_in_parens_into (λ x y. refl)) (into_seq table_rule_tokens (into_word w.Check) (into_parens expr_into) (λ x y. refl)))
+    (into_or (into_seq table_rule_tokens (into_word w.Unique) names_in_parens_into (λ x y. refl)) (into_or (into_seq table_rule_tokens (into_word w.Check) (into_parens expr_into) (λ x y. refl))
+    (into_seq table_rule_tokens (into_word w.Foreign) (after_word w.Key (into_seq (λ p. enclosed_names_tokens p.0 ++ references_tokens p.1) names_in_parens_into (after_word w.References references_rest_into) (λ x y. refl))) (λ x y. refl))))
 
 table_rule_into : {z : PrintContext} → Into z table_rule table_rule table_rule_tokens
 unfolding FileGrammar.all_files

@@ -127,6 +127,22 @@ into_both {z} {X} {Y} {A = A} {f = f} {h = h} {q = q} {k = k} c i j same e = rec
       subst (λ y. Printed z.good (said z (seq f h (seq pair (optional q) k))) y (c y) (length w)) (sym made) (retold (e l.one m.two) (shorter n (joined f u back)));
 }
 
+-- what may stand behind two parts is left out, where the value doesn't tell it
+pub into_before : {z : PrintContext} {X Y Z A : Type 0} {f : X → Y × Option A → Z} {p h : Gram X} {q : Gram A} {r k : Gram Y} {b : X → List Token} {d : Y → List Token} (c : Z → List Token)
+    → Into z p h b → Into z r k d → ((x : X) (y : Y) (o : Option A) → f x (y, o) ≡ f x (y, None)) → ((x : X) (y : Y) → b x ++ d y ≡ c (f x (y, None))) → Into z (seq f p (seq pair r (optional q))) (seq f h (seq pair k (optional q))) c
+into_before {z} {X} {Y} {A = A} {f = f} {h = h} {q = q} {k = k} c i j same e = record {
+  into = λ w x l a.
+      let g = subst (AllGood z.good) l.whole a in
+      let m = l.right in
+      let u = i.into l.front l.one l.left (good_front z.good l.front l.back g) in
+      let v = j.into m.front m.one m.left (good_front z.good m.front m.back (subst (AllGood z.good) m.whole (good_back z.good l.front l.back g))) in
+      let made : x ≡ f l.one (m.one, None) = l.made ∙ ap (f l.one) m.made ∙ same l.one m.one m.two in
+      let n : length l.front + length m.front ≤ length w = omega (arith, length-append l.front l.back, ap length l.whole, length-append m.front m.back, ap length m.whole) in
+      let back : Printed z.good (said z (seq pair k (optional q))) (m.one, None) _ (length m.front) =
+      reread (λ t s. record { front = t; back = []; one = m.one; two = None; whole = sym (append-nil t); left = s; right = inr (record { whole = refl; made = refl }); made = refl }) v in
+      subst (λ y. Printed z.good (said z (seq f h (seq pair k (optional q)))) y (c y) (length w)) (sym made) (retold (e l.one m.one) (shorter n (joined f u back)));
+}
+
 -- a token before the printed word is left out
 pub left_out : {z : PrintContext} {A X : Type 0} {test : Test Placed A} {p h : Gram X} {c : X → List Token} → Into z p h c → Into z (after_token test p) h c
 left_out {z} {h = h} {c = c} i = record {

@@ -12,6 +12,7 @@ use Rattle.psm_tree.specs.declared.file.Element.TheVariants as elements
 use Rattle.psm_tree.specs.declared.file.ColumnRule.{ColumnRule}
 use Rattle.psm_tree.specs.declared.file.ColumnRuleForm.{ColumnRuleForm}
 use Rattle.psm_tree.specs.declared.file.ColumnRuleForm.TheVariants as column_rules
+use Rattle.psm_tree.specs.declared.file.References.{References}
 use Rattle.psm_tree.specs.declared.file.TableRule.{TableRule}
 use Rattle.psm_tree.specs.declared.file.TableRuleForm.{TableRuleForm}
 use Rattle.psm_tree.specs.declared.file.TableRuleForm.TheVariants as table_rules
@@ -29,11 +30,20 @@ use Rattle.psm_print.specs.StatementTokens.{statement_tokens}
 
 -- ---- tables
 
+-- what a FOREIGN KEY refers to, after REFERENCES
+abbrev pub referred_tokens : References → Spelling
+referred_tokens to = name_tokens to.table ++ perhaps [] (option_map enclosed_names_tokens to.columns)
+
+-- NO ACTION is left out, which is meant without it
+abbrev pub references_tokens : References → Spelling
+references_tokens to = word w.References ++ referred_tokens to
+
 abbrev pub column_rule_form_tokens : ColumnRuleForm → Spelling
 column_rule_form_tokens column_rules.NotNull = word w.Not ++ word w.Null
 column_rule_form_tokens column_rules.PrimaryKey = word w.Primary ++ word w.Key
 column_rule_form_tokens column_rules.Unique = word w.Unique
 column_rule_form_tokens (column_rules.Check expr) = word w.Check ++ in_parens (expr_tokens expr)
+column_rule_form_tokens (column_rules.References to) = references_tokens to
 
 abbrev pub column_rule_tokens : ColumnRule → Spelling
 column_rule_tokens rule = column_rule_form_tokens rule.form
@@ -42,6 +52,7 @@ abbrev pub table_rule_form_tokens : TableRuleForm → Spelling
 table_rule_form_tokens (table_rules.PrimaryKey names) = word w.Primary ++ word w.Key ++ enclosed_names_tokens names
 table_rule_form_tokens (table_rules.Unique names) = word w.Unique ++ enclosed_names_tokens names
 table_rule_form_tokens (table_rules.Check expr) = word w.Check ++ in_parens (expr_tokens expr)
+table_rule_form_tokens (table_rules.ForeignKey names to) = word w.Foreign ++ word w.Key ++ enclosed_names_tokens names ++ references_tokens to
 
 abbrev pub table_rule_tokens : TableRule → Spelling
 table_rule_tokens rule = table_rule_form_tokens rule.form

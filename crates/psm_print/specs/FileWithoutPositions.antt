@@ -8,6 +8,7 @@ use Rattle.psm_tree.specs.declared.file.Element.TheVariants as elements
 use Rattle.psm_tree.specs.declared.file.ColumnRule.{ColumnRule}
 use Rattle.psm_tree.specs.declared.file.ColumnRuleForm.{ColumnRuleForm}
 use Rattle.psm_tree.specs.declared.file.ColumnRuleForm.TheVariants as column_rules
+use Rattle.psm_tree.specs.declared.file.References.{References}
 use Rattle.psm_tree.specs.declared.file.TableRule.{TableRule}
 use Rattle.psm_tree.specs.declared.file.TableRuleForm.{TableRuleForm}
 use Rattle.psm_tree.specs.declared.file.TableRuleForm.TheVariants as table_rules
@@ -27,11 +28,15 @@ use Rattle.psm_print.specs.StatementWithoutPositions.{ordered_query_without_posi
 
 -- ---- tables
 
+abbrev pub references_without_positions : References → References
+references_without_positions to = record { table = name_without_positions to.table; columns = option_map names_without_positions to.columns }
+
 abbrev pub column_form_without_positions : ColumnRuleForm → ColumnRuleForm
 column_form_without_positions column_rules.NotNull = column_rules.NotNull
 column_form_without_positions column_rules.PrimaryKey = column_rules.PrimaryKey
 column_form_without_positions column_rules.Unique = column_rules.Unique
 column_form_without_positions (column_rules.Check condition) = column_rules.Check (expr_without_positions condition)
+column_form_without_positions (column_rules.References to) = column_rules.References (references_without_positions to)
 
 abbrev pub column_rule_without_positions : ColumnRule → ColumnRule
 column_rule_without_positions rule = record { place = origin; form = column_form_without_positions rule.form }
@@ -40,6 +45,7 @@ abbrev pub table_form_without_positions : TableRuleForm → TableRuleForm
 table_form_without_positions (table_rules.PrimaryKey names) = table_rules.PrimaryKey (names_without_positions names)
 table_form_without_positions (table_rules.Unique names) = table_rules.Unique (names_without_positions names)
 table_form_without_positions (table_rules.Check condition) = table_rules.Check (expr_without_positions condition)
+table_form_without_positions (table_rules.ForeignKey names to) = table_rules.ForeignKey (names_without_positions names) (references_without_positions to)
 
 abbrev pub table_rule_without_positions : TableRule → TableRule
 table_rule_without_positions rule = record { place = origin; form = table_form_without_positions rule.form }

@@ -5,7 +5,7 @@ ghost use Rattle.psm_token.specs.declared.word.Word.TheVariants as w;
 ghost use Rattle.psm_list.specs.Several.{several_map};
 ghost use Rattle.psm_print.specs.Spelling.{word, sign, perhaps, each, separated, ended, in_parens};
 ghost use Rattle.psm_print.specs.ExprTokens.{type_tokens, expr_tokens};
-ghost use Rattle.psm_print.specs.FileTokens.{column_rule_tokens, table_rule_tokens, element_tokens, table_tree_tokens, said_mode_tokens, parameter_tokens, parameters_tokens, characteristic_tokens, kind_tokens, routine_tokens, module_tokens, file_tokens};
+ghost use Rattle.psm_print.specs.FileTokens.{references_tokens, column_rule_tokens, table_rule_tokens, element_tokens, table_tree_tokens, said_mode_tokens, parameter_tokens, parameters_tokens, characteristic_tokens, kind_tokens, routine_tokens, module_tokens, file_tokens};
 
 use crate::exprs::expr;
 use crate::names::{constant, data_type, enclosed_names, name};
@@ -15,7 +15,7 @@ use psm_spell::Writer;
 use psm_token::{Sign, Word};
 use psm_tree::{
     Characteristic, CharacteristicForm, ColumnRule, ColumnRuleForm, DataType, Element, Expr,
-    FileTree, Mode, Module, Parameter, Routine, TableRule, TableRuleForm, TableTree,
+    FileTree, Mode, Module, Parameter, References, Routine, TableRule, TableRuleForm, TableTree,
 };
 use std::alloc::AllocError;
 
@@ -33,7 +33,7 @@ fn references(out: &mut Writer, to: &References) -> Result<(), AllocError>
     ensures { IfOk result (λ _. out.new ≡ out.old ++ references_tokens to.now) }
 {
     out.word(Word::References)?;
-    out.name(&to.table)?;
+    name(out, &to.table)?;
     match &to.columns {
         None => Ok(()),
         Some(columns) => enclosed_names(out, columns),

@@ -10,7 +10,7 @@ use Rattle.psm_rules.specs.Texts.{number_of}
 -- ---- a rule is given by its number
 
 rules : List Rule
-rules = rule.TableRepeated ∷ rule.TableRepeated ∷ rule.ColumnRepeated ∷ rule.UnknownColumn ∷ rule.NotOnePrimaryKey ∷ rule.TypeOutOfRange ∷ rule.TooManyColumns ∷ rule.ConstantDoesNotFit ∷ rule.TableRepeated ∷ rule.TableRepeated ∷ rule.ProcedureRepeated ∷ rule.FunctionsNotDistinct ∷ rule.ParameterRepeated ∷ rule.ModeNotAllowed ∷ rule.FunctionWithoutReturn ∷ rule.ReturnOutsideFunction ∷ rule.NotAllowedInFunction ∷ rule.LabelRepeated ∷ rule.EndLabelDiffers ∷ rule.UnknownLabel ∷ rule.DeclarationRepeated ∷ rule.UnknownName ∷ rule.UnknownTable ∷ rule.UnknownCondition ∷ rule.UnknownCursor ∷ rule.UnknownProcedure ∷ rule.NoFunction ∷ rule.AmbiguousFunction ∷ rule.NotAssignable ∷ rule.Misplaced ∷ rule.FamiliesMixed ∷ rule.ScaleAboveMost ∷ rule.CountsDiffer ∷ rule.NotAllowedOnRow ∷ rule.SetFunctionMisplaced ∷ rule.OrderIsNotKey ∷ rule.CursorNotUpdatable ∷ rule.CursorOfFor ∷ rule.UndoNeedsAtomic ∷ rule.ConditionValueRepeated ∷ rule.BadSqlState ∷ rule.ItemNeedsName ∷ rule.NullWithoutType ∷ rule.ArgumentMisfitsMode ∷ rule.CharacteristicRepeated ∷ []
+rules = rule.TableRepeated ∷ rule.TableRepeated ∷ rule.ColumnRepeated ∷ rule.UnknownColumn ∷ rule.NotOnePrimaryKey ∷ rule.TypeOutOfRange ∷ rule.TooManyColumns ∷ rule.ConstantDoesNotFit ∷ rule.TableRepeated ∷ rule.TableRepeated ∷ rule.ProcedureRepeated ∷ rule.FunctionsNotDistinct ∷ rule.ParameterRepeated ∷ rule.ModeNotAllowed ∷ rule.FunctionWithoutReturn ∷ rule.ReturnOutsideFunction ∷ rule.NotAllowedInFunction ∷ rule.LabelRepeated ∷ rule.EndLabelDiffers ∷ rule.UnknownLabel ∷ rule.DeclarationRepeated ∷ rule.UnknownName ∷ rule.UnknownTable ∷ rule.UnknownCondition ∷ rule.UnknownCursor ∷ rule.UnknownProcedure ∷ rule.NoFunction ∷ rule.AmbiguousFunction ∷ rule.NotAssignable ∷ rule.Misplaced ∷ rule.FamiliesMixed ∷ rule.ScaleAboveMost ∷ rule.CountsDiffer ∷ rule.NotAllowedOnRow ∷ rule.SetFunctionMisplaced ∷ rule.OrderIsNotKey ∷ rule.CursorNotUpdatable ∷ rule.CursorOfFor ∷ rule.UndoNeedsAtomic ∷ rule.ConditionValueRepeated ∷ rule.BadSqlState ∷ rule.ItemNeedsName ∷ rule.NullWithoutType ∷ rule.ArgumentMisfitsMode ∷ rule.CharacteristicRepeated ∷ rule.KeyDoesNotMatch ∷ []
 
 abbrev rule_of : ℕ → Rule
 rule_of n = get_or rules n rule.TableRepeated
@@ -59,6 +59,7 @@ rule_at rule.ItemNeedsName = refl
 rule_at rule.NullWithoutType = refl
 rule_at rule.ArgumentMisfitsMode = refl
 rule_at rule.CharacteristicRepeated = refl
+rule_at rule.KeyDoesNotMatch = refl
 
 pub number_tells : (a b : Rule) → number_of a ≡ number_of b → a ≡ b
 number_tells a b e = sym (rule_at a) ∙ ap rule_of e ∙ rule_at b

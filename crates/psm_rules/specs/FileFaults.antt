@@ -3,6 +3,7 @@ use Rattle.std.specs.Prelude.{ℕ, nat_eq, Bool, true, false, not, ◌&&◌, ◌
 use Rattle.std.specs.List.{list_any}
 use Rattle.std.specs.Cmp.Lexicographic.{pointwise}
 use Rattle.psm_num.specs.Num.{Num}
+use Rattle.psm_token.specs.declared.place.Place.{Place}
 use Rattle.psm_num.specs.Arithmetic.{negated}
 use Rattle.psm_value.specs.Stored.{stored}
 use Rattle.psm_value.specs.declared.datum.Datum.{Datum}
@@ -10,6 +11,7 @@ use Rattle.psm_value.specs.declared.datum.Datum.TheVariants as datum
 use Rattle.psm_value.specs.declared.sqltype.SqlType.{SqlType}
 use Rattle.psm_scope.specs.Scopes.{Spelling, is_spelled, undeclared}
 use Rattle.psm_scope.specs.Scopes as scope
+use Rattle.psm_scope.specs.Lookup.{named}
 use Rattle.psm_scope.specs.KindNumbers.{is_kind}
 use Rattle.psm_scope.specs.declared.kinds.ArgKind.{ArgKind}
 use Rattle.psm_scope.specs.declared.kinds.ArgKind.TheVariants as kind
@@ -32,6 +34,7 @@ use Rattle.psm_tree.specs.declared.statement.Block.TheOpen as layers
 use Rattle.psm_tree.specs.declared.statement.Block.TheFolds.{fold-Block, fold-Statement, fold-Branch, fold-Handler}
 use Rattle.psm_tree.specs.declared.statement.Simple.{Simple}
 use Rattle.psm_tree.specs.declared.statement.Simple.TheVariants as simples
+use Rattle.psm_tree.specs.Names.{Names}
 use Rattle.psm_tree.specs.declared.file.FileTree.{FileTree}
 use Rattle.psm_tree.specs.declared.file.TableTree.{TableTree}
 use Rattle.psm_tree.specs.declared.file.Element.{Element}
@@ -47,17 +50,18 @@ use Rattle.psm_tree.specs.declared.file.Characteristic.{Characteristic}
 use Rattle.psm_tree.specs.declared.file.CharacteristicForm.{CharacteristicForm}
 use Rattle.psm_tree.specs.declared.file.CharacteristicForm.TheVariants as characteristics
 use Rattle.psm_tree.specs.declared.file.Parameter.{Parameter}
+use Rattle.psm_tree.specs.declared.file.References.{References}
 use Rattle.psm_tree.specs.declared.file.Routine.{Routine}
 use Rattle.psm_rules.specs.declared.fault.Fault.{Fault}
 use Rattle.psm_rules.specs.declared.rule.Rule.TheVariants as rule
-use Rattle.psm_rules.specs.BlockFaults.{declared_once, statement_fault}
+use Rattle.psm_rules.specs.BlockFaults.{declared_once, same_names, statement_fault}
 use Rattle.psm_rules.specs.ExprFaults.{check_expr, type_fault}
 use Rattle.psm_rules.specs.Faults.{breaks, breaks_if, earlier, first_of}
 use Rattle.psm_rules.specs.Checked.{as_condition}
 use Rattle.psm_rules.specs.declared.shape.Family.{Family}
 use Rattle.psm_rules.specs.declared.shape.Family.TheVariants.{Numbers, Texts}
-use Rattle.psm_rules.specs.Shapes.{is_family, family_of, typed}
-use Rattle.psm_rules.specs.StatementFaults.{Context, Within, several, repeated, columns_fault}
+use Rattle.psm_rules.specs.Shapes.{clashes, is_family, family_of, typed}
+use Rattle.psm_rules.specs.StatementFaults.{Context, Within, several, repeated, columns_fault, family_due}
 use Rattle.psm_rules.specs.StatementFaults as within
 use Rattle.psm_rules.specs.Types.{type_of}
 use Rattle.psm_rules.specs.CheckerScope.{CheckerScope, SymbolTable, Columns, Scopes}
@@ -123,71 +127,24 @@ constant_fault (Some t) (Some c) = breaks_if (not (default_fits t (datum_of c.fo
 abbrev pub check_fault : CheckerScope → Expr → Option Fault
 check_fault v e = (as_condition (check_expr e v)).fault
 
--- ---- FOREIGN KEY constraints (ISO/IEC 9075:1992, 11.8)
+abbrev pub column_rule_fault : CheckerScope → ColumnRuleForm → Option Fault
+column_rule_fault v column_rules.NotNull = None
+column_rule_fault v column_rules.PrimaryKey = None
+column_rule_fault v column_rules.Unique = None
+column_rule_fault v (column_rules.Check e) = check_fault v e
+column_rule_fault v (column_rules.References r) = None
 
--- what is known of a table that can be referred to: its columns, and its primary keys and UNIQUE lists
-pub record Referred : Type 0 where
-  pub columns : Columns
-  pub primary : List (List Spelling)
-  pub unique : List (List Spelling)
+abbrev pub table_rule_fault : CheckerScope → Columns → TableRuleForm → Option Fault
+table_rule_fault v columns (table_rules.PrimaryKey names) = columns_fault (Some columns) (several names)
+table_rule_fault v columns (table_rules.Unique names) = columns_fault (Some columns) (several names)
+table_rule_fault v columns (table_rules.Check e) = check_fault v e
+table_rule_fault v columns (table_rules.ForeignKey names r) = columns_fault (Some columns) (several names)
 
--- the tables before, and the table itself
-abbrev pub Referable : Type 0
-Referable = List (Spelling × Referred)
-
-abbrev pub same_names : List Spelling → List Spelling → Bool
-same_names xs ys = pointwise is_spelled xs ys
-
--- the columns that are meant: without a list those of the primary key
-abbrev pub meant_columns : Referred → Option Names → List Spelling
-meant_columns to None = first_key to.primary
-meant_columns to (Some names) = map (λ n. n.name) (several names)
-
--- the family of a column, if it has a type
-abbrev pub family_named : Columns → Spelling → Option Family
-family_named columns n = option_map family_of_type (known_type (named n columns))
-
-abbrev pub families_clash : Columns → Columns → Spelling × Spelling → Bool
-families_clash columns others (a, b) = clashes (family_named columns a) (family_named others b)
-
--- as many columns on both sides, each pair of one family, and a key or a UNIQUE list there, in order
-abbrev pub does_match : Columns → Referred → List Spelling → List Spelling → Bool
-does_match columns to from target =
-    nat_eq (length from) (length target) && (not (list_any (families_clash columns to.columns) (zip from target)) && list_any (same_names target) (to.primary ++ to.unique))
-
-abbrev pub listed : Option Names → List Identifier
-listed None = []
-listed (Some names) = several names
-
--- of the columns of a constraint, the first of which bears the fault that it doesn't match
-abbrev pub match_fault : Columns → List Identifier → References → Referred → Option Fault
-match_fault columns [] r to = None
-match_fault columns (n ∷ ns) r to = earlier (breaks_if (not (does_match columns to (map (λ n. n.name) (n ∷ ns)) (meant_columns to r.columns))) rule.KeyDoesNotMatch n.place) (columns_fault (Some to.columns) (listed r.columns))
-
-abbrev pub reference_to : Columns → List Identifier → References → Option Referred → Option Fault
-reference_to columns from r None = breaks rule.UnknownTable r.table.place
-reference_to columns from r (Some to) = match_fault columns from r to
-
-abbrev pub reference_fault : Columns → Referable → List Identifier → References → Option Fault
-reference_fault columns tables from r = reference_to columns from r (named r.table.name tables)
-
-abbrev pub column_rule_fault : CheckerScope → Columns → Referable → Identifier → ColumnRuleForm → Option Fault
-column_rule_fault v columns tables name column_rules.NotNull = None
-column_rule_fault v columns tables name column_rules.PrimaryKey = None
-column_rule_fault v columns tables name column_rules.Unique = None
-column_rule_fault v columns tables name (column_rules.Check e) = check_fault v e
-column_rule_fault v columns tables name (column_rules.References r) = reference_fault columns tables (name ∷ []) r
-
-abbrev pub table_rule_fault : CheckerScope → Columns → Referable → TableRuleForm → Option Fault
-table_rule_fault v columns tables (table_rules.PrimaryKey names) = columns_fault (Some columns) (several names)
-table_rule_fault v columns tables (table_rules.Unique names) = columns_fault (Some columns) (several names)
-table_rule_fault v columns tables (table_rules.Check e) = check_fault v e
-table_rule_fault v columns tables (table_rules.ForeignKey names r) = earlier (columns_fault (Some columns) (several names)) (reference_fault columns tables (several names) r)
-
-abbrev pub element_fault : CheckerScope → Columns → Referable → Element → Option Fault
-element_fault v columns tables (elements.Column name kind default rules) = first_of (type_fault kind (type_of kind) ∷ constant_fault (type_of kind) default
-    ∷ map (λ r. column_rule_fault v columns tables name r.form) rules)
-element_fault v columns tables (elements.Rule r) = table_rule_fault v columns tables r.form
+-- to what it refers is asked below
+abbrev pub element_fault : CheckerScope → Columns → Element → Option Fault
+element_fault v columns (elements.Column name kind default rules) = first_of (type_fault kind (type_of kind) ∷ constant_fault (type_of kind) default
+    ∷ map (λ r. column_rule_fault v r.form) rules)
+element_fault v columns (elements.Rule r) = table_rule_fault v columns r.form
 
 -- the keys that are declared, as lists of columns
 abbrev pub column_rule_keys : Spelling → ColumnRuleForm → List (List Spelling)
@@ -215,23 +172,10 @@ abbrev pub keys_of : List Element → List (List Spelling)
 keys_of [] = []
 keys_of (e ∷ es) = element_keys e ++ keys_of es
 
--- the UNIQUE lists that are declared
-abbrev pub column_rule_uniques : Spelling → ColumnRuleForm → List (List Spelling)
-column_rule_uniques n column_rules.NotNull = []
-column_rule_uniques n column_rules.PrimaryKey = []
-column_rule_uniques n column_rules.Unique = (n ∷ []) ∷ []
-column_rule_uniques n (column_rules.Check e) = []
-column_rule_uniques n (column_rules.References r) = []
-
-abbrev pub rule_uniques : TableRuleForm → List (List Spelling)
-rule_uniques (table_rules.PrimaryKey names) = []
-rule_uniques (table_rules.Unique names) = map (λ n. n.name) (several names) ∷ []
-rule_uniques (table_rules.Check e) = []
-rule_uniques (table_rules.ForeignKey names r) = []
-
-abbrev pub element_uniques : Element → List (List Spelling)
-element_uniques (elements.Column name kind default rules) = flat_map (λ r. column_rule_uniques name.name r.form) rules
-element_uniques (elements.Rule r) = rule_uniques r.form
+-- a table has one; of several the first counts
+abbrev pub first_key : List (List Spelling) → List Spelling
+first_key [] = []
+first_key (k ∷ ks) = k
 
 -- column 101 is one too many
 abbrev pub too_many : Option Identifier → Option Fault
@@ -255,19 +199,128 @@ alone table columns = record {
 abbrev pub table_elements : TableTree → List Element
 table_elements t = several t.elements
 
--- what can be referred to once a table is known
-abbrev pub with_referred : Referable → TableTree → Referable
-with_referred tables t = let es = table_elements t in declared_once tables t.name.name (record { columns = columns_of es; primary = keys_of es; unique = flat_map element_uniques es })
-
-abbrev pub table_fault : Referable → TableTree → Option Fault
-table_fault before t = let es = table_elements t in let columns = columns_of es in
+abbrev pub table_fault : TableTree → Option Fault
+table_fault t = let es = table_elements t in let columns = columns_of es in
     first_of (repeated rule.ColumnRepeated (column_names es) ∷ too_many (slice_get (column_names es) 100)
-    ∷ key_fault t.name (keys_of es) ∷ map (element_fault (alone t.name.name columns) columns (with_referred before t)) es)
+    ∷ key_fault t.name (keys_of es) ∷ map (element_fault (alone t.name.name columns) columns) es)
 
--- each with those before it
-abbrev pub tables_faults : Referable → List TableTree → List (Option Fault)
-tables_faults before [] = []
-tables_faults before (t ∷ ts) = table_fault before t ∷ tables_faults (with_referred before t) ts
+-- ---- FOREIGN KEY constraints (ISO/IEC 9075:1992, 11.8)
+
+abbrev pub names_of : List Identifier → List Spelling
+names_of ns = map (λ n. n.name) ns
+
+-- the lists of columns by which a row can be referred to, each once: those of PRIMARY KEY and of UNIQUE
+abbrev pub with_list : List (List Spelling) → List Spelling → List (List Spelling)
+with_list lists l = if list_any (same_names l) lists then lists else lists ++ l ∷ []
+
+abbrev pub with_column_rule : List (List Spelling) → Spelling → ColumnRuleForm → List (List Spelling)
+with_column_rule lists n column_rules.NotNull = lists
+with_column_rule lists n column_rules.PrimaryKey = with_list lists (n ∷ [])
+with_column_rule lists n column_rules.Unique = with_list lists (n ∷ [])
+with_column_rule lists n (column_rules.Check e) = lists
+with_column_rule lists n (column_rules.References r) = lists
+
+abbrev pub with_own_rules : List (List Spelling) → Spelling → List ColumnRule → List (List Spelling)
+with_own_rules lists n [] = lists
+with_own_rules lists n (r ∷ rs) = with_own_rules (with_column_rule lists n r.form) n rs
+
+abbrev pub with_table_rule : List (List Spelling) → TableRuleForm → List (List Spelling)
+with_table_rule lists (table_rules.PrimaryKey names) = with_list lists (names_of (several names))
+with_table_rule lists (table_rules.Unique names) = with_list lists (names_of (several names))
+with_table_rule lists (table_rules.Check e) = lists
+with_table_rule lists (table_rules.ForeignKey names r) = lists
+
+abbrev pub with_element : List (List Spelling) → Element → List (List Spelling)
+with_element lists (elements.Column name kind default rules) = with_own_rules lists name.name rules
+with_element lists (elements.Rule r) = with_table_rule lists r.form
+
+abbrev pub lists_from : List (List Spelling) → List Element → List (List Spelling)
+lists_from lists [] = lists
+lists_from lists (e ∷ es) = lists_from (with_element lists e) es
+
+abbrev pub lists_of : List Element → List (List Spelling)
+lists_of es = lists_from [] es
+
+-- what is known of a table that can be referred to
+pub record Referred : Type 0 where
+  pub columns : Columns
+  -- the columns of its primary key
+  pub key : List Spelling
+  pub lists : List (List Spelling)
+
+abbrev pub referred_of : TableTree → Referred
+referred_of t = let es = table_elements t in record { columns = columns_of es; key = first_key (keys_of es); lists = lists_of es }
+
+-- the tables before can be referred to, and the table itself
+abbrev pub Referable : Type 0
+Referable = List (Spelling × Referred)
+
+abbrev pub with_referred : Referable → TableTree → Referable
+with_referred before t = declared_once before t.name.name (referred_of t)
+
+-- the family of a column, if its type is known
+abbrev pub family_of_column : Option (Option SqlType) → Option Family
+family_of_column None = None
+family_of_column (Some kind) = family_due kind
+
+abbrev pub family_named : Columns → Spelling → Option Family
+family_named columns n = family_of_column (named n columns)
+
+-- whether there are as many columns on both sides, and no pair is of two families
+abbrev pub are_paired : Columns → List Spelling → Columns → List Spelling → Bool
+are_paired own [] others [] = true
+are_paired own [] others (n ∷ ns) = false
+are_paired own (m ∷ ms) others [] = false
+are_paired own (m ∷ ms) others (n ∷ ns) = not (clashes (family_named own m) (family_named others n)) && are_paired own ms others ns
+
+-- the columns that are meant: without a list those of the primary key
+abbrev pub target_names : Referred → Option Names → List Spelling
+target_names to None = to.key
+target_names to (Some names) = names_of (several names)
+
+-- the columns of a constraint are paired with those that are meant, and these are one of the lists, in its order
+abbrev pub does_match : Columns → List Spelling → Referred → List Spelling → Bool
+does_match own from to target = are_paired own from to.columns target && list_any (same_names target) to.lists
+
+abbrev pub target_fault : Columns → Option Names → Option Fault
+target_fault columns None = None
+target_fault columns (Some names) = columns_fault (Some columns) (several names)
+
+-- that a constraint doesn't match is a fault at the place of its first column
+abbrev pub match_fault : Columns → Place → List Spelling → Referred → Option Names → Option Fault
+match_fault own place from to names = earlier (breaks_if (not (does_match own from to (target_names to names))) rule.KeyDoesNotMatch place) (target_fault to.columns names)
+
+abbrev pub reference_to : Columns → Place → List Spelling → References → Option Referred → Option Fault
+reference_to own place from r None = breaks rule.UnknownTable r.table.place
+reference_to own place from r (Some to) = match_fault own place from to r.columns
+
+abbrev pub reference_fault : Columns → Referable → Place → List Spelling → References → Option Fault
+reference_fault own known place from r = reference_to own place from r (named r.table.name known)
+
+abbrev pub own_reference_fault : Columns → Referable → Identifier → ColumnRuleForm → Option Fault
+own_reference_fault own known n column_rules.NotNull = None
+own_reference_fault own known n column_rules.PrimaryKey = None
+own_reference_fault own known n column_rules.Unique = None
+own_reference_fault own known n (column_rules.Check e) = None
+own_reference_fault own known n (column_rules.References r) = reference_fault own known n.place (n.name ∷ []) r
+
+abbrev pub rule_reference_fault : Columns → Referable → TableRuleForm → Option Fault
+rule_reference_fault own known (table_rules.PrimaryKey names) = None
+rule_reference_fault own known (table_rules.Unique names) = None
+rule_reference_fault own known (table_rules.Check e) = None
+rule_reference_fault own known (table_rules.ForeignKey names r) = reference_fault own known names.first.place (names_of (several names)) r
+
+abbrev pub element_reference_fault : Columns → Referable → Element → Option Fault
+element_reference_fault own known (elements.Column name kind default rules) = first_of (map (λ r. own_reference_fault own known name r.form) rules)
+element_reference_fault own known (elements.Rule r) = rule_reference_fault own known r.form
+
+abbrev pub references_fault : Referable → TableTree → Option Fault
+references_fault known t = let es = table_elements t in first_of (map (element_reference_fault (columns_of es) known) es)
+
+-- those of each table
+abbrev pub references_faults : Referable → List TableTree → List (Option Fault)
+references_faults before [] = []
+references_faults before (t ∷ ts) = references_fault (with_referred before t) t ∷ references_faults (with_referred before t) ts
 
 -- ---- routines
 
@@ -445,10 +498,6 @@ routines_fault symbols before (r ∷ rs) = routine_fault symbols before r ∷ ro
 
 -- ---- the file
 
-abbrev pub first_key : List (List Spelling) → List Spelling
-first_key [] = []
-first_key (k ∷ ks) = k
-
 -- each table once
 abbrev pub with_table : SymbolTable → TableTree → SymbolTable
 with_table symbols t = record symbols {
@@ -466,5 +515,5 @@ symbols_of f = with_routines (with_tables no_symbols f.tables) f.«module».rout
 
 -- the first fault of a module file; without one the file is accepted
 abbrev pub file_fault : FileTree → Option Fault
-file_fault f = first_of (repeated rule.TableRepeated (map (λ t. t.name) f.tables) ∷ first_of (tables_faults [] f.tables)
-    ∷ first_of (routines_fault (symbols_of f) [] f.«module».routines) ∷ [])
+file_fault f = first_of (repeated rule.TableRepeated (map (λ t. t.name) f.tables) ∷ first_of (map table_fault f.tables)
+    ∷ first_of (references_faults [] f.tables) ∷ first_of (routines_fault (symbols_of f) [] f.«module».routines) ∷ [])

@@ -1,6 +1,6 @@
 -- The tables of well-formed code, without their CHECKs, are the well-formed tables of a file, and their definitions are definitions of
 -- tables.
-use Rattle.std.proofs.Common.{◌≡◌, ℕ, Bool, true, false, ◌&&◌, ◌||◌, not, List, [], ◌∷◌, ◌++◌, map, Option, None, refl, sym, ◌∙◌}
+use Rattle.std.proofs.Common.{◌≡◌, ℕ, Bool, true, false, ◌&&◌, ◌||◌, not, List, [], ◌∷◌, ◌++◌, length, map, Option, None, refl, sym, ◌∙◌}
 use Rattle.std.specs.List.{flat_map, list_all}
 use Rattle.std.specs.Prelude.{All}
 use Rattle.std.proofs.lemmas.List.Elements.{All-cons, All-nil}
@@ -8,6 +8,7 @@ use Rattle.std.proofs.lemmas.List.Folds.{list_all-append}
 use Rattle.psm_exprcode.specs.declared.op.Letter.TheVariants.{B}
 use Rattle.psm_exprcode.specs.Kinds.{is_letter}
 use Rattle.psm_table.specs.Definition.{IsDefinition}
+use Rattle.psm_table.specs.declared.definition.ForeignKey.{ForeignKey}
 use Rattle.psm_code.proofs.Faults.{Clean, clean_first, clean_head, clean_of, clean_second, clean_tail}
 use Rattle.psm_code.specs.declared.code.CodeTable.{CodeTable}
 use Rattle.psm_code.specs.declared.code.RawCode.{RawCode}
@@ -16,7 +17,7 @@ use Rattle.psm_code.specs.declared.rule.CodeRule.TheVariants.{Definition}
 use Rattle.psm_code.specs.Instructions.{column_letters}
 use Rattle.psm_code.specs.RoutineRules.{code_faults, first_fault, routine_faults}
 use Rattle.psm_code.specs.Rules.{each_after, is_same, unless}
-use Rattle.psm_code.specs.TableRules.{column_fault, expr_faults, key_fault, name_fault, table_faults, unique_fault}
+use Rattle.psm_code.specs.TableRules.{are_in_turn, column_fault, expr_faults, foreign_key_fault, key_fault, keys_from, name_fault, table_faults, unique_fault}
 use Rattle.psm_resolved.specs.declared.file.ResolvedFile.{ResolvedFile}
 use Rattle.psm_resolved.specs.declared.file.ResolvedTable.{ResolvedTable}
 use Rattle.psm_tree.specs.declared.script.ScriptTree.{ScriptTree}
@@ -57,11 +58,13 @@ each_mapped : {A : Type 0} (f : A → Option CodeRule) (xs : List A) → Clean (
 each_mapped f [] h = tt
 each_mapped f (x ∷ xs) h = (clean_head (f x) (map f xs) h, each_mapped f xs (clean_tail (f x) (map f xs) h))
 
-well_formed_table : (before : List CodeTable) (u : CodeTable) → Clean (table_faults before u) → WellFormedTable (definition_alone u)
-well_formed_table before u h =
+well_formed_table : (some : List ForeignKey) (before : List CodeTable) (u : CodeTable) → Clean (table_faults some before u) → WellFormedTable (definition_alone u)
+well_formed_table some before u h =
     let columns = name_fault before u ∷ each_after column_fault [] u.definition.columns in
     let keys = key_fault u.definition ∷ map (unique_fault u.definition) u.definition.unique in
-    let definition = clean_first (columns ++ keys) (flat_map (expr_faults (column_letters u) [] (is_letter B)) u.checks) h in
+    let foreign = map (foreign_key_fault before u) (keys_from some (length before)) in
+    let unchecked = clean_first ((columns ++ keys) ++ foreign) (flat_map (expr_faults (column_letters u) [] (is_letter B)) u.checks) h in
+    let definition = clean_first (columns ++ keys) foreign unchecked in
     let keyed = clean_second columns keys definition in
     record {
       columns = each_clean (each_after column_fault [] u.definition.columns) (clean_tail (name_fault before u) (each_after column_fault [] u.definition.columns) (clean_first columns keys definition));
@@ -97,30 +100,33 @@ two_true : (a b : Bool) → a ≡ true → b ≡ true → (a && b) ≡ true
 two_true true b e f = f
 two_true false b e f = absurd cc
 
-new_names : (names : List (List ℕ)) (before us : List CodeTable) → Names names before → Clean (each_after table_faults before us) → are_new_names names (map (λ t. t.definition.name) (map definition_alone us)) ≡ true
-new_names names before [] h clean = refl
-new_names names before (u ∷ us) h clean =
+new_names : (some : List ForeignKey) (names : List (List ℕ)) (before us : List CodeTable) → Names names before → Clean (each_after (table_faults some) before us) → are_new_names names (map (λ t. t.definition.name) (map definition_alone us)) ≡ true
+new_names some names before [] h clean = refl
+new_names some names before (u ∷ us) h clean =
     let n = u.definition.name in
-    let first = clean_first (table_faults before u) (each_after table_faults (before ++ u ∷ []) us) clean in
-    let others = clean_second (table_faults before u) (each_after table_faults (before ++ u ∷ []) us) clean in
+    let first = clean_first (table_faults some before u) (each_after (table_faults some) (before ++ u ∷ []) us) clean in
+    let others = clean_second (table_faults some before u) (each_after (table_faults some) (before ++ u ∷ []) us) clean in
     let apart = is_kept (list_all (λ x. not (is_same x.definition.name n)) before) Definition (clean_head (name_fault before u) _ first) in
     two_true (not (is_name_among n names)) (are_new_names (n ∷ names) (map (λ t. t.definition.name) (map definition_alone us)))
-    (h n ∙ apart) (new_names (n ∷ names) (before ++ u ∷ []) us (more_names names before u h) others)
+    (h n ∙ apart) (new_names some (n ∷ names) (before ++ u ∷ []) us (more_names names before u h) others)
 
 -- ---- code
 
-tables_clean : (code : RawCode) → first_fault code ≡ None → Clean (each_after table_faults [] code.tables)
-tables_clean code none = clean_first (None ∷ each_after table_faults [] code.tables) (each_after (routine_faults code) [] code.routines) (clean_of 1 (code_faults code) none)
+tables_clean : (code : RawCode) → first_fault code ≡ None → Clean (each_after (table_faults code.keys) [] code.tables)
+tables_clean code none =
+    let tables = each_after (table_faults code.keys) [] code.tables in
+    let turns = unless (are_in_turn 0 (length code.tables) code.keys) Definition in
+    clean_tail turns tables (clean_first (turns ∷ tables) (each_after (routine_faults code) [] code.routines) (clean_of 1 (code_faults code) none))
 
-each_table : (before us : List CodeTable) → Clean (each_after table_faults before us) → Each WellFormedTable (map definition_alone us)
-each_table before [] clean = tt
-each_table before (u ∷ us) clean = (
-  well_formed_table before u (clean_first (table_faults before u) (each_after table_faults (before ++ u ∷ []) us) clean),
-  each_table (before ++ u ∷ []) us (clean_second (table_faults before u) (each_after table_faults (before ++ u ∷ []) us) clean),
+each_table : (some : List ForeignKey) (before us : List CodeTable) → Clean (each_after (table_faults some) before us) → Each WellFormedTable (map definition_alone us)
+each_table some before [] clean = tt
+each_table some before (u ∷ us) clean = (
+  well_formed_table some before u (clean_first (table_faults some before u) (each_after (table_faults some) (before ++ u ∷ []) us) clean),
+  each_table some (before ++ u ∷ []) us (clean_second (table_faults some before u) (each_after (table_faults some) (before ++ u ∷ []) us) clean),
 )
 
 well_formed_tables : (code : RawCode) → first_fault code ≡ None → WellFormedTables (definitions_alone code)
-well_formed_tables code none = record { names = new_names [] [] code.tables (λ n. refl) (tables_clean code none); tables = each_table [] code.tables (tables_clean code none) }
+well_formed_tables code none = record { names = new_names code.keys [] [] code.tables (λ n. refl) (tables_clean code none); tables = each_table code.keys [] code.tables (tables_clean code none) }
 
 pub commands_fit_code : (code : RawCode) → first_fault code ≡ None → (s : ScriptTree) → ScriptStands s → script_fault (known_of code) s ≡ None
     → (commands : List ScriptCommand) → CommandsMade code (script_of (known_of code) s) commands → All (FitsCommand code) commands

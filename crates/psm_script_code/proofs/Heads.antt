@@ -80,7 +80,7 @@ head_alone routine = record {
 }
 
 abbrev pub heads_alone : ResolvedFile → RawCode
-heads_alone file = record { tables = map table_alone file.tables; routines = map head_alone file.routines }
+heads_alone file = record { tables = map table_alone file.tables; keys = file.keys; routines = map head_alone file.routines }
 
 tables_alone : (ts : List ResolvedTable) → SameTables ts (map table_alone ts)
 tables_alone [] = tt

@@ -133,8 +133,8 @@ module _ (code : RawCode) (r : RawRoutine) (k following : ℕ) (spot : Spot) (m 
       let go : ℕ → CodeCursor → steps.Act (Unit {0}) = λ n y. steps.◌>>=◌ (plans.schema_at code n) (λ s. steps.◌>>=◌ (steps.table_now n) (update_coded items n y s)) in
       over-evaluates table over go (meaning.update_at file eval_context table sets x.number) st
       (table-evaluates code r k following spot m pc i l file table (update_coded items table is.code) (λ s t. seen_in eval_context.cursors (update_meant table sets s t)) st d s (λ a b p q e t.
-      seen-evaluates eval_context.cursors first (update_coded items table is.code (plans.schema_of (keyed_in code r k following spot m pc i l file.keys table st) b) t) (update_meant table sets (meaning.schema_of (keyed_in code r k following spot m pc i l file.keys table st) a) t) st
-      (row-evaluates t (update_row table items (plans.schema_of (keyed_in code r k following spot m pc i l file.keys table st) b) t) (update_row_meant table sets (meaning.schema_of (keyed_in code r k following spot m pc i l file.keys table st) a) t x) st d (update-row-evaluates file table sets items u a b p q e (keyed_in code r k following spot m pc i l file.keys table st) t st d) (slice_get st.cursors x.number))))
+      seen-evaluates eval_context.cursors first (update_coded items table is.code (plans.schema_of (keyed_in file.keys table st) b) t) (update_meant table sets (meaning.schema_of (keyed_in file.keys table st) a) t) st
+      (row-evaluates t (update_row table items (plans.schema_of (keyed_in file.keys table st) b) t) (update_row_meant table sets (meaning.schema_of (keyed_in file.keys table st) a) t x) st d (update-row-evaluates file table sets items u a b p q e (keyed_in file.keys table st) t st d) (slice_get st.cursors x.number))))
 
   -- ---- DELETE
 
@@ -164,8 +164,8 @@ module _ (code : RawCode) (r : RawRoutine) (k following : ℕ) (spot : Spot) (m 
       let go : ℕ → CodeCursor → steps.Act (Unit {0}) = λ n y. steps.◌>>=◌ (plans.schema_at code n) (λ s. steps.◌>>=◌ (steps.table_now n) (delete_coded n y s)) in
       over-evaluates table over go (meaning.delete_at file eval_context table x.number) st
       (table-evaluates code r k following spot m pc i l file table (delete_coded table is.code) (λ s t. seen_in eval_context.cursors (delete_meant table s t)) st d s (λ a b p q e t.
-      seen-evaluates eval_context.cursors first (delete_coded table is.code (plans.schema_of (keyed_in code r k following spot m pc i l file.keys table st) b) t) (delete_meant table (meaning.schema_of (keyed_in code r k following spot m pc i l file.keys table st) a) t) st
-      (row-evaluates t (delete_row table (plans.schema_of (keyed_in code r k following spot m pc i l file.keys table st) b) t) (delete_row_meant table (meaning.schema_of (keyed_in code r k following spot m pc i l file.keys table st) a) t x) st d (delete-row-evaluates file table u a b p q e (keyed_in code r k following spot m pc i l file.keys table st) t st d) (slice_get st.cursors x.number))))
+      seen-evaluates eval_context.cursors first (delete_coded table is.code (plans.schema_of (keyed_in file.keys table st) b) t) (delete_meant table (meaning.schema_of (keyed_in file.keys table st) a) t) st
+      (row-evaluates t (delete_row table (plans.schema_of (keyed_in file.keys table st) b) t) (delete_row_meant table (meaning.schema_of (keyed_in file.keys table st) a) t x) st d (delete-row-evaluates file table u a b p q e (keyed_in file.keys table st) t st d) (slice_get st.cursors x.number))))
 
 -- ---- the line of a positioned statement
 

@@ -1,5 +1,5 @@
 -- INSERT, UPDATE and DELETE over their tables: the plan of a line changes a table as the statement does.
-use Rattle.std.proofs.Common.{◌≡◌, ℕ, zero, suc, List, [], map, slice_get, refl, ap, sym, subst, Option, Some, None, option_map, Result, Ok, Err}
+use Rattle.std.proofs.Common.{◌≡◌, Bool, ℕ, zero, suc, List, [], map, slice_get, refl, ap, sym, subst, Option, Some, None, option_map, Result, Ok, Err}
 use Rattle.std.proofs.lemmas.Option.{slice_get-map}
 use Rattle.psm_value.specs.declared.datum.Datum.{Datum}
 use Rattle.psm_exprcode.specs.declared.op.Line.{Line}
@@ -65,6 +65,10 @@ insert_coded table columns rows s t = steps.◌>>=◌ (plans.unless_failed s.def
 abbrev pub insert_meant : ℕ → List ℕ → List (List Datum) → Meant
 insert_meant table columns rows s t = acts.◌>>=◌ (meaning.unless_failed s.def (inserted meaning.plain s (map (new_row s.def columns) rows) t.rows)) (λ c. meaning.leaves table t c.rows c.count)
 
+-- whether the FOREIGN KEY constraints hold among the tables of now with other rows in one
+abbrev pub keyed_in : List ForeignKey → ℕ → State → List (List Datum) → Bool
+keyed_in keys table st = are_keyed_with keys (rows_in st.tables) table
+
 module _ (code : RawCode) (r : RawRoutine) (k following : ℕ) (spot : Spot) (m : Meaning) (pc : ℕ) (i : Instruction) (l : Raising r k following pc i) where
   abbrev Agrees : steps.Act (Unit {0}) → Act (Unit {0}) → State → Type 0
   Agrees coded act st = Evaluates code r k following spot (after_line code coded (machine spot pc [] st)) (λ u. at_line spot (suc pc) []) (act m st).given (act m st).state
@@ -112,10 +116,6 @@ module _ (code : RawCode) (r : RawRoutine) (k following : ℕ) (spot : Spot) (m 
       subst (λ x. Agrees (coded_over table coded x) (meant_over table meant (slice_get (map (meaning.schema_of keyed) file.tables) table)) st) (sym (slice_get-map (plans.schema_of keyed) code.tables table))
       (subst (λ x. Agrees (coded_over table coded (option_map (plans.schema_of keyed) (slice_get code.tables table))) (meant_over table meant x) st) (sym (slice_get-map (meaning.schema_of keyed) file.tables table))
       (schema-evaluates table keyed coded meant st d (slice_get file.tables table) (slice_get code.tables table) s h))
-
-  -- whether the constraints hold among the tables of now with other rows in one
-  abbrev pub keyed_in : List ForeignKey → ℕ → State → List (List Datum) → Bool
-  keyed_in keys table st = are_keyed_with keys (rows_in st.tables) table
 
   pub table-evaluates : (file : ResolvedFile) (table : ℕ) (coded : Coded) (meant : Meant) (st : State) → IsReady code spot st → SameAt file code table
       → ((x : ResolvedTable) (y : CodeTable) → slice_get file.tables table ≡ Some x → slice_get code.tables table ≡ Some y → TableStands x y → (c : Contents)

@@ -21,6 +21,7 @@ pub mod Orders
 pub mod Pairs
 pub mod Places
 pub mod Prefixes
+pub mod PrefixWalks
 pub mod Rivals
 pub mod Referring
 pub mod RowOrders

@@ -1,6 +1,8 @@
--- Rows that have given values, looked up by the key or found in a walk.
-use Rattle.std.proofs.Common.{◌≡◌, ◌<◌, ℕ, List, [], ◌∷◌, Bool, true, false, not, ◌&&◌, ◌||◌, length, refl, ap, sym, subst, ◌∙◌}
-use Rattle.std.specs.Prelude.{All, is_some, Option, Some, cond}
+-- Rows that have given values, looked up by the key or by the entries of a UNIQUE list, or found in a walk.
+use Rattle.std.proofs.Common.{◌≡◌, ◌<◌, ℕ, List, [], ◌∷◌, Bool, true, false, not, ◌&&◌, ◌||◌, length, get_or, drop, take, refl, ap, sym, subst, ◌∙◌, arith}
+use Rattle.std.specs.Prelude.{All, is_some, Option, Some, None, cond, slice_get}
+use Rattle.std.proofs.lemmas.List.Folds.{list_any_at, list_any_none}
+use Rattle.std.proofs.lemmas.Option.{get_or_from_slice_get, slice_get_within}
 use Rattle.std.specs.Ordering.{is_eq, ordering_reverse}
 use Rattle.std.specs.declared.cmp.Ordering.{Ordering}
 use Rattle.std.specs.declared.cmp.Ordering.TheVariants.{Less, Equal, Greater}
@@ -9,11 +11,21 @@ use Rattle.psm_value.specs.declared.datum.Datum.{Datum}
 use Rattle.psm_value.specs.declared.datum.Datum.TheVariants.{Null, Num, Text}
 use Rattle.psm_table.specs.declared.definition.TableDef.{TableDef}
 use Rattle.psm_table.specs.Definition.{IsRow}
+use Rattle.psm_table.specs.declared.map.Pair.{Pair}
+use Rattle.psm_table.specs.Held.{entries_of, live_rows, row_of, HasItsKey, IsEntered}
+use Rattle.psm_table.specs.Index.{row_has}
 use Rattle.psm_table.specs.Key.{key_order, row_order, values_at, AreColumnsOf}
 use Rattle.psm_table.specs.Keyed.{has_values}
-use Rattle.psm_table.specs.Rows.{row_with}
+use Rattle.psm_table.specs.Map.{keys_of, prefix_order, AreAscending}
+use Rattle.psm_table.specs.Mapped.{Mapped}
+use Rattle.psm_table.specs.Rows.{row_with, IsAscending}
+use Rattle.psm_table.specs.State.{entry_of, HasEntry}
 use Rattle.psm_table.specs.Unique.{equal_values, has_null, is_null}
+use Rattle.psm_table.proofs.Entered.{all_zip-at, get-entries, length-entries}
 use Rattle.psm_table.proofs.KeyLaws.{key_order-total}
+use Rattle.psm_table.proofs.PrefixWalks.{Silent}
+use Rattle.psm_table.proofs.Rivals.{equal_length, equal_parts, equal_sym, equal_trans, leads_back, pair_there, row-live}
+use Rattle.psm_table.proofs.RowOrders.{length-values_at}
 
 abbrev Row : Type 0
 Row = List Datum
@@ -88,3 +100,46 @@ module _ (columns : List ℕ) (rows : List Row) (row : Row) (left : List Row) (i
   -- a row that doesn't have the values is passed over
   pub passed_over : (values : List Datum) → equal_values values (values_at columns row) ≡ false → has_values columns values rows ≡ has_values columns values left
   passed_over values e = ap (has_values columns values) is ∙ ap (λ b. b || has_values columns values left) e
+
+-- ---- by the entries of a UNIQUE list
+
+-- each row has its entry in the set of the list
+pub entered_in : (def : TableDef) (sets : List (Mapped (Unit {0}))) (rows : List Row) (k : ℕ) (columns : List ℕ) (m : Mapped (Unit {0})) → slice_get def.unique k ≡ Some columns → m ≡ get_or sets k m → length sets ≡ length def.unique
+    → All (IsEntered def (entries_of sets)) rows → All (λ row. HasEntry def row columns (keys_of m.pairs)) rows
+entered_in def sets rows k columns m is at long h i d l =
+    let inside : k < length sets = omega (arith, slice_get_within def.unique k columns is, long) in
+    subst (λ es. HasEntry def (get_or rows i d) columns es) (get-entries sets k m [] inside ∙ ap (λ (n : Mapped (Unit {0})). keys_of n.pairs) (sym at))
+    (subst (λ cs. HasEntry def (get_or rows i d) cs (get_or (entries_of sets) k [])) (get_or_from_slice_get def.unique k columns columns is)
+    (all_zip-at (HasEntry def (get_or rows i d)) def.unique (entries_of sets) k columns [] (h i d l) (omega (arith, inside, length-entries sets))))
+
+module _ (columns : List ℕ) (values : List Datum) (pairs : List (Pair (Option Row))) where
+  -- whether the row of an entry has the values
+  abbrev pub has_by : List Datum → Bool
+  has_by entry = row_has columns values (row_of (drop (length columns) entry) pairs)
+
+  found_row : (key : List Datum) (o : Option Row) → row_of key pairs ≡ o → row_has columns values o ≡ true → has_values columns values (live_rows pairs) ≡ true
+  found_row key None is e = cc
+  found_row key (Some row) is e =
+      row-live (λ r. equal_values values (values_at columns r) ≡ true → has_values columns values (live_rows pairs) ≡ true) key pairs row is
+      (λ i d l f. list_any_at (λ r. equal_values values (values_at columns r)) (live_rows pairs) i d l f) e
+
+  pub found_by : (key : List Datum) → row_has columns values (row_of key pairs) ≡ true → has_values columns values (live_rows pairs) ≡ true
+  found_by key e = found_row key (row_of key pairs) refl e
+
+  -- where no entry with the values has a row with them, no row has them
+  module _ (def : TableDef) (up : AreAscending pairs) (keyed : All (HasItsKey def.key) pairs) (ascend : IsAscending def.key (live_rows pairs)) (entries : List (Pair (Unit {0})))
+      (entered : All (λ row. HasEntry def row columns (keys_of entries)) (live_rows pairs)) (silent : All (Silent values has_by) entries) where
+    others : (i : ℕ) (d : Row) → i < length (live_rows pairs) → (b : Bool) → equal_values values (values_at columns (get_or (live_rows pairs) i d)) ≡ b → b ≡ false
+    others i d l false e = refl
+    others i d l true e =
+        let it : Row = get_or (live_rows pairs) i d in
+        let t = equal_parts values (values_at columns it) e in
+        let p = pair_there entries (entry_of def columns it) (Silent values has_by) (entered i d l t.1) silent in
+        let back = leads_back def it pairs up keyed ascend i d l columns (p.0).key p.1 in
+        let width : length columns ≡ length values = sym (equal_length values (values_at columns it) t.2 ∙ length-values_at columns it) in
+        let prefix : prefix_order values (p.0).key ≡ Equal =
+        subst (λ n. key_order (take n (p.0).key) values ≡ Equal) width (equal_trans (take (length columns) (p.0).key) (values_at columns it) values back.0 (equal_sym values (values_at columns it) t.2)) in
+        sym e ∙ ap (row_has columns values) (sym back.1) ∙ p.2 (ap is_eq prefix)
+
+    pub none_found : has_values columns values (live_rows pairs) ≡ false
+    none_found = list_any_none (λ r. equal_values values (values_at columns r)) (live_rows pairs) (λ i d l. others i d l (equal_values values (values_at columns (get_or (live_rows pairs) i d))) refl)

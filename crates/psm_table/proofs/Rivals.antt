@@ -1,14 +1,14 @@
 -- Rows that have an entry beside a row's in a UNIQUE list, found by the entries.
 use Rattle.std.proofs.Common.{◌≡◌, ℕ, zero, suc, ◌<◌, List, [], ◌∷◌, ◌++◌, length, get_or, set, take, drop, Bool, true, false, not, ◌&&◌, ◌||◌, refl, ap, sym, subst, ◌∙◌, arith, Some, None, inl, inr}
-use Rattle.std.specs.Prelude.{All, cond, filter, slice_get, Option, option_map}
+use Rattle.std.specs.Prelude.{All, cond, filter, Option, option_map}
 use Rattle.std.specs.List.{cons_option}
 use Rattle.std.proofs.lemmas.List.{length-set, get_or_default}
 use Rattle.std.proofs.lemmas.Bool.{cases_eq}
-use Rattle.std.proofs.lemmas.List.Elements.{All-nil, All-cons, All-tail, All-head}
+use Rattle.std.proofs.lemmas.List.Elements.{All-tail, All-head}
 use Rattle.std.proofs.lemmas.List.Folds.{Any-from_list_any}
 use Rattle.std.specs.declared.cmp.Ordering.{Ordering}
 use Rattle.std.specs.declared.cmp.Ordering.TheVariants.{Less, Equal, Greater}
-use Rattle.std.specs.Ordering.{is_lt, is_gt, is_eq, is_ne, ordering_then, ordering_reverse}
+use Rattle.std.specs.Ordering.{is_eq, is_ne, ordering_then, ordering_reverse}
 use Rattle.psm_value.specs.declared.datum.Datum.{Datum}
 use Rattle.psm_value.specs.Order.{data_order}
 use Rattle.psm_table.specs.declared.definition.TableDef.{TableDef}
@@ -16,22 +16,19 @@ use Rattle.psm_table.specs.declared.map.Pair.{Pair}
 use Rattle.psm_table.specs.Held.{entries_of, live_rows, row_of, the_row, HasItsKey, IsEntered}
 use Rattle.psm_table.specs.Index.{is_current, rival_at}
 use Rattle.psm_table.specs.Key.{key_order, row_order, values_at}
-use Rattle.psm_table.specs.Map.{AreAscending, keys_of, pair_with, pairs_above, pairs_from, prefix_order}
+use Rattle.psm_table.specs.Map.{AreAscending, keys_of, pair_with, prefix_order}
 use Rattle.psm_table.specs.Mapped.{Mapped}
-use Rattle.psm_table.specs.Place.{ahead}
 use Rattle.psm_table.specs.Rows.{IsAscending, row_with}
 use Rattle.psm_table.specs.State.{entry_of, has_key, HasEntry}
-use Rattle.psm_table.specs.Unique.{agree, clashes, conflict, has_null, is_rival}
+use Rattle.psm_table.specs.Unique.{agree, clashes, conflict, equal_values, has_null, is_rival}
 use Rattle.psm_table.proofs.KeyLaws.{key_order-total}
 use Rattle.psm_table.proofs.Entered.{all_zip-at, all_zip-from, get-entries, get-set, get-set_other, length-entries, length_all_zip}
-use Rattle.psm_table.proofs.Filters.{filtered, unfiltered, equal_is, greater_is}
+use Rattle.psm_table.proofs.Filters.{equal_is}
 use Rattle.psm_table.proofs.Keys.{has-filter, or_right}
 use Rattle.psm_table.proofs.Lives.{rows-find}
-use Rattle.psm_table.proofs.Pairs.{Rises}
-use Rattle.psm_table.proofs.Prefixes.{prefix-greater}
+use Rattle.psm_table.proofs.PrefixWalks.{Silent}
 use Rattle.psm_table.proofs.RowOrders.{length-values_at}
-use Rattle.psm_table.proofs.Searches.{less_before_equal, turned_less}
-use Rattle.psm_table.proofs.Walks.{ahead-filter, up-above, up-from}
+use Rattle.psm_table.proofs.Searches.{less_before_equal}
 
 abbrev pub Row : Type 0
 Row = List Datum
@@ -95,13 +92,19 @@ not_true : (a : Bool) → not a ≡ true → a ≡ false
 not_true true e = cc
 not_true false e = refl
 
--- two rows that agree have no null and equal values
-pub agree-parts : (a b : Row) (columns : List ℕ) → agree a b columns ≡ true
-    → (has_null (values_at columns a) ≡ false) × (has_null (values_at columns b) ≡ false) × (key_order (values_at columns a) (values_at columns b) ≡ Equal)
-agree-parts a b columns e =
-    let t = and_true (not (has_null (values_at columns a))) (not (has_null (values_at columns b)) && is_eq (key_order (values_at columns a) (values_at columns b))) e in
-    let u = and_true (not (has_null (values_at columns b))) (is_eq (key_order (values_at columns a) (values_at columns b))) t.1 in
-    (not_true (has_null (values_at columns a)) t.0, not_true (has_null (values_at columns b)) u.0, equal_is (key_order (values_at columns a) (values_at columns b)) u.1)
+-- values that are equal have no null
+pub equal_parts : (a b : List Datum) → equal_values a b ≡ true → (has_null a ≡ false) × (has_null b ≡ false) × (key_order a b ≡ Equal)
+equal_parts a b e =
+    let t = and_true (not (has_null a)) (not (has_null b) && is_eq (key_order a b)) e in
+    let u = and_true (not (has_null b)) (is_eq (key_order a b)) t.1 in
+    (not_true (has_null a) t.0, not_true (has_null b) u.0, equal_is (key_order a b) u.1)
+
+-- and are as many
+pub equal_length : (a b : List Datum) → key_order a b ≡ Equal → length a ≡ length b
+equal_length [] [] e = refl
+equal_length [] (y ∷ b) e = cc
+equal_length (x ∷ a) [] e = cc
+equal_length (x ∷ a) (y ∷ b) e = ap suc (equal_length a b (then_equal (data_order x y) (key_order a b) e).1)
 
 -- the row of a key is one of the rows
 live-value : (P : Row → Type 0) (o : Option Row) (rows : List Row) (row : Row) → the_row (Some o) ≡ Some row → All P (cons_option o rows) → P row
@@ -140,76 +143,13 @@ module _ (def : TableDef) (row : Row) where
   rival-clashes key [] e = cc
   rival-clashes key (p ∷ ps) e = rival-first p ps (pair_with key ps) (is_eq (key_order p.key key)) (rival-clashes key ps) e
 
-  module _ (columns : List ℕ) (pairs : List Slot) where
-    abbrev pub Harmless : Entry → Type 0
-    Harmless p = is_eq (prefix_order (values_at columns row) p.key) ≡ true → rival_at def row (row_of (drop (length columns) p.key) pairs) ≡ false
+  -- whether the row of an entry is a rival
+  abbrev pub rival_by : List ℕ → List Slot → List Datum → Bool
+  rival_by columns pairs entry = rival_at def row (row_of (drop (length columns) entry) pairs)
 
-    -- those that begin with smaller values are harmless
-    not_below : (o : Ordering) → not (is_lt o) ≡ false → is_eq o ≡ true → ⊥
-    not_below Less e f = cc
-    not_below Equal e f = cc
-    not_below Greater e f = cc
-
-    pub harmless-from : (entries : List Entry) → All Harmless (pairs_from (values_at columns row) entries) → All Harmless entries
-    harmless-from entries h =
-        unfiltered (λ (p : Entry). not (is_lt (prefix_order (values_at columns row) p.key))) Harmless
-        (λ p e f. absurd (not_below (prefix_order (values_at columns row) p.key) e f)) entries h
-
-    -- and so are those from one on that begins with greater ones
-    greater_or : (o : Ordering) → not (is_lt o) ≡ true → is_eq o ≡ false → o ≡ Greater
-    greater_or Less e f = cc
-    greater_or Equal e f = cc
-    greater_or Greater e f = refl
-
-    vacuous : (p : Entry) → prefix_order (values_at columns row) p.key ≡ Greater → Harmless p
-    vacuous p e f = absurd (let g : is_eq Greater ≡ true = ap is_eq (sym e) ∙ f in cc)
-
-    pub harmless-end : (entries : List Entry) (p : Entry) → not (is_lt (prefix_order (values_at columns row) p.key)) ≡ true → is_eq (prefix_order (values_at columns row) p.key) ≡ false
-        → All Harmless (ahead entries (Some p))
-    harmless-end entries p n e =
-        let g : prefix_order (values_at columns row) p.key ≡ Greater = greater_or (prefix_order (values_at columns row) p.key) n e in
-        let later : All (λ q. Rises p q) (pairs_above p.key entries) = filtered (λ (q : Entry). is_gt (key_order q.key p.key)) (λ q. Rises p q)
-        (λ q f. turned_less q.key p.key (greater_is (key_order q.key p.key) f)) entries in
-        All-cons Harmless p (pairs_above p.key entries) (vacuous p g)
-        (λ k d l. vacuous (get_or (pairs_above p.key entries) k d)
-        (prefix-greater (values_at columns row) p.key (get_or (pairs_above p.key entries) k d).key (later k d l) g))
-
-    -- a walk has come so far: the entries before are harmless if those from here on are
-    pub record Walked (entries : List Entry) (next : Option Entry) : Type 0 where
-      pub rest : All Harmless (ahead entries next) → All Harmless entries
-      pub high : All (λ p. not (is_lt (prefix_order (values_at columns row) p.key)) ≡ true) (ahead entries next)
-
-    abbrev High : Entry → Type 0
-    High p = not (is_lt (prefix_order (values_at columns row) p.key)) ≡ true
-
-    pub walked-start : (entries : List Entry) (next : Option Entry) → AreAscending entries → next ≡ slice_get (pairs_from (values_at columns row) entries) 0 → Walked entries next
-    walked-start entries next up e =
-        let same : ahead entries next ≡ pairs_from (values_at columns row) entries =
-        ap (ahead entries) e ∙ ahead-filter (λ (p : Entry). not (is_lt (prefix_order (values_at columns row) p.key))) entries (up-from (values_at columns row)) up in
-        record {
-          rest = λ a. harmless-from entries (subst (All Harmless) same a);
-          high = subst (All High) (sym same) (filtered (λ (p : Entry). not (is_lt (prefix_order (values_at columns row) p.key))) High (λ p f. f) entries);
-        }
-
-    next_ahead : (entries : List Entry) (p : Entry) (next : Option Entry) → AreAscending entries → next ≡ slice_get (pairs_above p.key entries) 0 → ahead entries next ≡ pairs_above p.key entries
-    next_ahead entries p next up e = ap (ahead entries) e ∙ ahead-filter (λ (q : Entry). is_gt (key_order q.key p.key)) entries (up-above p.key) up
-
-    pub walked-step : (entries : List Entry) (p : Entry) (next : Option Entry) → AreAscending entries → Walked entries (Some p) → Harmless p → next ≡ slice_get (pairs_above p.key entries) 0 → Walked entries next
-    walked-step entries p next up w h e =
-        let same = next_ahead entries p next up e in
-        record {
-          rest = λ a. w.rest (All-cons Harmless p (pairs_above p.key entries) h (subst (All Harmless) same a));
-          high = subst (All High) (sym same) (All-tail High p (pairs_above p.key entries) w.high);
-        }
-
-    pub walked-less : (entries : List Entry) (p : Entry) (next : Option Entry) → AreAscending entries → next ≡ slice_get (pairs_above p.key entries) 0 → length (ahead entries next) < length (ahead entries (Some p))
-    walked-less entries p next up e = omega (arith, ap length (next_ahead entries p next up e))
-
-    pub walked-end : (entries : List Entry) (p : Entry) → Walked entries (Some p) → is_eq (prefix_order (values_at columns row) p.key) ≡ false → All Harmless entries
-    walked-end entries p w e = w.rest (harmless-end entries p (All-head High p (pairs_above p.key entries) w.high) e)
-
-    pub walked-none : (entries : List Entry) → Walked entries None → All Harmless entries
-    walked-none entries w = w.rest (All-nil Harmless)
+  -- no rival is the row of an entry with the row's values
+  abbrev pub Harmless : List ℕ → List Slot → Entry → Type 0
+  Harmless columns pairs p = Silent (values_at columns row) (rival_by columns pairs) p
 
   -- the row at a place of the rows: the entry of it that the sets have leads back to it
   module _ (pairs : List Slot) (up : AreAscending pairs) (keyed : All (HasItsKey def.key) pairs) (ascend : IsAscending def.key (live_rows pairs)) (i : ℕ) (d : Row) (l : i < length (live_rows pairs)) where
@@ -231,7 +171,7 @@ module _ (def : TableDef) (row : Row) where
     -- it is no rival where the entries of a list in which it agrees are harmless
     no_rival_in : (columns : List ℕ) (entries : List Entry) → HasEntry def it columns (keys_of entries) → All (Harmless columns pairs) entries → agree it row columns ≡ true → is_rival def row it ≡ false
     no_rival_in columns entries has harmless a =
-        let t = agree-parts it row columns a in
+        let t = equal_parts (values_at columns it) (values_at columns row) a in
         let p = pair_there entries (entry_of def columns it) (Harmless columns pairs) (has t.0) harmless in
         let back = leads_back columns (p.0).key p.1 in
         let same : length (values_at columns row) ≡ length columns = length-values_at columns row in
@@ -257,7 +197,7 @@ module _ (def : TableDef) (row : Row) where
         subst (λ c. HasEntry def it c (keys_of (get_or sets any.0 empty).pairs)) any.3
         (subst (λ es. HasEntry def it (get_or def.unique any.0 columns) es) (get-entries sets any.0 empty [] inside)
         (all_zip-at (HasEntry def it) def.unique (entries_of sets) any.0 columns [] has (omega (arith, inside, length-entries sets)))) in
-        let parts = agree-parts it row columns any.4 in
+        let parts = equal_parts (values_at columns it) (values_at columns row) any.4 in
         let null : has_null (values_at (get_or def.unique any.0 columns) row) ≡ false = ap (λ c. has_null (values_at c row)) any.3 ∙ parts.1 in
         let fine : All (Harmless columns pairs) (get_or sets any.0 empty).pairs =
         subst (λ c. All (Harmless c pairs) (get_or sets any.0 empty).pairs) any.3 (harmless any.0 columns empty inside null) in

@@ -9,7 +9,7 @@ use Rattle.psm_table.specs.Key.{values_at, key_order, AreColumnsOf}
 use Rattle.psm_table.specs.Map.{keys_of, prefix_order, value_of}
 use Rattle.psm_table.specs.Mapped.{Mapped}
 use Rattle.psm_table.specs.State.{has_key}
-use Rattle.psm_table.specs.Unique.{has_null, is_rival}
+use Rattle.psm_table.specs.Unique.{equal_values, has_null, is_rival}
 
 -- no set loses an entry
 abbrev pub Grow : List (List (List Datum)) → List (List (List Datum)) → Type 0
@@ -61,6 +61,11 @@ HaveKeys def rows = All (λ row. AreColumnsOf row def.key) rows
 abbrev pub rival_at : TableDef → List Datum → Option (List Datum) → Bool
 rival_at def row None = false
 rival_at def row (Some other) = is_rival def row other
+
+-- whether a key has a row, which has the values in the columns
+abbrev pub row_has : List ℕ → List Datum → Option (List Datum) → Bool
+row_has columns values None = false
+row_has columns values (Some row) = equal_values values (values_at columns row)
 
 -- no entry with the row's values in the columns is that of a rival
 abbrev pub AreHarmless : TableDef → List ℕ → List (Pair (Option (List Datum))) → List Datum → List (Pair (Unit {0})) → Type 0

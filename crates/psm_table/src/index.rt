@@ -192,7 +192,7 @@ fn has_rival_in(
 }
 
 /// What follows n values of an entry.
-fn key_part(entry: &[Datum], width: usize) -> &[Datum]
+pub(crate) fn key_part(entry: &[Datum], width: usize) -> &[Datum]
     ensures { result.now ≡ drop width entry.now }
 {
     &entry[width.min(entry.len())..]

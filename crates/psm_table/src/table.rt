@@ -16,7 +16,7 @@ use crate::index::{enter, has_rival, settle_entries};
 use crate::key::Key;
 use crate::map::{HasRow, OrderedMap};
 use crate::probe::Probe;
-use crate::referred::has_row_with;
+use crate::referred::{has_entry_with, has_row_with, list_of};
 use crate::row::Row;
 use crate::walk::RowsLeft;
 use psm_value::{Datum, Steps};
@@ -325,8 +325,9 @@ impl Table {
         has_rival(&self.def, &self.rows, self.indexes.as_slice(), row.values())
     }
 
-    /// Whether a row has the values in the columns (ISO/IEC 9075:1992, 11.8). By the columns of the key that is one search, and
-    /// else a walk over the rows. It takes no memory.
+    /// Whether a row has the values in the columns (ISO/IEC 9075:1992, 11.8). By the columns of the key that is one search, by
+    /// those of a UNIQUE list one for each row with the values that the table keeps, and else a walk over the rows. It takes
+    /// no memory.
     pub fn has(&self, columns: &[u32], values: &[Datum]) -> bool
         requires columns { All (λ c. c < length self.now.contents.def.columns) columns.now }
         requires filled { has_null values.now ≡ false }
@@ -335,7 +336,10 @@ impl Table {
         if columns == self.def.key.items() {
             return self.has_key_of(values);
         }
-        has_row_with(self.rows(false), columns, values)
+        match list_of(&self.def, columns) {
+            Some(i) => has_entry_with(&self.def, columns, &self.rows, &self.indexes[i], values),
+            None => has_row_with(self.rows(false), columns, values),
+        }
     }
 
     /// Whether a row has the values as its key.

@@ -22,6 +22,7 @@ use Rattle.psm_table.specs.declared.definition.TableDef.{TableDef}
 use Rattle.psm_table.specs.Changing.{deleted, deleted_at, inserted, updated, updated_at, Failure, OfTable, Raised}
 use Rattle.psm_table.specs.Cursors.{Closed, Cursor, Insensitive, Plain, advanced, current}
 use Rattle.psm_table.specs.Evaluator.{values_of}
+use Rattle.psm_table.specs.Keyed.{are_keyed_with, rows_in}
 use Rattle.psm_table.specs.Queries.{answer}
 use Rattle.psm_table.specs.Table.{Contents}
 use Rattle.psm_tablecode.specs.Codes.{over, query_of}
@@ -225,7 +226,7 @@ leave_keeps false n c = got_keeps
 
 module _ (code : RawCode) where
   schema_keeps : (n : ℕ) → KeepsShape (plans.schema_at code n)
-  schema_keeps n = present_keeps (slice_get (map plans.schema_of code.tables) n)
+  schema_keeps n = then_keeps (read_keeps (λ m. m.tables)) (λ tables. present_keeps (slice_get (map (plans.schema_of (are_keyed_with code.keys (rows_in tables) n)) code.tables) n))
 
   put_in_keeps : (n : ℕ) (columns : List ℕ) (rows : List (List Datum)) → KeepsShape (plans.put_in code n columns rows)
   put_in_keeps n columns rows =

@@ -19,6 +19,7 @@ use Rattle.psm_table.specs.Definition.{kinds_of}
 use Rattle.psm_table.specs.Evaluator.{Evaluator, and_then, mapped, test_of}
 use Rattle.psm_table.specs.Queries.{is_met}
 use Rattle.psm_table.specs.Key.{values_at}
+use Rattle.psm_table.specs.Keyed.{are_keyed_with, rows_in}
 use Rattle.psm_table.specs.Rows.{rows_above, rows_below}
 use Rattle.psm_table.specs.Table.{Contents, most_rows}
 use Rattle.psm_table.specs.declared.definition.Column.{Column}
@@ -271,7 +272,7 @@ holds-update_at eval_context p table t sets cursor h seen =
     let P : List Datum → Type 0 = Row (columns_of t) in
     holds-bind (holds-schema_at table t h) (λ s q. holds-bind (holds-table_now table t h) (λ c f. holds-bind (holds-declared_at eval_context p cursor seen) (λ x g. holds-bind (now-at x cursor g.cursor g.same) (λ now k.
     holds-bind (holds-row_of_cursor P x c now f) (λ row r. holds-bind (holds-read {P = Anything} (λ st. st.variables) (λ st s. tt)) (λ vars u.
-    holds-bind (holds-unless_failed {P = λ (y : changing.Moved). Each P y.rows} s.def (updated_at (over vars) plain s (map set_item sets) row c.rows) (subst (λ y. Kept (λ z. Each P z.rows) (updated_at (over vars) plain y (map set_item sets) row c.rows)) (sym q) (updated_at-kept p.0 t vars (map set_item sets) row c.rows r f))) (λ y l.
+    holds-bind (holds-unless_failed {P = λ (y : changing.Moved). Each P y.rows} s.def (updated_at (over vars) plain s (map set_item sets) row c.rows) (subst (λ y. Kept (λ z. Each P z.rows) (updated_at (over vars) plain y (map set_item sets) row c.rows)) (sym q.1) (updated_at-kept q.0 t vars (map set_item sets) row c.rows r f))) (λ y l.
     holds-bind (holds-leaves table t c y.rows 1 h l) (λ w z. holds-leave_row y.moved x g.cursor now k))))))))
 
 holds-delete_at : {e : TypingContext} {m : Meaning} {s : StatementScope} (eval_context : EvalContext) → IsEvalContext e s eval_context → (table : ℕ) (t : ResolvedTable) (cursor : ℕ) → slice_get e.file.tables table ≡ Some t → IsSeen s cursor → Holds e m Anything (delete_at e.file eval_context table cursor)
@@ -279,7 +280,7 @@ holds-delete_at eval_context p table t cursor h seen =
     let P : List Datum → Type 0 = Row (columns_of t) in
     holds-bind (holds-schema_at table t h) (λ s q. holds-bind (holds-table_now table t h) (λ c f. holds-bind (holds-declared_at eval_context p cursor seen) (λ x g. holds-bind (now-at x cursor g.cursor g.same) (λ now k.
     holds-bind (holds-row_of_cursor P x c now f) (λ row r.
-    holds-bind (holds-unless_failed {P = Each P} s.def (deleted_at plain s row c.rows) (subst (λ y. Kept (Each P) (deleted_at plain y row c.rows)) (sym q) (ended-kept P plain (schema_of keyed t) (rows_but t.definition row c.rows) (each-but P t.definition row c.rows f)))) (λ rows l.
+    holds-bind (holds-unless_failed {P = Each P} s.def (deleted_at plain s row c.rows) (subst (λ y. Kept (Each P) (deleted_at plain y row c.rows)) (sym q.1) (ended-kept P plain (schema_of q.0 t) (rows_but t.definition row c.rows) (each-but P t.definition row c.rows f)))) (λ rows l.
     holds-bind (holds-leaves table t c rows 1 h l) (λ w z. holds-leave_row true x g.cursor now k)))))))
 
 -- ---- UPDATE and DELETE

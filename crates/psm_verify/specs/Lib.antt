@@ -1,6 +1,7 @@
 pub mod Called
 pub mod Checked
 pub mod Earlier
+pub mod InTurn
 pub mod Listed
 pub mod Moves
 pub mod Placed

@@ -1,15 +1,16 @@
--- Module files as they are checked (ISO/IEC 9075-4:1996, module definitions, and 9075:1992, 11.3): tables and routines of which no two
--- are of one name where that is forbidden, with columns, keys and parameters that may be theirs, and well-formed bodies.
+-- Module files as they are checked (ISO/IEC 9075-4:1996, module definitions, and 9075:1992, 11.3 and 11.8): tables and routines of which
+-- no two are of one name where that is forbidden, with columns, keys and parameters that may be theirs, and well-formed bodies.
 use Rattle.std.specs.List.{list_all}
-use Rattle.std.specs.Prelude.{◌≡◌, ◌&&◌, ◌||◌, ℕ, Bool, true, false, not, List, [], ◌∷◌, ◌++◌, length, map, nat_eq, None, Option}
+use Rattle.std.specs.Prelude.{◌≡◌, ◌≤◌, ◌&&◌, ◌||◌, ℕ, Bool, true, false, not, List, [], ◌∷◌, ◌++◌, length, map, nat_eq, slice_get, None, Option, Some}
 use Rattle.psm_exprcode.specs.WellFormed.{is_type}
+use Rattle.psm_table.specs.declared.definition.ForeignKey.{ForeignKey}
 use Rattle.psm_resolved.specs.declared.file.ResolvedFile.{ResolvedFile}
 use Rattle.psm_resolved.specs.declared.file.ResolvedParameter.{ResolvedParameter}
 use Rattle.psm_resolved.specs.declared.file.ResolvedRoutine.{ResolvedRoutine}
 use Rattle.psm_resolved.specs.declared.file.ResolvedTable.{ResolvedTable}
 use Rattle.psm_code.specs.RoutineRules.{are_same_kinds}
 use Rattle.psm_code.specs.Rules.{each_after, is_same, where_there}
-use Rattle.psm_code.specs.TableRules.{column_fault, key_fault, unique_fault}
+use Rattle.psm_code.specs.TableRules.{are_in_turn, column_fault, key_fault, pair_fault, unique_fault}
 use Rattle.psm_code.specs.declared.rule.CodeRule.{CodeRule}
 use Rattle.psm_simulation.specs.Simulation.{parameter_of}
 use Rattle.psm_codegen.specs.Files.{gives_back, is_function, known_of}
@@ -40,6 +41,15 @@ pub record WellFormedTable (t : ResolvedTable) : Type 0 where
   pub key : NoFault (key_fault t.definition)
   pub unique : Each (λ u. NoFault (unique_fault t.definition u)) t.definition.unique
   pub checks : list_all (is_test (column_letters t) []) t.checks ≡ true
+
+-- the columns of a FOREIGN KEY constraint refer to the key or a UNIQUE list of the table itself or of one before it
+pub record WellFormedKey (tables : List ResolvedTable) (key : ForeignKey) : Type 0 where
+  pub from : ResolvedTable
+  pub to : ResolvedTable
+  pub from_there : slice_get tables key.from ≡ Some from
+  pub to_there : slice_get tables key.to ≡ Some to
+  pub before : key.to ≤ key.from
+  pub fits : NoFault (pair_fault from.definition key to.definition)
 
 -- ---- routines
 
@@ -87,5 +97,8 @@ pub record WellFormedRoutine (file : ResolvedFile) (routine : ResolvedRoutine) :
 pub record WellFormedFile (file : ResolvedFile) : Type 0 where
   pub names : are_new_names [] (map (λ t. t.definition.name) file.tables) ≡ true
   pub tables : Each WellFormedTable file.tables
+  -- the constraints stand in the order of the tables that refer
+  pub turns : are_in_turn 0 (length file.tables) file.keys ≡ true
+  pub keys : Each (WellFormedKey file.tables) file.keys
   pub apart : AreApart [] file.routines
   pub routines : Each (WellFormedRoutine file) file.routines

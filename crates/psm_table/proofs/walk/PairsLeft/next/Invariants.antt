@@ -1,4 +1,4 @@
-use Rattle.std.proofs.Common.{◌≡◌, ◌+◌, length}
+use Rattle.std.proofs.Common.{◌≡◌, length}
 use Rattle.psm_table.specs.Left.{left_of}
 use Rattle.psm_table.proofs.walk.PairsLeft.next.Given as goal
 

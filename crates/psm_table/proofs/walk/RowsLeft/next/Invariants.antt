@@ -1,4 +1,4 @@
-use Rattle.std.proofs.Common.{◌≡◌, ◌+◌, length}
+use Rattle.std.proofs.Common.{◌≡◌, length}
 use Rattle.psm_table.specs.Held.{live_rows}
 use Rattle.psm_table.specs.Left.{left_of}
 use Rattle.psm_table.proofs.walk.RowsLeft.next.Given as goal
