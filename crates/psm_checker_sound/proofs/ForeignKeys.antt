@@ -7,7 +7,6 @@ use Rattle.psm_symbols.specs.Columns.{column_of}
 use Rattle.psm_token.specs.declared.place.Place.{Place}
 use Rattle.psm_scope.specs.Scopes.{Spelling, is_spelled}
 use Rattle.psm_scope.specs.Lookup.{index_named, named}
-use Rattle.psm_rules.specs.declared.fault.Fault.{Fault}
 use Rattle.psm_rules.specs.declared.rule.Rule.TheVariants as rule
 use Rattle.psm_rules.specs.CheckerScope.{CheckerScope, Columns}
 use Rattle.psm_rules.specs.Faults.{first_of}
@@ -29,16 +28,16 @@ use Rattle.psm_code.specs.TableRules.{are_in_turn}
 use Rattle.psm_resolved.specs.declared.file.ResolvedTable.{ResolvedTable}
 use Rattle.psm_resolve_expr.specs.Exprs.{number_of}
 use Rattle.psm_resolve_expr.specs.ResolverScope.{ResolverScope, table_at}
-use Rattle.psm_resolve.specs.Files.{foreign_keys, in_file, key_to, own_reference, own_references, references_from, references_in, references_of, resolve_table, rule_reference, target_of}
+use Rattle.psm_resolve.specs.Files.{foreign_keys, in_file, key_to, own_reference, own_references, references_from, references_of, resolve_table, rule_reference, target_of}
 use Rattle.psm_resolve.specs.SymbolTables.{known_symbols}
 use Rattle.psm_typing.specs.TypingContext.{Each}
-use Rattle.psm_wellformed.specs.Files.{NoFault, WellFormedKey}
+use Rattle.psm_wellformed.specs.Files.{WellFormedKey}
 use Rattle.psm_checker_sound.proofs.Bodies.{FileParts}
 use Rattle.psm_checker_sound.proofs.DeclaredOnce.{each_append}
 use Rattle.psm_checker_sound.proofs.Faultless.{each-as, none-each, none-first}
 use Rattle.psm_checker_sound.proofs.Flags.{at-end, both-hold}
 use Rattle.psm_checker_sound.proofs.Keys.{IsList, IsNamed, OwnNamed, listed, one-name}
-use Rattle.psm_checker_sound.proofs.NewNames.{AreNew, Knows, declared-new, first_in, knows-more, names-new}
+use Rattle.psm_checker_sound.proofs.NewNames.{AreNew, Knows, declared-new, knows-more, names-new}
 use Rattle.psm_checker_sound.proofs.Referable.{Placed}
 use Rattle.psm_checker_sound.proofs.References.{IsMeant, IsReferable, are-meant, fits, table-referable}
 use Rattle.psm_checker_sound.proofs.SymbolTables.{table_pair, tables-placed}

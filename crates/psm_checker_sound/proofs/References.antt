@@ -1,8 +1,7 @@
 -- A FOREIGN KEY constraint without a fault pairs columns of a table with columns of the one that it refers to, of one family each,
 -- which are its key or a UNIQUE list there.
-use Rattle.std.proofs.Common.{◌≡◌, ℕ, zero, suc, ◌+◌, Bool, true, false, ◌&&◌, not, nat_eq, List, [], ◌∷◌, length, map, Option, Some, None, option_map, refl, ap, sym, ◌∙◌, subst, arith, eq-eqb}
-use Rattle.std.specs.Prelude.{IsTrue, is_some, slice_get, zip}
-use Rattle.std.specs.Cmp.Lexicographic.{pointwise}
+use Rattle.std.proofs.Common.{◌≡◌, ℕ, zero, suc, Bool, true, ◌&&◌, not, nat_eq, List, [], ◌∷◌, length, map, Option, Some, None, option_map, refl, ap, sym, ◌∙◌, subst, arith, eq-eqb}
+use Rattle.std.specs.Prelude.{is_some, slice_get, zip}
 use Rattle.std.specs.List.{list_all, list_any}
 use Rattle.std.specs.Option.{IfSome}
 use Rattle.psm_symbols.specs.Columns.{column_of, place_in}
@@ -11,7 +10,6 @@ use Rattle.psm_value.specs.declared.sqltype.SqlType.{SqlType}
 use Rattle.psm_value.specs.declared.sqltype.SqlType.TheVariants as types
 use Rattle.psm_exprcode.specs.Kinds.{is_letter, letter_of}
 use Rattle.psm_scope.proofs.Lists.{both}
-use Rattle.psm_scope.specs.Scopes.{Spelling}
 use Rattle.psm_scope.specs.Lookup.{index_named, named}
 use Rattle.psm_rules.specs.declared.rule.Rule.TheVariants as rule
 use Rattle.psm_rules.specs.declared.shape.Family.{Family}
@@ -19,8 +17,8 @@ use Rattle.psm_rules.specs.declared.shape.Family.TheVariants.{Numbers, Texts}
 use Rattle.psm_rules.specs.BlockFaults.{same_names}
 use Rattle.psm_rules.specs.CheckerScope.{Columns}
 use Rattle.psm_rules.specs.Faults.{breaks_if}
-use Rattle.psm_rules.specs.FileFaults.{are_paired, columns_of, does_match, family_named, family_of_column, first_key, keys_of, lists_of, match_fault, names_of, referred_of, table_elements, table_fault, target_fault, target_names}
-use Rattle.psm_rules.specs.Shapes.{clashes, family_of, is_family, typed}
+use Rattle.psm_rules.specs.FileFaults.{are_paired, columns_of, does_match, family_named, family_of_column, first_key, keys_of, lists_of, match_fault, names_of, referred_of, table_elements, table_fault, target_fault}
+use Rattle.psm_rules.specs.Shapes.{clashes, family_of, typed}
 use Rattle.psm_rules.specs.StatementFaults.{several}
 use Rattle.psm_tree.specs.Names.{Names}
 use Rattle.psm_tree.specs.declared.name.Identifier.{Identifier}
@@ -28,20 +26,19 @@ use Rattle.psm_tree.specs.declared.file.Element.{Element}
 use Rattle.psm_tree.specs.declared.file.TableTree.{TableTree}
 use Rattle.psm_table.specs.Definition.{kinds_of}
 use Rattle.psm_table.specs.declared.definition.Column.{Column}
-use Rattle.psm_table.specs.declared.definition.ForeignKey.{ForeignKey}
 use Rattle.psm_table.specs.declared.definition.TableDef.{TableDef}
 use Rattle.psm_code.specs.Rules.{where_there}
 use Rattle.psm_code.specs.TableRules.{are_there, is_column_list, is_one_of_keys, pair_fault, pairs_up}
 use Rattle.psm_code.specs.declared.rule.CodeRule.TheVariants.{Range, Definition}
 use Rattle.psm_resolved.specs.declared.file.ResolvedTable.{ResolvedTable}
-use Rattle.psm_resolve.specs.Files.{key_among, key_in, key_of, places_in, resolve_table, target_of, uniques_from}
+use Rattle.psm_resolve.specs.Files.{key_in, places_in, resolve_table, target_of}
 use Rattle.psm_typing.specs.TypingContext.{Each}
 use Rattle.psm_wellformed.specs.Files.{NoFault}
 use Rattle.psm_checker_sound.specs.Agreement.{HaveTypes, letter_in}
 use Rattle.psm_checker_sound.proofs.Columns.{clear}
 use Rattle.psm_checker_sound.proofs.Faultless.{unbroken}
 use Rattle.psm_checker_sound.proofs.Flags.{both-hold, not-false}
-use Rattle.psm_checker_sound.proofs.Keys.{IsList, IsNamed, OwnNamed, list-places, list-there, listed}
+use Rattle.psm_checker_sound.proofs.Keys.{IsList, IsNamed, list-places, list-there, listed}
 use Rattle.psm_checker_sound.proofs.Names.{IsColumn, columns_placed}
 use Rattle.psm_checker_sound.proofs.Parts.{neither}
 use Rattle.psm_checker_sound.proofs.Queries.{named_placed}
