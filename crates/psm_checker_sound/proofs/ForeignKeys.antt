@@ -1,13 +1,13 @@
 -- The FOREIGN KEY constraints of a module file without a fault are well-formed, and stand in the order of its tables.
-use Rattle.std.proofs.Common.{◌≡◌, ℕ, zero, suc, ◌+◌, ◌≤◌, Bool, true, false, ◌&&◌, List, [], ◌∷◌, ◌++◌, length, map, Option, Some, None, refl, ap, sym, ◌∙◌, subst, arith}
+use Rattle.std.proofs.Common.{◌≡◌, ℕ, zero, suc, ◌+◌, ◌≤◌, Bool, true, false, ◌&&◌, List, [], ◌∷◌, ◌++◌, length, map, Option, Some, None, option_map, refl, ap, sym, ◌∙◌, subst, arith}
 use Rattle.std.specs.Prelude.{if◌then◌else◌, nat_le, nat_lt, slice_get}
 use Rattle.std.proofs.lemmas.Bool.Decides.{nat_tests}
 use Rattle.std.proofs.lemmas.List.{append_assoc, map-append}
+use Rattle.std.proofs.lemmas.Option.{slice_get-map}
 use Rattle.psm_symbols.specs.Columns.{column_of}
 use Rattle.psm_token.specs.declared.place.Place.{Place}
 use Rattle.psm_scope.specs.Scopes.{Spelling, is_spelled}
 use Rattle.psm_scope.specs.Lookup.{index_named, named}
-use Rattle.psm_rules.specs.declared.fault.Fault.{Fault}
 use Rattle.psm_rules.specs.declared.rule.Rule.TheVariants as rule
 use Rattle.psm_rules.specs.CheckerScope.{CheckerScope, Columns}
 use Rattle.psm_rules.specs.Faults.{first_of}
@@ -29,16 +29,16 @@ use Rattle.psm_code.specs.TableRules.{are_in_turn}
 use Rattle.psm_resolved.specs.declared.file.ResolvedTable.{ResolvedTable}
 use Rattle.psm_resolve_expr.specs.Exprs.{number_of}
 use Rattle.psm_resolve_expr.specs.ResolverScope.{ResolverScope, table_at}
-use Rattle.psm_resolve.specs.Files.{foreign_keys, in_file, key_to, own_reference, own_references, references_from, references_in, references_of, resolve_table, rule_reference, target_of}
+use Rattle.psm_resolve.specs.Files.{foreign_keys, in_file, key_to, own_reference, own_references, references_from, references_of, resolve_table, rule_reference, target_of}
 use Rattle.psm_resolve.specs.SymbolTables.{known_symbols}
 use Rattle.psm_typing.specs.TypingContext.{Each}
-use Rattle.psm_wellformed.specs.Files.{NoFault, WellFormedKey}
+use Rattle.psm_wellformed.specs.Files.{WellFormedKey}
 use Rattle.psm_checker_sound.proofs.Bodies.{FileParts}
 use Rattle.psm_checker_sound.proofs.DeclaredOnce.{each_append}
 use Rattle.psm_checker_sound.proofs.Faultless.{each-as, none-each, none-first}
 use Rattle.psm_checker_sound.proofs.Flags.{at-end, both-hold}
 use Rattle.psm_checker_sound.proofs.Keys.{IsList, IsNamed, OwnNamed, listed, one-name}
-use Rattle.psm_checker_sound.proofs.NewNames.{AreNew, Knows, declared-new, first_in, knows-more, names-new}
+use Rattle.psm_checker_sound.proofs.NewNames.{AreNew, Knows, declared-new, knows-more, names-new}
 use Rattle.psm_checker_sound.proofs.Referable.{Placed}
 use Rattle.psm_checker_sound.proofs.References.{IsMeant, IsReferable, are-meant, fits, table-referable}
 use Rattle.psm_checker_sound.proofs.SymbolTables.{table_pair, tables-placed}
@@ -56,13 +56,13 @@ record IsFound (i : ℕ) (m : Spelling) (ys zs : List TableTree) (to : Referred)
   below : suc place ≤ length ys
   is : to ≡ referred_of table
 
+inside : {A : Type 0} (a b : A) → Some a ≡ Some b → a ≡ b
+inside a b h = cc
+
 found : (i : ℕ) (m : Spelling) (ys zs : List TableTree) (to : Referred) → named m (map referred_pair ys) ≡ Some to → IsFound i m ys zs to
 found i m [] zs to h = absurd cc
 found i m (y ∷ ys) zs to h = by (is_spelled m y.name.name) refl h (found (suc i) m ys zs to)
   where
-    inside : (a b : Referred) → Some a ≡ Some b → b ≡ a
-    inside a b h = cc
-
     by : (b : Bool) → is_spelled m y.name.name ≡ b → (if b then Some (referred_of y) else named m (map referred_pair ys)) ≡ Some to → (named m (map referred_pair ys) ≡ Some to → IsFound (suc i) m ys zs to) → IsFound i m (y ∷ ys) zs to
     by true is h later =
         let e : i ≡ i + 0 = omega arith in record {
@@ -71,7 +71,7 @@ found i m (y ∷ ys) zs to h = by (is_spelled m y.name.name) refl h (found (suc 
           at = ap (λ b. if b then Some (i, columns_of (table_elements y)) else index_named (suc i) m (map table_pair (ys ++ zs))) is ∙ ap (λ k. Some (k, columns_of (table_elements y))) e;
           there = refl;
           below = omega arith;
-          is = inside (referred_of y) to h;
+          is = sym (inside (referred_of y) to h);
         }
     by false is h later =
         let l : IsFound (suc i) m ys zs to = later h in
@@ -90,20 +90,11 @@ there-front (y ∷ xs) ys zero x h = h
 there-front (y ∷ xs) ys (suc i) x h = there-front xs ys i x h
 
 there-mapped : {A B : Type 0} (f : A → B) (xs : List A) (i : ℕ) (x : A) → slice_get xs i ≡ Some x → slice_get (map f xs) i ≡ Some (f x)
-there-mapped f [] i x h = absurd cc
-there-mapped f (y ∷ xs) zero x h = ap (λ o. f_in f o) h
-  where
-    f_in : {A B : Type 0} → (A → B) → Option A → Option B
-    f_in f None = None
-    f_in f (Some a) = Some (f a)
-there-mapped f (y ∷ xs) (suc i) x h = there-mapped f xs i x h
+there-mapped f xs i x h = slice_get-map f xs i ∙ ap (option_map f) h
 
 each-at : {A : Type 0} (P : A → Type 0) (xs : List A) (i : ℕ) (x : A) → Each P xs → slice_get xs i ≡ Some x → P x
 each-at P [] i x h is = absurd cc
 each-at P (y ∷ xs) zero x h is = subst P (inside y x is) h.0
-  where
-    inside : (a b : _) → Some a ≡ Some b → a ≡ b
-    inside a b h = cc
 each-at P (y ∷ xs) (suc i) x h is = each-at P xs i x h.1 is
 
 -- ---- the constraints of the table t, with the tables before it and those after it
@@ -146,6 +137,7 @@ module _ (f : FileTree) (xs : List TableTree) (t : TableTree) (ts : List TableTr
       ap (index_named 0 r.table.name) (tables-placed f p.names ∙ ap (map table_pair) all) ∙ found.at ∙ ap (λ k. Some (k, columns_of (table_elements u))) here in
       let key : ForeignKey = record { from = length xs; columns = map (column_of columns) ms; to = found.place; target = map (column_of (columns_of (table_elements u))) meant.meant } in
       let is : key_to tables scope (length xs) cs r ≡ key =
+<<<<<<< HEAD
       ap (λ o. record { from = length xs; columns = cs; to = number_of o; target = target_of tables o r.columns }) at
       ∙ ap (λ l. record { from = length xs; columns = cs; to = found.place; target = l }) meant.places
       ∙ ap (λ l. record { from = length xs; columns = l; to = found.place; target = map (column_of (columns_of (table_elements u))) meant.meant }) are in
@@ -160,6 +152,19 @@ module _ (f : FileTree) (xs : List TableTree) (t : TableTree) (ts : List TableTr
           fits = fits t u own b ms meant.meant l meant.list meant.match (length xs) found.place;
         },
       )
+=======
+          ap (λ o. record { from = length xs; columns = cs; to = number_of o; target = target_of tables o r.columns }) at
+          ∙ ap (λ l. record { from = length xs; columns = cs; to = found.place; target = l }) meant.target
+          ∙ ap (λ l. record { from = length xs; columns = l; to = found.place; target = map (column_of (columns_of (table_elements u))) meant.meant }) are in
+      subst IsWell (sym is) (refl, record {
+        from = resolve_table t;
+        to = resolve_table u;
+        from_there = from-there;
+        to_there = there;
+        before = omega (arith, found.below, longer xs);
+        fits = fits t u own b ms meant.meant l meant.list meant.matched (length xs) found.place;
+      })
+>>>>>>> 963127b7066d509c151a07f205f2f75be4ded1b3
 
   well-by : (place : Place) (ms : List Identifier) (cs : List ℕ) (r : References) (o : Option Referred) → named r.table.name known ≡ o → IsList columns ms → cs ≡ map (column_of columns) ms → reference_to columns place (names_of ms) r o ≡ None
       → IsWell (key_to tables scope (length xs) cs r)

@@ -1,8 +1,7 @@
 -- A FOREIGN KEY constraint without a fault pairs columns of a table with columns of the one that it refers to, of one family each,
 -- which are its key or a UNIQUE list there.
-use Rattle.std.proofs.Common.{◌≡◌, ℕ, zero, suc, ◌+◌, Bool, true, false, ◌&&◌, not, nat_eq, List, [], ◌∷◌, length, map, Option, Some, None, option_map, refl, ap, sym, ◌∙◌, subst, arith, eq-eqb}
-use Rattle.std.specs.Prelude.{IsTrue, is_some, slice_get, zip}
-use Rattle.std.specs.Cmp.Lexicographic.{pointwise}
+use Rattle.std.proofs.Common.{◌≡◌, ℕ, zero, suc, Bool, true, ◌&&◌, not, nat_eq, List, [], ◌∷◌, length, map, Option, Some, None, option_map, refl, ap, sym, ◌∙◌, subst, arith, eq-eqb}
+use Rattle.std.specs.Prelude.{is_some, slice_get, zip}
 use Rattle.std.specs.List.{list_all, list_any}
 use Rattle.std.specs.Option.{IfSome}
 use Rattle.psm_symbols.specs.Columns.{column_of, place_in}
@@ -11,7 +10,6 @@ use Rattle.psm_value.specs.declared.sqltype.SqlType.{SqlType}
 use Rattle.psm_value.specs.declared.sqltype.SqlType.TheVariants as types
 use Rattle.psm_exprcode.specs.Kinds.{is_letter, letter_of}
 use Rattle.psm_scope.proofs.Lists.{both}
-use Rattle.psm_scope.specs.Scopes.{Spelling}
 use Rattle.psm_scope.specs.Lookup.{index_named, named}
 use Rattle.psm_rules.specs.declared.rule.Rule.TheVariants as rule
 use Rattle.psm_rules.specs.declared.shape.Family.{Family}
@@ -19,8 +17,8 @@ use Rattle.psm_rules.specs.declared.shape.Family.TheVariants.{Numbers, Texts}
 use Rattle.psm_rules.specs.BlockFaults.{same_names}
 use Rattle.psm_rules.specs.CheckerScope.{Columns}
 use Rattle.psm_rules.specs.Faults.{breaks_if}
-use Rattle.psm_rules.specs.FileFaults.{are_paired, columns_of, does_match, family_named, family_of_column, first_key, keys_of, lists_of, match_fault, names_of, referred_of, table_elements, table_fault, target_fault, target_names}
-use Rattle.psm_rules.specs.Shapes.{clashes, family_of, is_family, typed}
+use Rattle.psm_rules.specs.FileFaults.{are_paired, columns_of, does_match, family_named, family_of_column, first_key, keys_of, lists_of, match_fault, names_of, referred_of, table_elements, table_fault, target_fault}
+use Rattle.psm_rules.specs.Shapes.{clashes, family_of, typed}
 use Rattle.psm_rules.specs.StatementFaults.{several}
 use Rattle.psm_tree.specs.Names.{Names}
 use Rattle.psm_tree.specs.declared.name.Identifier.{Identifier}
@@ -28,24 +26,23 @@ use Rattle.psm_tree.specs.declared.file.Element.{Element}
 use Rattle.psm_tree.specs.declared.file.TableTree.{TableTree}
 use Rattle.psm_table.specs.Definition.{kinds_of}
 use Rattle.psm_table.specs.declared.definition.Column.{Column}
-use Rattle.psm_table.specs.declared.definition.ForeignKey.{ForeignKey}
 use Rattle.psm_table.specs.declared.definition.TableDef.{TableDef}
 use Rattle.psm_code.specs.Rules.{where_there}
 use Rattle.psm_code.specs.TableRules.{are_there, is_column_list, is_one_of_keys, pair_fault, pairs_up}
 use Rattle.psm_code.specs.declared.rule.CodeRule.TheVariants.{Range, Definition}
 use Rattle.psm_resolved.specs.declared.file.ResolvedTable.{ResolvedTable}
-use Rattle.psm_resolve.specs.Files.{key_among, key_in, key_of, places_in, resolve_table, target_of, uniques_from}
+use Rattle.psm_resolve.specs.Files.{key_in, places_in, resolve_table, target_of}
 use Rattle.psm_typing.specs.TypingContext.{Each}
 use Rattle.psm_wellformed.specs.Files.{NoFault}
 use Rattle.psm_checker_sound.specs.Agreement.{HaveTypes, letter_in}
 use Rattle.psm_checker_sound.proofs.Columns.{clear}
 use Rattle.psm_checker_sound.proofs.Faultless.{unbroken}
 use Rattle.psm_checker_sound.proofs.Flags.{both-hold, not-false}
-use Rattle.psm_checker_sound.proofs.Keys.{IsList, IsNamed, OwnNamed, list-places, list-there, listed}
+use Rattle.psm_checker_sound.proofs.Keys.{IsList, IsNamed, list-places, list-there, listed}
 use Rattle.psm_checker_sound.proofs.Names.{IsColumn, columns_placed}
 use Rattle.psm_checker_sound.proofs.Parts.{neither}
 use Rattle.psm_checker_sound.proofs.Queries.{named_placed}
-use Rattle.psm_checker_sound.proofs.Referable.{Has, OneKey, Placed, columns-placed, one-key, one-of-keys, places, places-named}
+use Rattle.psm_checker_sound.proofs.Referable.{Has, OneKey, Placed, columns-placed, one-key, one-of-keys, places-named}
 use Rattle.psm_checker_sound.proofs.Tables.{IsGood, IsKeyed, Parts, table-good, table-keyed, table-parts}
 
 -- ---- families and letters
@@ -142,12 +139,12 @@ table-referable t none =
 pub fits : (t u : TableTree) → IsReferable t → IsReferable u → (ms ns : List Identifier) → IsList (columns_of (table_elements t)) ms → IsList (columns_of (table_elements u)) ns
     → does_match (columns_of (table_elements t)) (names_of ms) (referred_of u) (names_of ns) ≡ true → (from to : ℕ)
     → NoFault (pair_fault (resolve_table t).definition (record { from = from; columns = map (column_of (columns_of (table_elements t))) ms; to = to; target = map (column_of (columns_of (table_elements u))) ns }) (resolve_table u).definition)
-fits t u a b ms ns l k match from to =
+fits t u a b ms ns l k matched from to =
     let own : Columns = columns_of (table_elements t) in
     let others : Columns = columns_of (table_elements u) in
     let f : TableDef = (resolve_table t).definition in
     let g : TableDef = (resolve_table u).definition in
-    let parts = both (are_paired own (names_of ms) others (names_of ns)) (list_any (same_names (names_of ns)) (lists_of (table_elements u))) match in
+    let parts = both (are_paired own (names_of ms) others (names_of ns)) (list_any (same_names (names_of ns)) (lists_of (table_elements u))) matched in
     let one : is_one_of_keys g (map (column_of others) ns) ≡ true = subst (Has (g.key ∷ g.unique)) (places-named others ns) (one-of-keys (table_elements u) b.placed b.key (names_of ns) parts.1) in
     clear (are_there f.columns (map (column_of own) ms) && are_there g.columns (map (column_of others) ns)) _ Range Definition
     (both-hold (are_there f.columns (map (column_of own) ms)) (are_there g.columns (map (column_of others) ns)) (list-there own f.columns ms a.keyed.long l.named) (list-there others g.columns ns b.keyed.long k.named))
@@ -162,8 +159,8 @@ fits t u a b ms ns l k match from to =
 pub record IsMeant (tables : List ResolvedTable) (to : ℕ) (own : Columns) (ms : List Identifier) (u : TableTree) (names : Option Names) : Type 0 where
   pub meant : List Identifier
   pub list : IsList (columns_of (table_elements u)) meant
-  pub match : does_match own (names_of ms) (referred_of u) (names_of meant) ≡ true
-  pub places : target_of tables (Some (to, columns_of (table_elements u))) names ≡ map (column_of (columns_of (table_elements u))) meant
+  pub matched : does_match own (names_of ms) (referred_of u) (names_of meant) ≡ true
+  pub target : target_of tables (Some (to, columns_of (table_elements u))) names ≡ map (column_of (columns_of (table_elements u))) meant
 
 pub are-meant : (tables : List ResolvedTable) (to : ℕ) (own : Columns) (place : Place) (ms : List Identifier) (u : TableTree) → slice_get tables to ≡ Some (resolve_table u) → IsReferable u → (names : Option Names)
     → match_fault own place (names_of ms) (referred_of u) names ≡ None → IsMeant tables to own ms u names
@@ -174,8 +171,8 @@ are-meant tables to own place ms u there b None none =
     record {
       meant = b.key.names;
       list = subst (λ o. IfSome o (IsList (columns_of es))) b.key.is b.keyed.key;
-      match = ap (λ l. does_match own (names_of ms) (referred_of u) (first_key l)) (sym b.key.only) ∙ not-false does (unbroken (not does) rule.KeyDoesNotMatch place parts.0);
-      places = ap key_in there ∙ ap (places_in (columns_of es)) b.key.is;
+      matched = ap (λ l. does_match own (names_of ms) (referred_of u) (first_key l)) (sym b.key.only) ∙ not-false does (unbroken (not does) rule.KeyDoesNotMatch place parts.0);
+      target = ap key_in there ∙ ap (places_in (columns_of es)) b.key.is;
     }
 are-meant tables to own place ms u there b (Some names) none =
     let columns : Columns = columns_of (table_elements u) in
@@ -184,6 +181,6 @@ are-meant tables to own place ms u there b (Some names) none =
     record {
       meant = several names;
       list = listed columns (several names) refl parts.1;
-      match = not-false does (unbroken (not does) rule.KeyDoesNotMatch place parts.0);
-      places = refl;
+      matched = not-false does (unbroken (not does) rule.KeyDoesNotMatch place parts.0);
+      target = refl;
     }

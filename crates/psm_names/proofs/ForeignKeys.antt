@@ -3,6 +3,7 @@ use Rattle.std.proofs.Common.{◌≡◌, ℕ, zero, suc, ◌+◌, false, List, [
 use Rattle.std.specs.Prelude.{slice_get}
 use Rattle.std.specs.List.{list_any}
 use Rattle.std.proofs.lemmas.List.{append_assoc}
+use Rattle.psm_symbols.specs.Columns.{column_of}
 use Rattle.psm_value.specs.declared.sqltype.SqlType.{SqlType}
 use Rattle.psm_scope.specs.Lookup.{index_named, named}
 use Rattle.psm_scope.specs.Scopes.{Spelling, is_spelled}
@@ -91,7 +92,7 @@ module _ (ts : List TableTree) (symbols : SymbolTable) where
   table_rule-alike from columns (table_rules.PrimaryKey names) = refl
   table_rule-alike from columns (table_rules.Unique names) = refl
   table_rule-alike from columns (table_rules.Check e) = refl
-  table_rule-alike from columns (table_rules.ForeignKey names r) = ap (λ l. l ∷ []) (key-resolved from columns (several names) _ r (columns-give symbols columns (several names)))
+  table_rule-alike from columns (table_rules.ForeignKey names r) = ap (λ l. l ∷ []) (key-resolved from columns (several names) (map (column_of columns) (several names)) r (columns-give symbols columns (several names)))
 
   -- ---- tables
 

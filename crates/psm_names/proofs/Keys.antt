@@ -12,7 +12,6 @@ use Rattle.psm_rules.specs.FileFaults.{column_names, columns_of, file_fault, no_
 use Rattle.psm_rules.specs.Faults.{breaks_if, first_of}
 use Rattle.psm_rules.specs.StatementFaults.{repeated_from, several}
 use Rattle.psm_rules.specs.Types.{type_of}
-use Rattle.psm_rules.specs.declared.fault.Fault.{Fault}
 use Rattle.psm_rules.specs.declared.rule.Rule.TheVariants as rule
 use Rattle.psm_tree.specs.declared.file.ColumnRule.{ColumnRule}
 use Rattle.psm_tree.specs.declared.file.ColumnRuleForm.{ColumnRuleForm}
