@@ -137,9 +137,8 @@ module _ (f : FileTree) (xs : List TableTree) (t : TableTree) (ts : List TableTr
       ap (index_named 0 r.table.name) (tables-placed f p.names ∙ ap (map table_pair) all) ∙ found.at ∙ ap (λ k. Some (k, columns_of (table_elements u))) here in
       let key : ForeignKey = record { from = length xs; columns = map (column_of columns) ms; to = found.place; target = map (column_of (columns_of (table_elements u))) meant.meant } in
       let is : key_to tables scope (length xs) cs r ≡ key =
-<<<<<<< HEAD
       ap (λ o. record { from = length xs; columns = cs; to = number_of o; target = target_of tables o r.columns }) at
-      ∙ ap (λ l. record { from = length xs; columns = cs; to = found.place; target = l }) meant.places
+      ∙ ap (λ l. record { from = length xs; columns = cs; to = found.place; target = l }) meant.target
       ∙ ap (λ l. record { from = length xs; columns = l; to = found.place; target = map (column_of (columns_of (table_elements u))) meant.meant }) are in
       subst IsWell (sym is) (
         refl,
@@ -149,22 +148,9 @@ module _ (f : FileTree) (xs : List TableTree) (t : TableTree) (ts : List TableTr
           from_there = from-there;
           to_there = there;
           before = omega (arith, found.below, longer xs);
-          fits = fits t u own b ms meant.meant l meant.list meant.match (length xs) found.place;
+          fits = fits t u own b ms meant.meant l meant.list meant.matched (length xs) found.place;
         },
       )
-=======
-          ap (λ o. record { from = length xs; columns = cs; to = number_of o; target = target_of tables o r.columns }) at
-          ∙ ap (λ l. record { from = length xs; columns = cs; to = found.place; target = l }) meant.target
-          ∙ ap (λ l. record { from = length xs; columns = l; to = found.place; target = map (column_of (columns_of (table_elements u))) meant.meant }) are in
-      subst IsWell (sym is) (refl, record {
-        from = resolve_table t;
-        to = resolve_table u;
-        from_there = from-there;
-        to_there = there;
-        before = omega (arith, found.below, longer xs);
-        fits = fits t u own b ms meant.meant l meant.list meant.matched (length xs) found.place;
-      })
->>>>>>> 963127b7066d509c151a07f205f2f75be4ded1b3
 
   well-by : (place : Place) (ms : List Identifier) (cs : List ℕ) (r : References) (o : Option Referred) → named r.table.name known ≡ o → IsList columns ms → cs ≡ map (column_of columns) ms → reference_to columns place (names_of ms) r o ≡ None
       → IsWell (key_to tables scope (length xs) cs r)
