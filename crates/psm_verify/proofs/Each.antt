@@ -1,5 +1,5 @@
 -- Lines of the items of a list, one after another.
-use Rattle.std.proofs.Common.{◌≡◌, ◌≢◌, ℕ, zero, suc, ◌+◌, ◌<◌, List, [], ◌∷◌, ◌++◌, length, get_or, drop, take, map, refl, ap, sym, subst, ◌∙◌, arith, Option, Some, Result, Ok, Err}
+use Rattle.std.proofs.Common.{◌≡◌, ℕ, zero, suc, ◌+◌, ◌<◌, List, [], ◌∷◌, ◌++◌, length, get_or, drop, take, map, refl, ap, sym, subst, ◌∙◌, arith, length-append, Option, None, Some, Result, Ok, Err}
 use Rattle.std.specs.List.{flat_map}
 use Rattle.std.proofs.Math.Seq.{drop-cons}
 use Rattle.std.proofs.lemmas.List.{take_more}
@@ -9,7 +9,7 @@ use Rattle.psm_verify.specs.declared.fault.Stop.{Stop}
 use Rattle.psm_verify.specs.Checked.{Finds, checked, item_at, item_in}
 use Rattle.psm_verify.proofs.Placing.{is_at}
 use Rattle.std.specs.Prelude.{option_map, slice_get}
-use Rattle.std.proofs.lemmas.Option.{get_or_from_slice_get, slice_get-map}
+use Rattle.std.proofs.lemmas.Option.{get_or_from_slice_get, slice_get-map, slice_get_past}
 use Rattle.psm_verify.proofs.LinesInOrder.{going_on, stop}
 
 pub rest_of : {A : Type 0} (xs : List A) (at : ℕ) (a : A) → at < length xs → a ≡ get_or xs at a → drop at xs ≡ a ∷ drop (at + 1) xs
@@ -67,17 +67,17 @@ module _ {A : Type 0} (f : List A → A → List (Option CodeRule)) (xs : List A
 
 -- ---- an item among those before it and itself
 
-pub got_before : {A : Type 0} (xs : List A) (x : A) (n : ℕ) → n ≢ length xs → slice_get (xs ++ x ∷ []) n ≡ slice_get xs n
-got_before [] x zero h = absurd (h refl)
-got_before [] x (suc n) h = refl
+pub got_before : {A : Type 0} (xs : List A) (x : A) (n : ℕ) → n < length xs → slice_get (xs ++ x ∷ []) n ≡ slice_get xs n
+got_before [] x n h = absurd (omega (arith, h))
 got_before (y ∷ xs) x zero h = refl
-got_before (y ∷ xs) x (suc n) h = got_before xs x n (λ e. h (ap suc e))
+got_before (y ∷ xs) x (suc n) h = got_before xs x n (omega (arith, h))
 
 pub got_last : {A : Type 0} (xs : List A) (x : A) (n : ℕ) → n ≡ length xs → slice_get (xs ++ x ∷ []) n ≡ Some x
-got_last xs x n h = ap (slice_get (xs ++ x ∷ [])) h ∙ last xs where
-  last : (ys : List A) → slice_get (ys ++ x ∷ []) (length ys) ≡ Some x
-  last [] = refl
-  last (y ∷ ys) = last ys
+got_last [] x n h = ap (slice_get (x ∷ [])) h
+got_last (y ∷ xs) x n h = ap (slice_get (y ∷ xs ++ x ∷ [])) h ∙ got_last xs x (length xs) refl
+
+pub got_past : {A : Type 0} (xs : List A) (x : A) (n : ℕ) → length xs < n → slice_get (xs ++ x ∷ []) n ≡ None
+got_past xs x n h = slice_get_past (xs ++ x ∷ []) n (omega (arith, h, length-append xs (x ∷ [])))
 
 -- ---- what is known of the items, one for one
 

@@ -1,7 +1,7 @@
 -- The FOREIGN KEY constraints of each table in turn.
-use Rattle.std.proofs.Common.{◌≡◌, ◌<◌, ◌≤◌, ℕ, zero, suc, ◌+◌, Bool, true, false, ◌&&◌, nat_eq, nat_le, nat_lt, List, [], ◌∷◌, cond, drop, get_or, length, take, refl, ap, sym, ◌∙◌, arith, eqb-false, eqb-true, le-leb, leb-true, length-take-le, ne_eqb, ⊎_elim, Option, Some, None}
+use Rattle.std.proofs.Common.{◌≡◌, ◌<◌, ◌≤◌, ℕ, zero, suc, ◌+◌, Bool, true, false, ◌&&◌, nat_eq, nat_le, nat_lt, List, [], ◌∷◌, cond, drop, get_or, length, take, refl, ap, sym, ◌∙◌, arith, length-take-le, ⊎_elim, Option, Some, None}
 use Rattle.std.specs.Prelude.{slice_get}
-use Rattle.std.proofs.lemmas.Bool.{cases_lt}
+use Rattle.std.proofs.lemmas.Bool.{cases_lt, eqb-false, eqb-true, le-leb, leb-true, ne_eqb}
 use Rattle.psm_num.proofs.Literals.{and_first, and_second}
 use Rattle.psm_table.specs.declared.definition.ForeignKey.{ForeignKey}
 use Rattle.psm_code.specs.declared.code.CodeTable.{CodeTable}
@@ -70,9 +70,9 @@ own_is n count [] h = refl
 own_is n count (key ∷ keys) h =
     let p = turns n count key keys h in
     by (nat_eq key.from n) (own_is n count keys (turn_from key.from n count keys p.rest p.low)) (λ e. none_from n key.from count keys p.rest (above n key.from p.low e)) refl where
-  by : (b : Bool) → own_of n keys ≡ keys_from keys n → (nat_eq key.from n ≡ false → keys_from keys n ≡ []) → nat_eq key.from n ≡ b → take (cond b (suc (count_of n keys)) 0) (key ∷ keys) ≡ cond b (key ∷ keys_from keys n) (keys_from keys n)
-  by true q none e = ap (λ l. key ∷ l) q
-  by false q none e = sym (none e)
+      by : (b : Bool) → own_of n keys ≡ keys_from keys n → (nat_eq key.from n ≡ false → keys_from keys n ≡ []) → nat_eq key.from n ≡ b → take (cond b (suc (count_of n keys)) 0) (key ∷ keys) ≡ cond b (key ∷ keys_from keys n) (keys_from keys n)
+      by true q none e = ap (λ l. key ∷ l) q
+      by false q none e = sym (none e)
 
 others_turn : (n count : ℕ) (keys : List ForeignKey) → are_in_turn n count keys ≡ true → are_in_turn (suc n) count (others_of n keys) ≡ true
 others_turn n count [] h = refl
@@ -80,9 +80,9 @@ others_turn n count (key ∷ keys) h =
     let p = turns n count key keys h in
     by (nat_eq key.from n) (others_turn n count keys (turn_from key.from n count keys p.rest p.low))
     (λ e. ap (λ b. (b && nat_lt key.from count) && are_in_turn key.from count keys) (le-leb (suc n) key.from (omega (arith, above n key.from p.low e))) ∙ ap (λ b. b && are_in_turn key.from count keys) p.high ∙ p.rest) refl where
-  by : (b : Bool) → are_in_turn (suc n) count (others_of n keys) ≡ true → (nat_eq key.from n ≡ false → are_in_turn (suc n) count (key ∷ keys) ≡ true) → nat_eq key.from n ≡ b → are_in_turn (suc n) count (drop (cond b (suc (count_of n keys)) 0) (key ∷ keys)) ≡ true
-  by true q later e = q
-  by false q later e = later e
+      by : (b : Bool) → are_in_turn (suc n) count (others_of n keys) ≡ true → (nat_eq key.from n ≡ false → are_in_turn (suc n) count (key ∷ keys) ≡ true) → nat_eq key.from n ≡ b → are_in_turn (suc n) count (drop (cond b (suc (count_of n keys)) 0) (key ∷ keys)) ≡ true
+      by true q later e = q
+      by false q later e = later e
 
 -- the others are those of all other tables
 others_are : (n m : ℕ) (keys : List ForeignKey) → n < m → keys_from (others_of n keys) m ≡ keys_from keys m
@@ -117,6 +117,6 @@ lines_of_own count keys own tables at h l e =
     let long : at ≡ length (take at tables) = sym (length-take-le at tables below) in
     let same : own ≡ keys_from keys (length (take at tables)) = e ∙ own_here count keys at h ∙ ap (keys_from keys) long in
     by (slice_get tables at) same where
-  by : (o : Option CodeTable) → own ≡ keys_from keys (length (take at tables)) → item_in (faults_of_table own) (take at tables) o ≡ item_in (table_faults keys) (take at tables) o
-  by None q = refl
-  by (Some t) q = ap (λ (k : List ForeignKey). faults_of_table k (take at tables) t) q
+      by : (o : Option CodeTable) → own ≡ keys_from keys (length (take at tables)) → item_in (faults_of_table own) (take at tables) o ≡ item_in (table_faults keys) (take at tables) o
+      by None q = refl
+      by (Some t) q = ap (λ (k : List ForeignKey). faults_of_table k (take at tables) t) q

@@ -87,16 +87,24 @@ fn foreign_key_fault(
 }
 
 // The table of a number, if it is this one or one before it.
-#[tactic(auto, using(crate::proofs::Each::got_before, crate::proofs::Each::got_last))]
+#[tactic(auto, using(crate::proofs::Each::got_before, crate::proofs::Each::got_last, crate::proofs::Each::got_past))]
 fn table_of<'a>(before: &'a [CodeTable], table: &'a CodeTable, number: u32) -> Option<&'a CodeTable>
     ensures { option_copied result ≡ slice_get (before.now ++ table.now ∷ []) number }
 {
     let place = number as usize;
-    if place == before.len() {
+    if place < before.len() {
+        table_at(before, place)
+    } else if place <= before.len() {
         Some(table)
     } else {
-        before.get(place)
+        None
     }
+}
+
+fn table_at(tables: &[CodeTable], place: usize) -> Option<&CodeTable>
+    ensures { option_copied result ≡ slice_get tables.now place }
+{
+    tables.get(place)
 }
 
 fn pair_fault(
@@ -124,11 +132,16 @@ fn pair_fault(
 fn pair_up(from: &TableDef, to: &TableDef, columns: &[u32], target: &[u32]) -> bool
     ensures { result ≡ (nat_eq (length columns.now) (length target.now) && list_all (rules.pairs_up from.now to.now) (zip columns.now target.now)) }
 {
-    columns.len() == target.len()
-        && columns
-            .iter()
-            .zip(target)
-            .all(|(column, place)| pairs_up(from, to, *column, *place))
+    columns.len() == target.len() && all_pair_up(from, to, columns, target)
+}
+
+fn all_pair_up(from: &TableDef, to: &TableDef, columns: &[u32], target: &[u32]) -> bool
+    ensures { result ≡ list_all (rules.pairs_up from.now to.now) (zip columns.now target.now) }
+{
+    columns
+        .iter()
+        .zip(target)
+        .all(|(column, place)| pairs_up(from, to, *column, *place))
 }
 
 fn pairs_up(from: &TableDef, to: &TableDef, column: u32, place: u32) -> bool

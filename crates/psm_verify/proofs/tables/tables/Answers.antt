@@ -1,9 +1,9 @@
-use Rattle.std.proofs.Common.{◌≡◌, Err, Ok, Some, ap, length, rules, arith, subst, sym, ◌∙◌}
+use Rattle.std.proofs.Common.{◌≡◌, Err, Some, ap, length, rules, arith, subst, sym, ◌∙◌}
 use Rattle.std.specs.Prelude.{slice_get}
 use Rattle.psm_code.specs.Rules.{is_same}
-use Rattle.psm_code.specs.TableRules.{faults_of_table, table_faults}
+use Rattle.psm_code.specs.TableRules.{table_faults}
 use Rattle.psm_keys.specs.Fresh.{is_new, with_new}
-use Rattle.psm_verify.specs.Checked.{Finds, checked, item_at}
+use Rattle.psm_verify.specs.Checked.{Finds, checked}
 use Rattle.psm_verify.specs.InTurn.{others_of, own_of}
 use Rattle.psm_verify.proofs.Each.{after_stop}
 use Rattle.psm_verify.proofs.Earlier.{got, new_there, step, table_passed}
