@@ -20,7 +20,7 @@ RULES = {
     "K19": "LEAVE takes the label of a statement around it, ITERATE that of a loop around it; write LABEL: before that",
     "K20": "a block declares each name once",
     "K21": "declare the variable in a block around, or look at the spelling; a column is known in statements over its table alone",
-    "K22": "look at the spelling; tables stand before CREATE MODULE",
+    "K22": "look at the spelling; tables stand before CREATE MODULE, and one that REFERENCES names before the table that refers to it",
     "K23": "declare the condition in a block around: DECLARE name CONDITION, or name it by SQLSTATE 'xxxxx'",
     "K24": "declare the cursor in a block around: DECLARE name CURSOR FOR SELECT ..",
     "K25": "no procedure has this name and this number of arguments; count the arguments, a ? for each OUT in a script",
@@ -43,6 +43,7 @@ RULES = {
     "K42": "CAST one of the NULLs: CAST(NULL AS INTEGER)",
     "K43": "in a script a ? stands for each OUT parameter, and a constant for each IN or INOUT parameter",
     "K44": "write each characteristic of a routine once",
+    "K45": "refer to the primary key or to a UNIQUE list of the table, in its order, with as many columns, numbers to numbers and texts to texts",
 }
 
 TOKENS = {

@@ -10,6 +10,7 @@ pub mod Orders
 pub mod Outside
 pub mod Paired
 pub mod Pairs
+pub mod Referring
 pub mod Returning
 pub mod StatementEquations
 pub mod TableKeys
