@@ -10,9 +10,7 @@ ghost use Rattle.psm_check_stmt.specs.KeyLists.{listed, spelled};
 use indexmap::IndexSet;
 use psm_check_expr::Key;
 use psm_scope::NameKey;
-use psm_tree::{
-    ColumnRule, ColumnRuleForm, Element, Identifier, Names, TableRuleForm, TableTree,
-};
+use psm_tree::{ColumnRule, ColumnRuleForm, Element, Identifier, Names, TableRuleForm, TableTree};
 use std::alloc::{AllocError, Global};
 use std::marker::Model;
 

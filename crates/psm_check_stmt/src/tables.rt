@@ -61,9 +61,8 @@ fn with_keys<'a>(keys: Keys<'a>, element: &'a Element) -> Keys<'a>
         Element::Column { name, rules, .. } => with_own_keys(keys, name, rules.items()),
         Element::Rule(rule) => match &rule.form {
             TableRuleForm::PrimaryKey(names) => with_key(keys, Key::Rule(names)),
-            TableRuleForm::Unique(_)
-            | TableRuleForm::Check(_)
-            | TableRuleForm::ForeignKey { .. } => keys,
+            TableRuleForm::Unique(_) | TableRuleForm::Check(_) | TableRuleForm::ForeignKey { .. } =>
+                keys,
         },
     }
 }

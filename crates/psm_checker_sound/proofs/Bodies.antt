@@ -9,7 +9,8 @@ use Rattle.psm_scope.specs.Routines.{procedure}
 use Rattle.psm_scope.specs.declared.known.Variable.{Variable}
 use Rattle.psm_rules.specs.declared.rule.Rule.TheVariants as rule
 use Rattle.psm_rules.specs.BlockFaults.{declared_once}
-use Rattle.psm_rules.specs.FileFaults.{body_context, is_function, kind_of_routine, parameter_variable, is_in, result_fault, table_fault, with_parameters, symbols_of}
+use Rattle.psm_rules.specs.Faults.{first_of}
+use Rattle.psm_rules.specs.FileFaults.{body_context, is_function, kind_of_routine, parameter_variable, is_in, references_faults, result_fault, table_fault, with_parameters, symbols_of}
 use Rattle.psm_rules.specs.StatementFaults.{Context, InProcedure, Within, repeated}
 use Rattle.psm_rules.specs.Types.{type_of}
 use Rattle.psm_rules.specs.CheckerScope as checker_scopes
@@ -146,6 +147,7 @@ stands-head e letters w v o d name us vs h = record {
 pub record FileParts (f : FileTree) : Type 0 where
   pub names : repeated rule.TableRepeated (map (λ t. t.name) f.tables) ≡ None
   pub tables : Each (λ t. table_fault t ≡ None) f.tables
+  pub references : first_of (references_faults [] f.tables) ≡ None
   pub routines : Each (IsAccepted (symbols_of f)) f.«module».routines
 
 abbrev pub typing_context_in : FileTree → Routine → List Shape → TypingContext

@@ -5,7 +5,7 @@ use Rattle.psm_exprcode.specs.declared.op.Letter.{Letter}
 use Rattle.psm_exprcode.specs.WellFormed.{is_type}
 use Rattle.psm_rules.specs.declared.rule.Rule.TheVariants as rule
 use Rattle.psm_rules.specs.Faults.{first_of}
-use Rattle.psm_rules.specs.FileFaults.{body_context, file_fault, routines_fault, table_fault, symbols_of}
+use Rattle.psm_rules.specs.FileFaults.{body_context, file_fault, references_faults, routines_fault, table_fault, symbols_of}
 use Rattle.psm_rules.specs.StatementFaults.{repeated}
 use Rattle.psm_tree.specs.declared.file.FileTree.{FileTree}
 use Rattle.psm_tree.specs.declared.file.Routine.{Routine}
@@ -32,6 +32,7 @@ use Rattle.psm_checker_sound.proofs.Blocks.{IsDone, statement-well_formed}
 use Rattle.psm_checker_sound.proofs.Bodies.{FileParts, body-below, body-stands, body_resolver_scope, typing_context_in}
 use Rattle.psm_checker_sound.proofs.Cursors.{as-many, cursors-count, cursors-numbered, each-numbered}
 use Rattle.psm_checker_sound.proofs.Faultless.{each-as, each-both, each-mapped, none-each, none-first}
+use Rattle.psm_checker_sound.proofs.ForeignKeys.{keys-in_turn, keys-well_formed}
 use Rattle.psm_checker_sound.proofs.Growing.{Grows, begins-here, statement-grows}
 use Rattle.psm_checker_sound.proofs.Heads.{head-modes, head-names, head-result, parameter-slots, slots-begin, slots-typed, type_in_slot}
 use Rattle.psm_checker_sound.proofs.NewNames.{AreNew, names-new, new-names}
@@ -49,13 +50,15 @@ pub file-accepted : (f : FileTree) → file_fault f ≡ None → FileAccepted f
 file-accepted f none =
     let names : Option _ = repeated rule.TableRepeated (map (λ t. t.name) f.tables) in
     let tables : Option _ = first_of (map table_fault f.tables) in
+    let references : Option _ = first_of (references_faults [] f.tables) in
     let routines : Option _ = first_of (routines_fault (symbols_of f) [] f.«module».routines) in
-    let one = none-first names (tables ∷ routines ∷ []) none in
-    let two = none-first tables (routines ∷ []) one.1 in
-    let three = none-first routines [] two.1 in
+    let one = none-first names (tables ∷ references ∷ routines ∷ []) none in
+    let two = none-first tables (references ∷ routines ∷ []) one.1 in
+    let three = none-first references (routines ∷ []) two.1 in
+    let four = none-first routines [] three.1 in
     record {
-      parts = record { names = one.0; tables = none-each table_fault f.tables two.0; routines = routines-accepted (symbols_of f) [] f.«module».routines three.0 };
-      apart = routines-apart (symbols_of f) [] f.«module».routines three.0;
+      parts = record { names = one.0; tables = none-each table_fault f.tables two.0; references = three.0; routines = routines-accepted (symbols_of f) [] f.«module».routines four.0 };
+      apart = routines-apart (symbols_of f) [] f.«module».routines four.0;
     }
 
 abbrev HasColumn : ResolvedTable → Type 0
@@ -144,6 +147,8 @@ file-well_formed f well none =
     record {
       names = new-names [] _ (subst (AreNew []) (table-names f.tables) (names-new rule.TableRepeated [] (map (λ t. t.name) f.tables) a.parts.names));
       tables = each-mapped WellFormedTable resolve_table f.tables (each-both TableStands (λ t. table_fault t ≡ None) (λ t. WellFormedTable (resolve_table t)) table-well_formed f.tables well.tables a.parts.tables);
+      turns = keys-in_turn f a.parts;
+      keys = keys-well_formed f a.parts;
       apart = routines-so_far (symbols_of f) (known_symbols f) f.«module».routines a.parts.routines a.apart;
       routines = each-mapped (WellFormedRoutine (resolved_file f)) (resolve_body f) f.«module».routines
           (each-both (IsAccepted (symbols_of f)) (λ r. StatementStands r.body) (λ r. WellFormedRoutine (resolved_file f) (resolve_body f r)) (routine-well_formed f a.parts) f.«module».routines a.parts.routines well.routines);

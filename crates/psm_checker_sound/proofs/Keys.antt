@@ -174,7 +174,7 @@ own-named columns (elements.Rule rule ∷ es) h = (tt, own-named columns es h)
 
 -- ---- the primary key
 
-one-name : (columns : Columns) (name : Identifier) → IsNamed columns name → IsList columns (name ∷ [])
+pub one-name : (columns : Columns) (name : Identifier) → IsNamed columns name → IsList columns (name ∷ [])
 one-name columns name h = record { some = refl; named = (h, tt); new = (refl, tt) }
 
 own-key : (columns : Columns) (name : Identifier) (rules : List ColumnRule) → IsNamed columns name → IfSome (own_key name rules) (IsList columns)
@@ -189,6 +189,7 @@ rule-key : (v : CheckerScope) (columns : Columns) (form : TableRuleForm) → tab
 rule-key v columns (table_rules.PrimaryKey names) none = listed columns (several names) refl none
 rule-key v columns (table_rules.Unique names) none = tt
 rule-key v columns (table_rules.Check e) none = tt
+rule-key v columns (table_rules.ForeignKey names to) none = tt
 
 element-key : (v : CheckerScope) (columns : Columns) (e : Element) → OwnNamed columns e → element_fault v columns e ≡ None → IfSome (element_key e) (IsList columns)
 element-key v columns (elements.Column name kind default rules) own none = own-key columns name rules own

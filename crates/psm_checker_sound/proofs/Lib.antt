@@ -68,5 +68,8 @@ pub mod SymbolTables
 pub mod Procedures
 pub mod Heads
 pub mod Bodies
+pub mod Referable
+pub mod References
+pub mod ForeignKeys
 pub mod Cursors
 pub mod Files

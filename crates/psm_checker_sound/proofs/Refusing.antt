@@ -42,11 +42,13 @@ own-none name (r ∷ rules) none = by r.form none (own-none name rules)
     by column_rules.PrimaryKey none later = absurd cc
     by column_rules.Unique none later = later none
     by (column_rules.Check e) none later = later none
+    by (column_rules.References to) none later = later none
 
 rule-none : (form : TableRuleForm) → rule_key form ≡ None → rule_keys form ≡ []
 rule-none (table_rules.PrimaryKey names) none = absurd cc
 rule-none (table_rules.Unique names) none = refl
 rule-none (table_rules.Check e) none = refl
+rule-none (table_rules.ForeignKey names to) none = refl
 
 element-none : (e : Element) → element_key e ≡ None → element_keys e ≡ []
 element-none (elements.Column name kind default rules) none = own-none name rules none
@@ -139,11 +141,13 @@ own-unique def place (r ∷ rules) h = each_append (IsUnique def) (own_unique pl
     by column_rules.PrimaryKey = tt
     by column_rules.Unique = (unique-one def place h, tt)
     by (column_rules.Check e) = tt
+    by (column_rules.References to) = tt
 
 rule-unique : (def : TableDef) (v : CheckerScope) (columns : Columns) (form : TableRuleForm) → length columns ≡ length def.columns → table_rule_fault v columns form ≡ None → Each (IsUnique def) (rule_unique columns form)
 rule-unique def v columns (table_rules.PrimaryKey names) long none = tt
 rule-unique def v columns (table_rules.Unique names) long none = (unique-list def columns (several names) long (listed columns (several names) refl none), tt)
 rule-unique def v columns (table_rules.Check e) long none = tt
+rule-unique def v columns (table_rules.ForeignKey names to) long none = tt
 
 there-below : {A : Type 0} (xs : List A) (i k : ℕ) → length xs ≡ i + suc k → is_there xs i ≡ true
 there-below [] i k h = absurd (none h)

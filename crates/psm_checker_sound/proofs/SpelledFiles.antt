@@ -32,7 +32,8 @@ unfolding FileGrammar.all_files
 plain_column_rule-says = says_or (says_seq anything anything (λ place second h k. tt))
     (says_or (says_seq anything anything (λ place second h k. tt))
     (says_or (says_image anything (λ place h. tt))
-    (says_seq anything (says_within expr-says) (λ place test h k. k))))
+    (says_or (says_seq anything (says_within expr-says) (λ place test h k. k))
+    (says_seq anything anything (λ place to h k. tt)))))
 
 column_rule-says : Says ColumnRuleStands FileGrammar.column_rule
 unfolding FileGrammar.all_files
@@ -46,7 +47,8 @@ plain_table_rule-says : Says (λ r. TableRuleStands r.form) FileGrammar.plain_ta
 unfolding FileGrammar.all_files
 plain_table_rule-says = says_or (says_seq anything anything (λ place names h k. tt))
     (says_or (says_seq anything anything (λ place names h k. tt))
-    (says_seq anything (says_within expr-says) (λ place test h k. k)))
+    (says_or (says_seq anything (says_within expr-says) (λ place test h k. k))
+    (says_seq anything anything (λ place p h k. tt))))
 
 table_rule-says : Says (λ r. TableRuleStands r.form) FileGrammar.table_rule
 unfolding FileGrammar.all_files

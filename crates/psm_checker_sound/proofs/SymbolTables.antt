@@ -36,7 +36,7 @@ use Rattle.psm_checker_sound.proofs.Tables.{table-good}
 
 -- ---- tables
 
-abbrev table_pair : TableTree → Spelling × Columns
+abbrev pub table_pair : TableTree → Spelling × Columns
 table_pair t = (t.name.name, columns_of (table_elements t))
 
 tables-seen : (symbols : SymbolTable) (ts : List TableTree) → (with_tables symbols ts).tables ≡ declared_all symbols.tables (map table_pair ts)
@@ -77,10 +77,14 @@ tables-typed : (ts : List TableTree) → Each (λ t. table_fault t ≡ None) ts 
 tables-typed [] h = tt
 tables-typed (t ∷ ts) h = ((table-good t h.0).typed, tables-typed ts h.1)
 
-pub are-tables : (f : FileTree) → repeated rule.TableRepeated (map (λ t. t.name) f.tables) ≡ None → Each (λ t. table_fault t ≡ None) f.tables → AreTables (known_symbols f).tables (map resolve_table f.tables)
-are-tables f none h =
+-- each table is known by its place
+pub tables-placed : (f : FileTree) → repeated rule.TableRepeated (map (λ t. t.name) f.tables) ≡ None → (known_symbols f).tables ≡ map table_pair f.tables
+tables-placed f none =
     let new : AreNew [] (map first_in (map table_pair f.tables)) = subst (AreNew []) (sym (table-names f.tables)) (names-new rule.TableRepeated [] (map (λ t. t.name) f.tables) none) in
-    subst (λ ps. AreTables ps (map resolve_table f.tables)) (sym (known-tables f ∙ declared-all [] [] (map table_pair f.tables) (λ n. refl) new)) (tables-typed f.tables h)
+    known-tables f ∙ declared-all [] [] (map table_pair f.tables) (λ n. refl) new
+
+pub are-tables : (f : FileTree) → repeated rule.TableRepeated (map (λ t. t.name) f.tables) ≡ None → Each (λ t. table_fault t ≡ None) f.tables → AreTables (known_symbols f).tables (map resolve_table f.tables)
+are-tables f none h = subst (λ ps. AreTables ps (map resolve_table f.tables)) (sym (tables-placed f none)) (tables-typed f.tables h)
 
 -- ---- functions
 

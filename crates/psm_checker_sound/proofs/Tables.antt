@@ -53,7 +53,7 @@ use Rattle.psm_checker_sound.proofs.Whole.{expr_accepted}
 -- ---- CHECKs, which see the columns of their table alone
 
 abbrev nowhere : TypingContext
-nowhere = record { file = record { tables = []; routines = [] }; routine = no_routine; shapes = [] }
+nowhere = record { file = record { tables = []; keys = []; routines = [] }; routine = no_routine; shapes = [] }
 
 check-agree : (name : Spelling) (columns : Columns) → Agree nowhere (alone name columns) (on_columns name columns)
 check-agree name columns = record { tables = refl; functions = refl; scopes = refl; row = refl; known_tables = tt; known_functions = tt; slots = tt }
@@ -78,6 +78,7 @@ module _ (name : Spelling) (columns : Columns) (types : List SqlType) (typed : H
   own-test r column_rules.PrimaryKey well none = refl
   own-test r column_rules.Unique well none = refl
   own-test r (column_rules.Check e) well none = one-test e well none
+  own-test r (column_rules.References to) well none = refl
 
   own-tests : (rules : List ColumnRule) → Each ColumnRuleStands rules → Each (λ r. column_rule_fault (alone name columns) r.form ≡ None) rules → AreTests (own_checks (on_columns name columns) rules)
   own-tests [] well none = refl
@@ -87,6 +88,7 @@ module _ (name : Spelling) (columns : Columns) (types : List SqlType) (typed : H
   rule-test (table_rules.PrimaryKey names) well none = refl
   rule-test (table_rules.Unique names) well none = refl
   rule-test (table_rules.Check e) well none = one-test e well none
+  rule-test (table_rules.ForeignKey names to) well none = refl
 
   element-tests : (e : Element) → ElementStands e → element_fault (alone name columns) columns e ≡ None → AreTests (checks_in (on_columns name columns) e)
   element-tests (elements.Column n kind default rules) well none =
@@ -112,12 +114,12 @@ as-long [] (c ∷ cs) h = absurd h
 as-long (p ∷ columns) [] h = absurd h
 as-long (p ∷ columns) (c ∷ cs) h = ap suc (as-long columns cs h.2)
 
-record Parts (t : TableTree) : Type 0 where
-  names : repeated rule.ColumnRepeated (column_names (table_elements t)) ≡ None
-  key : key_fault t.name (keys_of (table_elements t)) ≡ None
-  each : Each (λ e. element_fault (alone t.name.name (columns_of (table_elements t))) (columns_of (table_elements t)) e ≡ None) (table_elements t)
+pub record Parts (t : TableTree) : Type 0 where
+  pub names : repeated rule.ColumnRepeated (column_names (table_elements t)) ≡ None
+  pub key : key_fault t.name (keys_of (table_elements t)) ≡ None
+  pub each : Each (λ e. element_fault (alone t.name.name (columns_of (table_elements t))) (columns_of (table_elements t)) e ≡ None) (table_elements t)
 
-table-parts : (t : TableTree) → table_fault t ≡ None → Parts t
+pub table-parts : (t : TableTree) → table_fault t ≡ None → Parts t
 table-parts t none =
     let es : List Element = table_elements t in
     let faults : List (Option Fault) = map (element_fault (alone t.name.name (columns_of es)) (columns_of es)) es in
@@ -137,12 +139,14 @@ table-good t none =
     record { columns = are; typed = subst (λ cs. HaveTypes cs (kinds_of (resolve_table t).definition.columns)) (sym are) (columns-typed (key_of (columns_of es) es) 0 es (element-types t p)) }
 
 -- the key of a table is a list of its columns
-record IsKeyed (t : TableTree) : Type 0 where
-  long : length (columns_of (table_elements t)) ≡ length (resolve_table t).definition.columns
-  there : code.are_there (resolve_table t).definition.columns (resolve_table t).definition.key ≡ true
-  list : code.is_column_list (resolve_table t).definition.key ≡ true
+pub record IsKeyed (t : TableTree) : Type 0 where
+  pub long : length (columns_of (table_elements t)) ≡ length (resolve_table t).definition.columns
+  pub own : Each (OwnNamed (columns_of (table_elements t))) (table_elements t)
+  pub key : IfSome (key_among (table_elements t)) (IsList (columns_of (table_elements t)))
+  pub there : code.are_there (resolve_table t).definition.columns (resolve_table t).definition.key ≡ true
+  pub list : code.is_column_list (resolve_table t).definition.key ≡ true
 
-table-keyed : (t : TableTree) → Parts t → IsGood t → IsKeyed t
+pub table-keyed : (t : TableTree) → Parts t → IsGood t → IsKeyed t
 table-keyed t p g =
     let es : List Element = table_elements t in
     let columns : Columns = columns_of es in
@@ -150,7 +154,7 @@ table-keyed t p g =
     let long : length columns ≡ length def.columns = as-long columns def.columns g.typed in
     let own : Each (OwnNamed columns) es = subst (λ cs. Each (OwnNamed cs) es) (sym g.columns) (own-named (pairs_of es) es (λ n h. h)) in
     let key : IfSome (key_among es) (IsList columns) = key-listed (alone t.name.name columns) columns es own p.each in
-    record { long = long; there = key-there columns def.columns (key_among es) long key; list = has-key t.name es columns p.key key }
+    record { long = long; own = own; key = key; there = key-there columns def.columns (key_among es) long key; list = has-key t.name es columns p.key key }
 
 from-zero : (a b : ℕ) → a ≡ b → a ≡ 0 + b
 from-zero a b h = omega (arith, h)

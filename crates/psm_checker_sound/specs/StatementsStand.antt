@@ -94,11 +94,13 @@ ColumnRuleStands r = FormStands r.form
     FormStands column_rules.PrimaryKey = Unit {0}
     FormStands column_rules.Unique = Unit {0}
     FormStands (column_rules.Check e) = Tested e
+    FormStands (column_rules.References to) = Unit {0}
 
 abbrev pub TableRuleStands : TableRuleForm → Type 0
 TableRuleStands (table_rules.PrimaryKey names) = Unit {0}
 TableRuleStands (table_rules.Unique names) = Unit {0}
 TableRuleStands (table_rules.Check e) = Tested e
+TableRuleStands (table_rules.ForeignKey names to) = Unit {0}
 
 abbrev pub ElementStands : Element → Type 0
 ElementStands (elements.Column name kind default rules) = Each ColumnRuleStands rules

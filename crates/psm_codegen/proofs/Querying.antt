@@ -1,5 +1,5 @@
 -- Code of queries, of changes and of tables does what they do, since each of its expressions has the value of that for which it stands.
-use Rattle.std.proofs.Common.{◌≡◌, ℕ, zero, suc, true, List, [], ◌∷◌, map, slice_get, Option, Some, None, ap, refl, subst}
+use Rattle.std.proofs.Common.{◌≡◌, ℕ, zero, suc, Bool, true, List, [], ◌∷◌, map, slice_get, Option, Some, None, ap, refl, subst}
 use Rattle.std.proofs.lemmas.Option.{none-some, same_Some}
 use Rattle.std.specs.List.{list_all}
 use Rattle.psm_value.specs.declared.datum.Datum.{Datum}

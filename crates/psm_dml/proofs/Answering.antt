@@ -38,7 +38,7 @@ module _ (old new : List Contents) (t : ℕ) (c : Contents) (due : Contents → 
   ends_told fault what h g f = at_c (Err what) (told fault what h g f)
 
   -- a condition of the table
-  borne : (state : List ℕ) (what : DataFault) → due c ≡ Err (OfTable state) → Bears state c.def what → new ≡ old → Ends c (due c) old t new (Err what)
+  pub borne : (state : List ℕ) (what : DataFault) → due c ≡ Err (OfTable state) → Bears state c.def what → new ≡ old → Ends c (due c) old t new (Err what)
   borne state (told_as.Raised condition) e g f = (subst (λ d. IsDue c.def d condition) (sym e) g, f)
   borne state told_as.Memory e g f = f
 

@@ -35,7 +35,7 @@ pub changed_is : (f : Contents → Contents) (tables : List Contents) (t : ℕ) 
 changed_is f tables t c e = ap (λ o. put_table tables t (option_map f o)) e
 
 -- one that changes nothing
-set_same : (tables : List Contents) (t : ℕ) (c : Contents) → slice_get tables t ≡ Some c → slice_set tables t c ≡ tables
+pub set_same : (tables : List Contents) (t : ℕ) (c : Contents) → slice_get tables t ≡ Some c → slice_set tables t c ≡ tables
 set_same [] zero c e = refl
 set_same [] (suc t) c e = refl
 set_same (x ∷ xs) zero c e = let same : x ≡ c = cc in ap (λ y. y ∷ xs) (sym same)

@@ -1,5 +1,5 @@
 -- How a statement with new rows ends.
-use Rattle.std.proofs.Common.{◌≡◌, ℕ, ◌+◌, ◌<◌, ◌≤◌, List, [], ◌++◌, length, Bool, true, false, refl, ap, sym, subst, ◌∙◌, Option, Some, Result, Ok, Err}
+use Rattle.std.proofs.Common.{◌≡◌, ℕ, ◌+◌, ◌<◌, ◌≤◌, List, [], ◌++◌, length, Bool, true, false, ◌&&◌, refl, ap, sym, subst, ◌∙◌, Option, Some, Result, Ok, Err}
 use Rattle.std.specs.Prelude.{IfSome, codes, slice_get, slice_set}
 use Rattle.psm_sqlstate.specs.declared.state.SqlState.{SqlState}
 use Rattle.psm_cond.specs.Condition.{Entries}
@@ -17,7 +17,7 @@ use Rattle.psm_table.specs.Rows.{IsAscending}
 use Rattle.psm_table.specs.Table.{most_rows, Contents}
 use Rattle.psm_tablecode.specs.Codes.{over}
 use Rattle.psm_tablecode.specs.Faults.{Tells}
-use Rattle.psm_dml.specs.Ends.{checked, schema_of, Bears, Ends, IsDue, Passes}
+use Rattle.psm_dml.specs.Ends.{checked, schema_of, schema_with, Bears, Ends, IsDue, Passes}
 use Rattle.psm_dml.specs.Rows.{changed_if, fit_in, with_rows, without_keys}
 use Rattle.psm_dml.proofs.Answering.{ends_borne, ends_done}
 use Rattle.psm_dml.proofs.Effects.{changed_is}
@@ -45,11 +45,11 @@ there P o c e h = subst (λ q. IfSome q P) e h
 pub said : (P : Contents → Type 0) (o : Option Contents) (c : Contents) → o ≡ Some c → P c → IfSome o P
 said P o c e h = subst (λ q. IfSome q P) (sym e) h
 
-module _ (checks : List (List Line)) (c : Contents) (keys : List (List Datum)) (rows : List Row)
+module _ (checks : List (List Line)) (keyed : List Row → Bool) (c : Contents) (keys : List (List Datum)) (rows : List Row)
     (legal : IsLegal (over []) (schema_of c.def checks) (without_keys keys c).rows) (few : length (without_keys keys c).rows + length rows ≤ most_rows)
     (old new : List Contents) (t : ℕ) (here : slice_get old t ≡ Some c) where
   abbrev pub due : Contents → Result Changed Failure
-  due x = counting (length rows) (ended (over []) (schema_of x.def checks) ((without_keys keys x).rows ++ rows))
+  due x = counting (length rows) (ended (over []) (schema_with keyed x.def checks) ((without_keys keys x).rows ++ rows))
 
   abbrev passed : Result Bool SqlState
   passed = rows_pass (over []) checks (in_order c.def.key rows)
@@ -57,9 +57,9 @@ module _ (checks : List (List Line)) (c : Contents) (keys : List (List Datum)) (
   fault_step : (p : Result Bool SqlState) (condition : Entries) → passed ≡ p → IsDue c.def (checked p) condition → IsDue c.def (due c) condition
   fault_step (Ok true) condition e h = absurd h
   fault_step (Ok false) condition e h =
-      subst (λ r. IsDue c.def (counting (length rows) r) condition) (sym (ends_false (over []) checks (without_keys keys c) rows legal few e)) h
+      subst (λ r. IsDue c.def (counting (length rows) r) condition) (sym (ends_false (over []) checks keyed (without_keys keys c) rows legal few e)) h
   fault_step (Err s) condition e h =
-      subst (λ r. IsDue c.def (counting (length rows) r) condition) (sym (ends_raised (over []) checks (without_keys keys c) rows legal few s e)) h
+      subst (λ r. IsDue c.def (counting (length rows) r) condition) (sym (ends_raised (over []) checks keyed (without_keys keys c) rows legal few s e)) h
 
   fault_ends : (what : DataFault) → Passes c.def passed (Err what) → new ≡ old → Ends c (due c) old t new (Err what)
   fault_ends (told_as.Raised condition) h f = (fault_step passed condition refl h, f)
@@ -69,24 +69,27 @@ module _ (checks : List (List Line)) (c : Contents) (keys : List (List Datum)) (
   finished_fault what h f = said (λ x. Ends x (due x) old t new (Err what)) (slice_get old t) c here (fault_ends what h f)
 
   module _ (up : IsAscending c.def.key (without_keys keys c).rows) (pass : passed ≡ Ok true) where
-    pub finished_broken : (what : DataFault) → false ≡ fit_in rows (without_keys keys c) → Bears (codes "23000") c.def what → new ≡ old → IfSome (slice_get old t) (λ x. Ends x (due x) old t new (Err what))
-    finished_broken what e h f =
-        ends_borne old new t c due here (codes "23000") what (ap (counting (length rows)) (ends_broken (over []) checks (without_keys keys c) rows legal few up pass (sym e))) h f
+    abbrev pub may : Bool
+    may = fit_in rows (without_keys keys c) && keyed (with_rows rows (without_keys keys c)).rows
 
-    pub finished_ok : true ≡ fit_in rows (without_keys keys c) → new ≡ changed_if (Ok true) (λ x. with_rows rows (without_keys keys x)) old t → IfSome (slice_get old t) (λ x. Ends x (due x) old t new (Ok (length rows)))
+    pub finished_broken : (what : DataFault) → false ≡ may → Bears (codes "23000") c.def what → new ≡ old → IfSome (slice_get old t) (λ x. Ends x (due x) old t new (Err what))
+    finished_broken what e h f =
+        ends_borne old new t c due here (codes "23000") what (ap (counting (length rows)) (ends_broken (over []) checks keyed (without_keys keys c) rows legal few up pass (sym e))) h f
+
+    pub finished_ok : true ≡ may → new ≡ changed_if (Ok true) (λ x. with_rows rows (without_keys keys x)) old t → IfSome (slice_get old t) (λ x. Ends x (due x) old t new (Ok (length rows)))
     finished_ok e f =
         ends_done old new t c due here (with_rows rows (without_keys keys c)).rows (length rows)
-        (ap (counting (length rows)) (ends_ok (over []) checks (without_keys keys c) rows legal few up pass (sym e)))
+        (ap (counting (length rows)) (ends_ok (over []) checks keyed (without_keys keys c) rows legal few up pass (sym e)))
         (f ∙ changed_is (λ x. with_rows rows (without_keys keys x)) old t c here ∙ ap (λ x. slice_set old t x) (rows_are rows (without_keys keys c)))
 
 -- ---- INSERT
 
-module _ (checks : List (List Line)) (c : Contents) (rows stored : List Row) (old new : List Contents) (t : ℕ) (here : slice_get old t ≡ Some c) where
+module _ (checks : List (List Line)) (keyed : List Row → Bool) (c : Contents) (rows stored : List Row) (old new : List Contents) (t : ℕ) (here : slice_get old t ≡ Some c) where
   abbrev pub insertion : Contents → Result Changed Failure
-  insertion x = inserted (over []) (schema_of x.def checks) rows x.rows
+  insertion x = inserted (over []) (schema_with keyed x.def checks) rows x.rows
 
   abbrev go : List Row → Result Changed Failure
-  go more = counting (length more) (ended (over []) (schema_of c.def checks) (c.rows ++ more))
+  go more = counting (length more) (ended (over []) (schema_with keyed c.def checks) (c.rows ++ more))
 
   pub insert_raises : (s : SqlState) → stored_rows (kinds_of c.def.columns) rows ≡ Err s → insertion c ≡ Err (Raised s)
   insert_raises s e = ap (λ r. then_of r go) e
@@ -95,11 +98,11 @@ module _ (checks : List (List Line)) (c : Contents) (rows stored : List Row) (ol
   insert_as e = ap (λ r. then_of r go) e
 
   pub insert_full : stored_rows (kinds_of c.def.columns) rows ≡ Ok stored → most_rows < length (c.rows ++ stored) → insertion c ≡ Err (OfTable (codes "X0002"))
-  insert_full e l = insert_as e ∙ ap (counting (length stored)) (too_many (over []) (schema_of c.def checks) (c.rows ++ stored) l)
+  insert_full e l = insert_as e ∙ ap (counting (length stored)) (too_many (over []) (schema_with keyed c.def checks) (c.rows ++ stored) l)
 
   pub insert_ends : (result : Result ℕ DataFault) → stored_rows (kinds_of c.def.columns) rows ≡ Ok stored
-      → IfSome (slice_get old t) (λ x. Ends x (counting (length stored) (ended (over []) (schema_of x.def checks) ((without_keys [] x).rows ++ stored))) old t new result)
+      → IfSome (slice_get old t) (λ x. Ends x (counting (length stored) (ended (over []) (schema_with keyed x.def checks) ((without_keys [] x).rows ++ stored))) old t new result)
       → IfSome (slice_get old t) (λ x. Ends x (insertion x) old t new result)
   insert_ends result e h =
-      let ended_so = there (λ x. Ends x (counting (length stored) (ended (over []) (schema_of x.def checks) ((without_keys [] x).rows ++ stored))) old t new result) (slice_get old t) c here h in
+      let ended_so = there (λ x. Ends x (counting (length stored) (ended (over []) (schema_with keyed x.def checks) ((without_keys [] x).rows ++ stored))) old t new result) (slice_get old t) c here h in
       said (λ x. Ends x (insertion x) old t new result) (slice_get old t) c here (subst (λ d. Ends c d old t new result) (sym (insert_as e)) ended_so)

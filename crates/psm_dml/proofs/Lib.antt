@@ -8,6 +8,7 @@ pub mod Finishing
 pub mod Holding
 pub mod InPlace
 pub mod Judging
+pub mod KeyTesting
 pub mod Moved
 pub mod Placed
 pub mod Places

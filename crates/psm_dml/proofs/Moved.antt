@@ -1,5 +1,5 @@
 -- UPDATE of the row that has a key.
-use Rattle.std.proofs.Common.{◌≡◌, ℕ, ◌+◌, ◌≤◌, List, [], ◌∷◌, ◌++◌, length, Bool, false, refl, ap, sym, subst, ◌∙◌, Option, Some, None, Result, Ok, Err}
+use Rattle.std.proofs.Common.{◌≡◌, ℕ, ◌+◌, ◌≤◌, List, [], ◌∷◌, ◌++◌, length, Bool, true, false, refl, ap, sym, subst, ◌∙◌, Option, Some, None, Result, Ok, Err}
 use Rattle.std.specs.Prelude.{All, IfSome, cond, map, slice_get, if◌then◌else◌}
 use Rattle.std.specs.List.{cons_option}
 use Rattle.std.specs.Ordering.{is_eq}
@@ -26,7 +26,7 @@ use Rattle.psm_table.proofs.Undo.{after_equal}
 use Rattle.psm_tablecode.specs.Codes.{over}
 use Rattle.psm_dml.specs.Changes.{changing, row_set, set_of}
 use Rattle.psm_dml.specs.declared.planning.Change.{Change}
-use Rattle.psm_dml.specs.Ends.{schema_of, Ends, EndsAt, EndsAtRow, IsDue}
+use Rattle.psm_dml.specs.Ends.{schema_of, schema_with, Ends, EndsAt, EndsAtRow, IsDue}
 use Rattle.psm_dml.specs.Rows.{without_keys, IsWhole}
 use Rattle.psm_value.specs.Answer.{Gives}
 use Rattle.psm_value.specs.declared.fault.ValueFault.{ValueFault}
@@ -90,16 +90,16 @@ module _ (columns : List ℕ) (key : List Datum) where
 
 -- ---- how the statement ends
 
-module _ (checks : List (List Line)) (sets : List set_code.SetItem) (vars : List Datum) where
+module _ (checks : List (List Line)) (among : List Row → Bool) (sets : List set_code.SetItem) (vars : List Datum) where
   abbrev pub moving_of : Contents → Row → Result Moved Failure
-  moving_of x row = updated_at (over vars) (over []) (schema_of x.def checks) (map set_of sets) row x.rows
+  moving_of x row = updated_at (over vars) (over []) (schema_with among x.def checks) (map set_of sets) row x.rows
 
   module _ (c : Contents) (key : List Datum) (row : Row) (here : keyed c key ≡ Some row) where
     abbrev make : Row → Result Row SqlState
     make = row_set vars c.def sets
 
     abbrev go : Row → Result Moved Failure
-    go new = moving (has_moved c.def row new) (ended (over []) (schema_of c.def checks) ((without_keys (values_at c.def.key row ∷ []) c).rows ++ new ∷ []))
+    go new = moving (has_moved c.def row new) (ended (over []) (schema_with among c.def checks) ((without_keys (values_at c.def.key row ∷ []) c).rows ++ new ∷ []))
 
     raised_step : (s : SqlState) (m : Result Row SqlState) → mapped (λ new. record { key = values_at c.def.key row; made = new }) m ≡ (let r : Result Change SqlState = Err s in r) → then_of m go ≡ Err (Raised s)
     raised_step s (Ok new) e = cc
@@ -144,12 +144,12 @@ module _ (checks : List (List Line)) (sets : List set_code.SetItem) (vars : List
       move_whole = changed_whole checks c (by_key c.def.key key) (whatever c.def.key key) make table.ascend (d ∷ []) walk (λ row new p f. row_set_whole c.def vars sets row new p f) table.fit
 
       abbrev ending : Result (List Row) Failure
-      ending = ended (over []) (schema_of c.def checks) ((without_keys (d.key ∷ []) c).rows ++ d.made ∷ [])
+      ending = ended (over []) (schema_with among c.def checks) ((without_keys (d.key ∷ []) c).rows ++ d.made ∷ [])
 
       move_as : moving_of c row ≡ moving (has_moved c.def row d.made) ending
       move_as =
           ap (λ r. then_of r go) made
-          ∙ ap (λ (k : List Datum). moving (has_moved c.def row d.made) (ended (over []) (schema_of c.def checks) ((without_keys (k ∷ []) c).rows ++ d.made ∷ []))) (key_step (make row) d e)
+          ∙ ap (λ (k : List Datum). moving (has_moved c.def row d.made) (ended (over []) (schema_with among c.def checks) ((without_keys (k ∷ []) c).rows ++ d.made ∷ []))) (key_step (make row) d e)
 
       module _ (old new : List Contents) (t : ℕ) (there : slice_get old t ≡ Some c) where
         done_step : (r : Result (List Row) Failure) (b : Bool) (n : ℕ) → Ends c (counting 1 r) old t new (Ok n) → EndsAt c (moving b r) old t new (Ok b)
@@ -168,16 +168,16 @@ module _ (checks : List (List Line)) (sets : List set_code.SetItem) (vars : List
 
         abbrev Finished : List (List Datum) → List Row → Result ℕ DataFault → Type 0
         Finished keys rows result =
-            IfSome (slice_get old t) (λ x. Ends x (counting (length rows) (ended (over []) (schema_of x.def checks) ((without_keys keys x).rows ++ rows))) old t new result)
+            IfSome (slice_get old t) (λ x. Ends x (counting (length rows) (ended (over []) (schema_with among x.def checks) ((without_keys keys x).rows ++ rows))) old t new result)
 
         abbrev Answer : Result Bool DataFault → Type 0
         Answer result = IfSome (slice_get old t) (λ x. EndsAtRow x (moving_of x) (keyed x key) old t new result)
 
         ends_so : (keys : List (List Datum)) (rows : List Row) (result : Result ℕ DataFault) → keys ≡ d.key ∷ [] → rows ≡ d.made ∷ [] → Finished keys rows result → Ends c (counting 1 ending) old t new result
         ends_so keys rows result k r h =
-            let ended_so = there_is (λ x. Ends x (counting (length rows) (ended (over []) (schema_of x.def checks) ((without_keys keys x).rows ++ rows))) old t new result) (slice_get old t) c there h in
-            subst (λ ks. Ends c (counting 1 (ended (over []) (schema_of c.def checks) ((without_keys ks c).rows ++ d.made ∷ []))) old t new result) k
-            (subst (λ rs. Ends c (counting (length rs) (ended (over []) (schema_of c.def checks) ((without_keys keys c).rows ++ rs))) old t new result) r ended_so)
+            let ended_so = there_is (λ x. Ends x (counting (length rows) (ended (over []) (schema_with among x.def checks) ((without_keys keys x).rows ++ rows))) old t new result) (slice_get old t) c there h in
+            subst (λ ks. Ends c (counting 1 (ended (over []) (schema_with among c.def checks) ((without_keys ks c).rows ++ d.made ∷ []))) old t new result) k
+            (subst (λ rs. Ends c (counting (length rs) (ended (over []) (schema_with among c.def checks) ((without_keys keys c).rows ++ rs))) old t new result) r ended_so)
 
         answer : (result : Result Bool DataFault) → EndsAt c (moving (has_moved c.def row d.made) ending) old t new result → Answer result
         answer result h =
@@ -210,13 +210,3 @@ module _ (checks : List (List Line)) (sets : List set_code.SetItem) (vars : List
   move_none c key old new t there none f =
       said (λ x. EndsAtRow x (moving_of x) (keyed x key) old t new (Ok false)) (slice_get old t) c there
       (let due = moving_of c in subst (λ o. EndsAtRow c due o old t new (Ok false)) none (refl, f))
-
--- ---- DELETE of the row that has a key
-
--- what is left of a legal table without the row of a key is legal
-pub legal_without : (checks : List (List Line)) (c : Contents) (key : List Datum) (o : Option Row) → keyed c key ≡ o → IsTable c → IsLegal (over []) (schema_of c.def checks) c.rows → IsLegal (over []) (schema_of c.def checks) (without_row key c).rows
-legal_without checks c key None e table h = subst (λ (x : Contents). IsLegal (over []) (schema_of x.def checks) x.rows) (sym (absent c key table e)) h
-legal_without checks c key (Some row) e table h =
-    let itself : Change = record { key = values_at c.def.key row; made = row } in
-    let same : row_order c.def.key key row ≡ Equal = equal_is (row_order c.def.key key row) (find_passes (λ r. is_eq (row_order c.def.key key r)) c.rows row e) in
-    subst (λ (x : Contents). IsLegal (over []) (schema_of x.def checks) x.rows) (sym (others row key c same)) (move_legal checks [] [] c key row e table itself refl h)

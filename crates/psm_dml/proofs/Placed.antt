@@ -1,5 +1,5 @@
 -- UPDATE by the rows that it makes, where these are put in the places of the old ones.
-use Rattle.std.proofs.Common.{◌≡◌, ℕ, ◌+◌, ◌<◌, ◌≤◌, List, [], ◌∷◌, ◌++◌, length, get_or, take, drop, true, refl, ap, sym, subst, ◌∙◌, Option, Some, None, Result, Ok, Err}
+use Rattle.std.proofs.Common.{◌≡◌, ℕ, ◌+◌, ◌<◌, ◌≤◌, Bool, List, [], ◌∷◌, ◌++◌, length, get_or, take, drop, true, refl, ap, sym, subst, ◌∙◌, Option, Some, None, Result, Ok, Err}
 use Rattle.std.specs.Prelude.{All, IfSome, IsSome, map, option_map, slice_get, slice_set}
 use Rattle.std.specs.List.{list_all}
 use Rattle.std.proofs.lemmas.List.{take-append-drop}
@@ -23,7 +23,7 @@ use Rattle.psm_tablecode.specs.Codes.{over}
 use Rattle.psm_tablecode.proofs.Collecting.{first_of}
 use Rattle.psm_dml.specs.Changes.{changing, keep_places, row_set}
 use Rattle.psm_dml.specs.declared.planning.Change.{Change}
-use Rattle.psm_dml.specs.Ends.{schema_of, Ends}
+use Rattle.psm_dml.specs.Ends.{schema_of, schema_with, Ends}
 use Rattle.psm_dml.specs.Rows.{keys_of_rows, with_rows, without_keys, AreInPlace}
 use Rattle.psm_dml.proofs.Effects.{changed_is}
 use Rattle.psm_dml.proofs.Finished.{said, there}
@@ -64,9 +64,9 @@ placed_tables rows old new t c here up e =
     e ∙ changed_is (with_rows rows) old t c here ∙ ap (λ x. slice_set old t x) (sym (in_place rows c up))
     ∙ sym (changed_is (λ x. with_rows rows (without_keys (keys_of_rows c.def rows) x)) old t c here)
 
-module _ (checks : List (List Line)) (rows : List Row) (old new : List Contents) (t : ℕ) (c : Contents) (here : slice_get old t ≡ Some c) (result : Result ℕ DataFault) where
+module _ (checks : List (List Line)) (among : List Row → Bool) (rows : List Row) (old new : List Contents) (t : ℕ) (c : Contents) (here : slice_get old t ≡ Some c) (result : Result ℕ DataFault) where
   abbrev EndsBy : (TableDef → List (List Datum)) → Contents → Type 0
-  EndsBy keys x = Ends x (counting (length rows) (ended (over []) (schema_of x.def checks) ((without_keys (keys x.def) x).rows ++ rows))) old t new result
+  EndsBy keys x = Ends x (counting (length rows) (ended (over []) (schema_with among x.def checks) ((without_keys (keys x.def) x).rows ++ rows))) old t new result
 
   -- the keys are those of the rows in the table that is there
   pub by_own_keys : IfSome (slice_get old t) (EndsBy (λ def. keys_of_rows c.def rows)) → IfSome (slice_get old t) (EndsBy (λ def. keys_of_rows def rows))
@@ -77,7 +77,7 @@ module _ (checks : List (List Line)) (rows : List Row) (old new : List Contents)
 
 -- ---- UPDATE
 
-module _ (checks : List (List Line)) (sets : List set_code.SetItem) (test : Option (List Line)) (vars : List Datum) (c : Contents) (table : IsTable c) (f : keep_places c.def sets ≡ true) where
+module _ (checks : List (List Line)) (among : List Row → Bool) (sets : List set_code.SetItem) (test : Option (List Line)) (vars : List Datum) (c : Contents) (table : IsTable c) (f : keep_places c.def sets ≡ true) where
   abbrev make : Row → Result Row SqlState
   make = row_set vars c.def sets
 
@@ -93,8 +93,8 @@ module _ (checks : List (List Line)) (sets : List set_code.SetItem) (test : Opti
   walk : walked (test_of (over vars) test) (changing c.def.key make) c.rows ≡ mapped (λ l. map change l) (walked (test_of (over vars) test) make c.rows)
   walk = walk_as c.def (test_of (over vars) test) make keeps c.rows
 
-  pub placed_raises : (s : SqlState) → walked (test_of (over vars) test) make c.rows ≡ Err s → update_of checks sets test vars c ≡ Err (Raised s)
-  placed_raises s e = update_raises checks sets test vars c table.ascend s (walk ∙ ap (mapped (λ l. map change l)) e)
+  pub placed_raises : (s : SqlState) → walked (test_of (over vars) test) make c.rows ≡ Err s → update_of checks among sets test vars c ≡ Err (Raised s)
+  placed_raises s e = update_raises checks among sets test vars c table.ascend s (walk ∙ ap (mapped (λ l. map change l)) e)
 
   keys_are : (rows : List Row) → keys_of_changes (map change rows) ≡ keys_of_rows c.def rows
   keys_are [] = refl
@@ -136,8 +136,8 @@ module _ (checks : List (List Line)) (sets : List set_code.SetItem) (test : Opti
     }
 
     pub placed_ends : (old new : List Contents) (t : ℕ) (result : Result ℕ DataFault) → slice_get old t ≡ Some c
-        → IfSome (slice_get old t) (λ x. Ends x (counting (length rows) (ended (over []) (schema_of x.def checks) ((without_keys (keys_of_rows x.def rows) x).rows ++ rows))) old t new result)
-        → IfSome (slice_get old t) (λ x. Ends x (update_of checks sets test vars x) old t new result)
+        → IfSome (slice_get old t) (λ x. Ends x (counting (length rows) (ended (over []) (schema_with among x.def checks) ((without_keys (keys_of_rows x.def rows) x).rows ++ rows))) old t new result)
+        → IfSome (slice_get old t) (λ x. Ends x (update_of checks among sets test vars x) old t new result)
     placed_ends old new t result here h =
-        update_ends checks sets test vars c table.ascend changes walk_is old new t (keys_of_rows c.def rows) rows result here (sym (keys_are rows)) (sym (rows_are rows))
-        (of_own_keys checks rows old new t c here result h)
+        update_ends checks among sets test vars c table.ascend changes walk_is old new t (keys_of_rows c.def rows) rows result here (sym (keys_are rows)) (sym (rows_are rows))
+        (of_own_keys checks among rows old new t c here result h)

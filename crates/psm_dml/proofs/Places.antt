@@ -8,8 +8,7 @@ use Rattle.std.proofs.lemmas.List.{append-nil}
 use Rattle.std.proofs.lemmas.List.Elements.{All-head, All-map, All-tail, filter-append}
 use Rattle.std.proofs.lemmas.List.Folds.{list_all-append}
 use Rattle.psm_value.specs.declared.datum.Datum.{Datum}
-use Rattle.psm_exprcode.specs.declared.op.Line.{Line}
-use Rattle.psm_table.specs.Changing.{all_apart, is_filled, IsLegal}
+use Rattle.psm_table.specs.Changing.{all_apart, is_filled, keep_rules}
 use Rattle.psm_table.specs.Key.{key_order, row_order, values_at}
 use Rattle.psm_table.specs.Rows.{put, row_with, rows_above, rows_below, without, IsAscending}
 use Rattle.psm_table.specs.Table.{namesake, with_row, without_row, Contents}
@@ -18,8 +17,6 @@ use Rattle.psm_table.proofs.KeyLaws.{key_order-refl, key_order-total}
 use Rattle.psm_table.proofs.Ordered.{in_order-ascending}
 use Rattle.psm_table.proofs.Rules.{first_true}
 use Rattle.psm_table.proofs.Searches.{less_before_equal, less_before_less, turned_greater}
-use Rattle.psm_tablecode.specs.Codes.{over}
-use Rattle.psm_dml.specs.Ends.{schema_of}
 use Rattle.psm_dml.specs.Rows.{fit_in, keys_of_rows, with_rows, without_all, without_keys, AreInPlace}
 use Rattle.psm_dml.proofs.Finishing.{ascending-all}
 use Rattle.psm_dml.proofs.InPlace.{changed_row}
@@ -166,18 +163,25 @@ still_named (x ∷ xs) rest row c up s =
     still_named xs rest row (with_row c x) (AllPairs-rest (Rises c.def.key) x (xs ++ row ∷ rest) up) (still_found c.def.key x (values_at c.def.key row) smaller c.rows s)
 
 -- the rules hold exactly where no null stands where it is refused
-pub in_place_fits : (checks : List (List Line)) (rows : List Row) (c : Contents) → AreInPlace c rows → IsAscending c.def.key c.rows → IsLegal (over []) (schema_of c.def checks) (without_keys (keys_of_rows c.def rows) c).rows
+pub in_place_fits : (rows : List Row) (c : Contents) → AreInPlace c rows → IsAscending c.def.key c.rows → keep_rules c.def (without_keys (keys_of_rows c.def rows) c).rows ≡ true
     → fit_in rows (without_keys (keys_of_rows c.def rows) c) ≡ list_all (is_filled c.def) rows
-in_place_fits checks rows c h up legal =
+in_place_fits rows c h up rules =
     let left : Contents = without_keys (keys_of_rows c.def rows) c in
     let rises : IsAscending c.def.key left.rows = ascending-all c.def.key (keys_of_rows c.def rows) c.rows up in
-    let together : AreIn rows left.rows left = all_in rows left.rows left (sym (in_order-ascending c.def.key left.rows rises)) rises legal.rules in
+    let together : AreIn rows left.rows left = all_in rows left.rows left (sym (in_order-ascending c.def.key left.rows rises)) rises rules in
     together.rules
     ∙ ap (λ b. list_all (is_filled c.def) (left.rows ++ rows) && b) h.apart
     ∙ and_true (list_all (is_filled c.def) (left.rows ++ rows))
     ∙ list_all-append (is_filled c.def) left.rows rows
-    ∙ ap (λ b. b && list_all (is_filled c.def) rows) (first_true (list_all (is_filled c.def) left.rows) (all_apart c.def left.rows) legal.rules)
+    ∙ ap (λ b. b && list_all (is_filled c.def) rows) (first_true (list_all (is_filled c.def) left.rows) (all_apart c.def left.rows) rules)
   where
     and_true : (a : Bool) → (a && true) ≡ a
     and_true true = refl
     and_true false = refl
+
+-- the same with a test of the rows that there are then
+pub in_place_may : (among : List Row → Bool) (rows : List Row) (c : Contents) → AreInPlace c rows → IsAscending c.def.key c.rows → keep_rules c.def (without_keys (keys_of_rows c.def rows) c).rows ≡ true
+    → (fit_in rows (without_keys (keys_of_rows c.def rows) c) && among (with_rows rows (without_keys (keys_of_rows c.def rows) c)).rows) ≡ (list_all (is_filled c.def) rows && among (with_rows rows c).rows)
+in_place_may among rows c h up rules =
+    ap (λ b. b && among (with_rows rows (without_keys (keys_of_rows c.def rows) c)).rows) (in_place_fits rows c h up rules)
+    ∙ ap (λ (x : Contents). list_all (is_filled c.def) rows && among x.rows) (in_place rows c h.ascend)

@@ -95,7 +95,7 @@ fits_keep c xs row e k =
     keep-new c.def xs row k
     ∙ ap (λ x. is_filled c.def row && x) (sym (all-in_order c.def.key (λ other. are_apart c.def other row) xs) ∙ ap (apart_from c.def row) (sym e))
 
-put_order : (c : Contents) (xs : List Row) (row : Row) → c.rows ≡ in_order c.def.key xs → IsAscending c.def.key c.rows → fits_in row c ≡ true → (with_row c row).rows ≡ in_order c.def.key (xs ++ row ∷ [])
+pub put_order : (c : Contents) (xs : List Row) (row : Row) → c.rows ≡ in_order c.def.key xs → IsAscending c.def.key c.rows → fits_in row c ≡ true → (with_row c row).rows ≡ in_order c.def.key (xs ++ row ∷ [])
 put_order c xs row e up f =
     let none : row_with c.def.key (values_at c.def.key row) c.rows ≡ None =
     not_taken c.def row c.rows (row_with c.def.key (values_at c.def.key row) c.rows) refl (second_true (is_filled c.def row) (apart_from c.def row c.rows) f) in

@@ -1,5 +1,5 @@
 -- UPDATE by the changes of the rows that meet its test.
-use Rattle.std.proofs.Common.{◌≡◌, ℕ, ◌+◌, ◌≤◌, List, [], ◌++◌, length, get_or, refl, ap, sym, subst, ◌∙◌, arith, Option, Some, Result, Ok, Err}
+use Rattle.std.proofs.Common.{◌≡◌, ℕ, ◌+◌, ◌≤◌, Bool, List, [], ◌++◌, length, get_or, refl, ap, sym, subst, ◌∙◌, arith, Option, Some, Result, Ok, Err}
 use Rattle.std.specs.Prelude.{All, IfSome, map, slice_get}
 use Rattle.std.proofs.lemmas.List.{length-map}
 use Rattle.std.proofs.lemmas.List.Elements.{All-map}
@@ -21,7 +21,7 @@ use Rattle.psm_table.proofs.Legal.{by_division, legal_left}
 use Rattle.psm_tablecode.specs.Codes.{over}
 use Rattle.psm_dml.specs.Changes.{changing, row_set, set_of}
 use Rattle.psm_dml.specs.declared.planning.Change.{Change}
-use Rattle.psm_dml.specs.Ends.{schema_of, Ends}
+use Rattle.psm_dml.specs.Ends.{schema_of, schema_with, Ends}
 use Rattle.psm_dml.specs.Rows.{without_keys, IsWhole}
 use Rattle.psm_dml.proofs.Assigned.{set_whole}
 use Rattle.psm_dml.proofs.Finished.{said, there}
@@ -86,9 +86,9 @@ module _ (checks : List (List Line)) (c : Contents) (ev : Evaluator (List Line))
 pub row_set_whole : (def : TableDef) (vars : List Datum) (sets : List set_code.SetItem) (row new : Row) → IsRow def row → row_set vars def sets row ≡ Ok new → IsWhole def new
 row_set_whole def vars sets row new fit e = set_whole def (over vars) (map set_of sets) row new (record { long = fit.long; families = fit.families }) e
 
-module _ (checks : List (List Line)) (sets : List set_code.SetItem) (test : Option (List Line)) (vars : List Datum) where
+module _ (checks : List (List Line)) (keyed : List Row → Bool) (sets : List set_code.SetItem) (test : Option (List Line)) (vars : List Datum) where
   abbrev pub update_of : Contents → Result Changed Failure
-  update_of x = updated (over vars) (over []) (schema_of x.def checks) (map set_of sets) test x.rows
+  update_of x = updated (over vars) (over []) (schema_with keyed x.def checks) (map set_of sets) test x.rows
 
   module _ (c : Contents) (up : IsAscending c.def.key c.rows) where
     abbrev make : Row → Result Row SqlState
@@ -98,7 +98,7 @@ module _ (checks : List (List Line)) (sets : List set_code.SetItem) (test : Opti
     walk = walked (test_of (over vars) test) (changing c.def.key make) c.rows
 
     abbrev go : Division → Result Changed Failure
-    go p = counting (length p.made) (ended (over []) (schema_of c.def checks) (p.left ++ p.made))
+    go p = counting (length p.made) (ended (over []) (schema_with keyed c.def checks) (p.left ++ p.made))
 
     pub update_raises : (s : SqlState) → walk ≡ Err s → update_of c ≡ Err (Raised s)
     update_raises s e =
@@ -106,16 +106,16 @@ module _ (checks : List (List Line)) (sets : List set_code.SetItem) (test : Opti
         ∙ ap (λ r. then_of (mapped (as_division c.def.key (over vars) test make c.rows) r) go) e
 
     module _ (cs : List Change) (w : walk ≡ Ok cs) where
-      update_as : update_of c ≡ counting (length (rows_of_changes cs)) (ended (over []) (schema_of c.def checks) ((without_keys (keys_of_changes cs) c).rows ++ rows_of_changes cs))
+      update_as : update_of c ≡ counting (length (rows_of_changes cs)) (ended (over []) (schema_with keyed c.def checks) ((without_keys (keys_of_changes cs) c).rows ++ rows_of_changes cs))
       update_as = ap (λ r. then_of r go) (division_is checks c (over vars) test make up cs w)
 
       pub update_ends : (old new : List Contents) (t : ℕ) (keys : List (List Datum)) (rows : List Row) (result : Result ℕ DataFault) → slice_get old t ≡ Some c → keys ≡ keys_of_changes cs → rows ≡ rows_of_changes cs
-          → IfSome (slice_get old t) (λ x. Ends x (counting (length rows) (ended (over []) (schema_of x.def checks) ((without_keys keys x).rows ++ rows))) old t new result)
+          → IfSome (slice_get old t) (λ x. Ends x (counting (length rows) (ended (over []) (schema_with keyed x.def checks) ((without_keys keys x).rows ++ rows))) old t new result)
           → IfSome (slice_get old t) (λ x. Ends x (update_of x) old t new result)
       update_ends old new t keys rows result here k r h =
-          let ended_so = there (λ x. Ends x (counting (length rows) (ended (over []) (schema_of x.def checks) ((without_keys keys x).rows ++ rows))) old t new result) (slice_get old t) c here h in
-          let due : counting (length rows) (ended (over []) (schema_of c.def checks) ((without_keys keys c).rows ++ rows)) ≡ update_of c =
-          ap (λ l. counting (length l) (ended (over []) (schema_of c.def checks) ((without_keys keys c).rows ++ l))) r
-          ∙ ap (λ l. counting (length (rows_of_changes cs)) (ended (over []) (schema_of c.def checks) ((without_keys l c).rows ++ rows_of_changes cs))) k
+          let ended_so = there (λ x. Ends x (counting (length rows) (ended (over []) (schema_with keyed x.def checks) ((without_keys keys x).rows ++ rows))) old t new result) (slice_get old t) c here h in
+          let due : counting (length rows) (ended (over []) (schema_with keyed c.def checks) ((without_keys keys c).rows ++ rows)) ≡ update_of c =
+          ap (λ l. counting (length l) (ended (over []) (schema_with keyed c.def checks) ((without_keys keys c).rows ++ l))) r
+          ∙ ap (λ l. counting (length (rows_of_changes cs)) (ended (over []) (schema_with keyed c.def checks) ((without_keys l c).rows ++ rows_of_changes cs))) k
           ∙ sym update_as in
           said (λ x. Ends x (update_of x) old t new result) (slice_get old t) c here (subst (λ d. Ends c d old t new result) due ended_so)

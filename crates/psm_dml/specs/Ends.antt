@@ -25,13 +25,17 @@ abbrev pub IsDue : {A : Type 0} → TableDef → Result A Failure → Entries �
 IsDue def (Ok a) condition = ⊥
 IsDue def (Err failure) condition = IsOf def failure condition
 
--- a table's definition, with CHECKs that are code, where no FOREIGN KEY constraint is asked
+-- a table's definition, with CHECKs that are code, and whether all FOREIGN KEY constraints hold if its rows are these
+abbrev pub schema_with : (List (List Datum) → Bool) → TableDef → List (List Line) → Schema (List Line)
+schema_with keyed def checks = record { def = def; checks = checks; keyed = keyed }
+
+-- the same where no constraint is asked
 abbrev pub schema_of : TableDef → List (List Line) → Schema (List Line)
-schema_of def checks = record { def = def; checks = checks; keyed = λ rows. true }
+schema_of = schema_with (λ rows. true)
 
 -- the same of table t, among tables for which these constraints are asked
 abbrev pub keyed_schema : List ForeignKey → List Contents → ℕ → TableDef → List (List Line) → Schema (List Line)
-keyed_schema keys tables t def checks = record { def = def; checks = checks; keyed = are_keyed_with keys (rows_in tables) t }
+keyed_schema keys tables t = schema_with (are_keyed_with keys (rows_in tables) t)
 
 -- the fault bears the SQLSTATE and the name of the table, unless memory runs out
 abbrev pub Bears : List ℕ → TableDef → DataFault → Type 0

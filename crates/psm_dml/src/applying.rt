@@ -174,8 +174,8 @@ fn replace_all<S: Store>(
     done
 }
 
-// The same without a mark: where a row doesn't keep the rules, those before it are in.
-fn replace_each<S: Store>(
+/// The same without a mark: where a row doesn't keep the rules, those before it are in.
+pub(crate) fn replace_each<S: Store>(
     alloc: Global,
     store: &mut S,
     t: u32,

@@ -10,8 +10,10 @@ ghost use Rattle.psm_tablecode.specs.Codes.{over};
 ghost use Rattle.psm_dml.specs.Ends.{keyed_schema, schema_of, Ends, ErasesByRules};
 ghost use Rattle.psm_dml.specs.TypeChecks.{TypeChecksTest};
 
-use crate::applying::{ascends, erase_row, erase_rows};
+use crate::applying::ascends;
+use crate::ending::violated;
 use crate::finding::met_keys;
+use crate::keying::erase_keyed;
 use psm_cond::DataFault;
 use psm_exprcode::ExprCode;
 use psm_store::{Key, Store};
@@ -19,6 +21,7 @@ use psm_table::ForeignKey;
 use psm_tablecode::raised;
 use psm_value::Datum;
 use std::alloc::Global;
+use std::slice;
 
 /// Takes the rows that meet a test out of a table, and gives how many these are. Without a test it takes out all. The
 /// tests are evaluated in the order of the keys, before the first row goes; the first condition that one raises
@@ -46,12 +49,15 @@ pub fn delete<S: Store>(
     ensures marks { S.marks store.new ≡ S.marks store.old }
     ensures keeps { Keeps AnyMark (S.holds store.old) (S.at store.old) (S.holds store.new) (S.at store.new) }
 {
-    let keys = match met_keys(alloc, store.table(t), test, vars) {
-        Ok(keys) => keys,
+    let gone = match met_keys(alloc, store.table(t), test, vars) {
+        Ok(gone) => gone,
         Err(fault) => return Err(raised(alloc, &fault)),
     };
-    erase_rows(alloc, store, t, keys.items())?;
-    Ok(keys.items().len() as u32)
+    if erase_keyed(alloc, store, t, keys, gone.items())? {
+        Ok(gone.items().len() as u32)
+    } else {
+        Err(violated(alloc, store.table(t)))
+    }
 }
 
 /// Takes the row that has a key out of a table (DELETE WHERE CURRENT OF, ISO/IEC 9075:1992, 13.6). A key without a row
@@ -79,6 +85,9 @@ pub fn delete_at<S: Store>(
     ensures keeps { Keeps AnyMark (S.holds store.old) (S.at store.old) (S.holds store.new) (S.at store.new) }
 {
     ascends(store.table(t));
-    erase_row(alloc, store, t, key)?;
-    Ok(())
+    if erase_keyed(alloc, store, t, keys, slice::from_ref(key))? {
+        Ok(())
+    } else {
+        Err(violated(alloc, store.table(t)))
+    }
 }

@@ -1,38 +1,42 @@
 //! The end of a statement that has new rows (ISO/IEC 9075:1992, 11.7 to 11.9).
-ghost use Rattle.std.specs.Prelude.{◌≡◌, ◌<◌, ◌++◌, [], All, IfSome, codes, length, slice_get};
+ghost use Rattle.std.specs.Prelude.{◌≡◌, ◌<◌, ◌++◌, [], All, IfSome, codes, length, slice_get, true};
 ghost use Rattle.psm_table.specs.Changing.{counting, ended, in_order, rows_pass, IsLegal};
+ghost use Rattle.psm_table.specs.Keyed.{are_keyed, defs_in, rows_in, IsKeyOf};
 ghost use Rattle.psm_table.specs.Table.{IsTable};
 ghost use Rattle.psm_store.specs.Marks.{AnyMark, Keeps, most_marks};
 ghost use Rattle.psm_tablecode.specs.Codes.{over};
-ghost use Rattle.psm_dml.specs.Ends.{schema_of, Bears, Ends, Passes};
+ghost use Rattle.psm_dml.specs.Ends.{keyed_schema, schema_of, Bears, Ends, Passes};
 ghost use Rattle.psm_dml.specs.Rows.{keys_of_rows, without_keys, AreInPlace, IsWhole, TakesRows};
 ghost use Rattle.psm_dml.specs.TypeChecks.{ChecksTypeCheck};
 
-use crate::applying::replace_rows;
-use crate::changing::change_rows;
 use crate::checking::judge;
+use crate::keying::{change_keyed, replace_keyed};
 use psm_cond::{Condition, DataFault};
 use psm_exprcode::ExprCode;
 use psm_sqlstate::SqlState;
 use psm_store::{Key, Row, Store, Table};
+use psm_table::ForeignKey;
 use psm_tablecode::raised;
 use std::alloc::Global;
 
-/// Takes the rows of some keys out of a table and puts new rows in, where these keep the rules of the table, and gives
-/// how many the new rows are. First comes a condition that a CHECK raises, and then 23000.
+/// Takes the rows of some keys out of a table and puts new rows in, where these keep the rules of the table and all FOREIGN
+/// KEY constraints hold with them, and gives how many the new rows are. First comes a condition that a CHECK raises, and then 23000.
 pub(crate) fn finish<S: Store>(
     alloc: Global,
     store: &mut S,
     t: u32,
     checks: &[ExprCode],
+    constraints: &[ForeignKey],
     keys: &[Key],
     rows: Vec<Row>,
 ) -> Result<u32, DataFault>
     requires takes { TakesRows (S.tables store.old) t keys.now rows.items }
     requires type_checks { IfSome (slice_get (S.tables store.old) t) (λ c. ChecksTypeCheck checks.now c.def) }
     requires legal { IfSome (slice_get (S.tables store.old) t) (λ c. IsLegal (over []) (schema_of c.def checks.now) (without_keys keys.now c).rows) }
+    requires constraints { All (IsKeyOf (defs_in (S.tables store.old))) constraints.now }
+    requires lawful { are_keyed constraints.now (rows_in (S.tables store.old)) ≡ true }
     requires room { S.marks store.old < most_marks }
-    ensures answer { IfSome (slice_get (S.tables store.old) t) (λ c. Ends c (counting (length rows.items) (ended (over []) (schema_of c.def checks.now) ((without_keys keys.now c).rows ++ rows.items))) (S.tables store.old) t (S.tables store.new) result) }
+    ensures answer { IfSome (slice_get (S.tables store.old) t) (λ c. Ends c (counting (length rows.items) (ended (over []) (keyed_schema constraints.now (S.tables store.old) t c.def checks.now) ((without_keys keys.now c).rows ++ rows.items))) (S.tables store.old) t (S.tables store.new) result) }
     ensures marks { S.marks store.new ≡ S.marks store.old }
     ensures keeps { Keeps AnyMark (S.holds store.old) (S.at store.old) (S.holds store.new) (S.at store.new) }
 {
@@ -41,7 +45,7 @@ pub(crate) fn finish<S: Store>(
         Err(fault) => return Err(fault),
     }
     let count = rows.len() as u32;
-    if replace_rows(alloc, store, t, keys, rows)? {
+    if replace_keyed(alloc, store, t, constraints, keys, rows)? {
         Ok(count)
     } else {
         Err(violated(alloc, store.table(t)))
@@ -54,14 +58,17 @@ pub(crate) fn finish_in_place<S: Store>(
     store: &mut S,
     t: u32,
     checks: &[ExprCode],
+    constraints: &[ForeignKey],
     made: Vec<Row>,
 ) -> Result<u32, DataFault>
     requires exists { t < length (S.tables store.old) }
     requires places { IfSome (slice_get (S.tables store.old) t) (λ c. AreInPlace c made.items) }
     requires type_checks { IfSome (slice_get (S.tables store.old) t) (λ c. ChecksTypeCheck checks.now c.def) }
     requires legal { IfSome (slice_get (S.tables store.old) t) (λ c. IsLegal (over []) (schema_of c.def checks.now) (without_keys (keys_of_rows c.def made.items) c).rows) }
+    requires constraints { All (IsKeyOf (defs_in (S.tables store.old))) constraints.now }
+    requires lawful { are_keyed constraints.now (rows_in (S.tables store.old)) ≡ true }
     requires room { S.marks store.old < most_marks }
-    ensures answer { IfSome (slice_get (S.tables store.old) t) (λ c. Ends c (counting (length made.items) (ended (over []) (schema_of c.def checks.now) ((without_keys (keys_of_rows c.def made.items) c).rows ++ made.items))) (S.tables store.old) t (S.tables store.new) result) }
+    ensures answer { IfSome (slice_get (S.tables store.old) t) (λ c. Ends c (counting (length made.items) (ended (over []) (keyed_schema constraints.now (S.tables store.old) t c.def checks.now) ((without_keys (keys_of_rows c.def made.items) c).rows ++ made.items))) (S.tables store.old) t (S.tables store.new) result) }
     ensures marks { S.marks store.new ≡ S.marks store.old }
     ensures keeps { Keeps AnyMark (S.holds store.old) (S.at store.old) (S.holds store.new) (S.at store.new) }
 {
@@ -70,7 +77,7 @@ pub(crate) fn finish_in_place<S: Store>(
         Err(fault) => return Err(fault),
     }
     let count = made.len() as u32;
-    if change_rows(alloc, store, t, made)? {
+    if change_keyed(alloc, store, t, constraints, made)? {
         Ok(count)
     } else {
         Err(violated(alloc, store.table(t)))

@@ -46,7 +46,8 @@ fn is_null_at(row: &[Datum], column: usize) -> bool
     }
 }
 
-fn is_null(value: &Datum) -> bool
+/// Whether a value is null.
+pub(crate) fn is_null(value: &Datum) -> bool
     ensures { result ≡ is_null_value value.now }
 {
     match value {

@@ -10,6 +10,8 @@ mod ending;
 mod filling;
 mod finding;
 mod inserting;
+mod keying;
+mod lookups;
 mod moving;
 mod planning;
 mod setting;

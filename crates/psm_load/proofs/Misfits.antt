@@ -4,11 +4,11 @@ use Rattle.std.proofs.Common.{◌≡◌, ℕ, zero, suc, List, [], ◌∷◌, �
 use Rattle.std.specs.Prelude.{replicate}
 use Rattle.psm_exprcode.specs.declared.items.Items.TheVariants as items
 use Rattle.psm_code.specs.declared.code.RawCode.{RawCode}
-use Rattle.psm_load_line.specs.Forms.{ItemHead, PlanHead, TableHead, column_at, condition_at, context_at, first_at, handler_at, item_at, key_at, plan_at, query_at, set_at, table_at, unique_at, Delete, DeleteAt, Function, Insert, InsertQuery, Rows, Update, UpdateAt, Value}
+use Rattle.psm_load_line.specs.Forms.{ItemHead, PlanHead, TableHead, column_at, condition_at, context_at, first_at, handler_at, item_at, key_at, plan_at, query_at, reference_at, set_at, table_at, unique_at, Delete, DeleteAt, Function, Insert, InsertQuery, Rows, Update, UpdateAt, Value}
 use Rattle.psm_load_line.specs.InstructionForms.{code_line_at, operation_line_at}
 use Rattle.psm_load_line.specs.OperationForms.{expression_at}
 use Rattle.psm_load_line.specs.RoutineForms.{ControlCounts, DataCounts, RoutineHead, cursor_at, parameter_at, routine_at, slot_at}
-use Rattle.psm_load.specs.Due.{Due, behind, behind_first, behind_item, behind_plan, behind_query, behind_routine, behind_table, control_due, data_due, first_misfit, lines_in, misfit, misfit_in, Column, Condition, Context, Cursor, Expression, First, Item, Key, Operation, Parameter, Routine, Set, Slot, Table, Unique}
+use Rattle.psm_load.specs.Due.{Due, behind, behind_first, behind_item, behind_plan, behind_query, behind_routine, behind_table, control_due, data_due, first_misfit, lines_in, misfit, misfit_in, Column, Condition, Context, Cursor, Expression, First, Item, Key, Operation, Parameter, Reference, Routine, Set, Slot, Table, Unique}
 use Rattle.psm_load.specs.Due as due
 use Rattle.psm_load.specs.Stated.{Stated, access_by, all_lines, at_start, breaks_place, breaks_rows, breaks_sets, code, condition, expression, handler, handling_by, items_by, items_of, more_rows, more_sets, operation, plan, plan_by, query, routine, routine_by, set_item, set_of_item, stated, table, table_by, value_of_item, variables_by, whole}
 use Rattle.psm_load.proofs.Following.{Answer, Follows, Lines, after_part, follows_due, follows_given, follows_line, follows_line_and, follows_made, follows_one, follows_test, follows_then, follows_times}
@@ -21,12 +21,16 @@ follows_operation = follows_line Operation breaks_place operation_line_at (λ x.
 follows_expression : Follows (Expression ∷ []) expression
 follows_expression = follows_line Expression (λ n. None) expression_at (λ n. replicate n Operation) (λ l. refl) (λ n. follows_times n follows_operation)
 
+four_due : (a b c d : List Due) → a ++ Key ∷ (b ++ (c ++ d)) ≡ a ++ Key ∷ b ++ c ++ d
+four_due a b c d = sym (append_assoc a (Key ∷ b) (c ++ d)) ∙ sym (append_assoc (a ++ Key ∷ b) c d)
+
 follows_table_by : (h : TableHead) → Follows (behind_table h) (table_by h)
-follows_table_by h = follows_due (sym (append_assoc (replicate h.1.0 Column) (Key ∷ replicate h.1.1.0 Unique) (replicate h.1.1.1 Expression))) (
+follows_table_by h = follows_due (four_due (replicate h.1.0 Column) (replicate h.1.1.0 Unique) (replicate h.1.1.1.1 Reference) (replicate h.1.1.1.0 Expression)) (
     follows_then (follows_times h.1.0 (follows_one Column column_at (λ l. refl))) (λ columns.
     follows_then (follows_one Key key_at (λ l. refl)) (λ key.
     follows_then (follows_times h.1.1.0 (follows_one Unique unique_at (λ l. refl))) (λ uniques.
-    follows_made _ (follows_times h.1.1.1 follows_expression)))))
+    follows_then (follows_times h.1.1.1.1 (follows_one Reference reference_at (λ l. refl))) (λ references.
+    follows_made _ (follows_times h.1.1.1.0 follows_expression))))))
 
 follows_table : Follows (Table ∷ []) table
 follows_table = follows_line Table (λ h. None) table_at behind_table (λ l. refl) follows_table_by
@@ -112,7 +116,7 @@ follows_routine : Follows (Routine ∷ []) routine
 follows_routine = follows_line Routine (λ h. None) routine_at behind_routine (λ l. refl) follows_routine_by
 
 follows_code : Follows (First ∷ []) code
-follows_code = follows_line First (λ c. None) first_at behind_first (λ l. refl) (λ c. follows_then (follows_times c.0 follows_table) (λ ts. follows_made _ (follows_times c.1 follows_routine)))
+follows_code = follows_line First (λ c. None) first_at behind_first (λ l. refl) (λ c. follows_then (follows_made _ (follows_times c.0 follows_table)) (λ ts. follows_made _ (follows_times c.1 follows_routine)))
 
 -- ---- texts
 

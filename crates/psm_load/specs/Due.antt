@@ -1,13 +1,13 @@
 -- Which lines are due in a text: each line says which stand behind it.
 use Rattle.std.specs.Prelude.{ℕ, suc, Bool, true, false, List, [], ◌∷◌, ◌++◌, replicate, nat_eq, Option, Some, None, if◌then◌else◌}
 use Rattle.psm_words.specs.Reading.{◌>>=◌}
-use Rattle.psm_load_line.specs.Forms.{ItemHead, PlanHead, QueryHead, TableHead, column_at, condition_at, context_at, first_at, handler_at, item_at, key_at, plan_at, query_at, set_at, table_at, unique_at, Delete, DeleteAt, Function, Insert, InsertQuery, Rows, Update, UpdateAt, Value}
+use Rattle.psm_load_line.specs.Forms.{ItemHead, PlanHead, QueryHead, TableHead, column_at, condition_at, context_at, first_at, handler_at, item_at, key_at, plan_at, query_at, reference_at, set_at, table_at, unique_at, Delete, DeleteAt, Function, Insert, InsertQuery, Rows, Update, UpdateAt, Value}
 use Rattle.psm_load_line.specs.InstructionForms.{code_line_at, operation_line_at}
 use Rattle.psm_load_line.specs.OperationForms.{expression_at}
 use Rattle.psm_load_line.specs.RoutineForms.{ControlCounts, DataCounts, RoutineHead, cursor_at, parameter_at, routine_at, slot_at}
 
 pub data Due : Type 0 where
-  First Table Column Key Unique Routine Parameter Slot Query Item Cursor Plan Set Condition Context Handler Line Expression Operation : Due
+  First Table Column Key Unique Reference Routine Parameter Slot Query Item Cursor Plan Set Condition Context Handler Line Expression Operation : Due
 
 -- ---- what stands behind a line
 
@@ -15,7 +15,7 @@ abbrev pub behind_first : ℕ × ℕ → List Due
 behind_first (tables, routines) = replicate tables Table ++ replicate routines Routine
 
 abbrev pub behind_table : TableHead → List Due
-behind_table (name, (columns, (uniques, checks))) = replicate columns Column ++ Key ∷ replicate uniques Unique ++ replicate checks Expression
+behind_table (name, (columns, (uniques, (checks, keys)))) = replicate columns Column ++ Key ∷ replicate uniques Unique ++ replicate keys Reference ++ replicate checks Expression
 
 abbrev pub data_due : DataCounts → List Due
 data_due (parameters, (slots, (queries, (cursors, plans)))) =
@@ -58,6 +58,7 @@ behind Table l = table_at l >>= λ t. Some (behind_table t)
 behind Column l = fits (column_at l)
 behind Key l = fits (key_at l)
 behind Unique l = fits (unique_at l)
+behind Reference l = fits (reference_at l)
 behind Routine l = routine_at l >>= λ r. Some (behind_routine r)
 behind Parameter l = fits (parameter_at l)
 behind Slot l = fits (slot_at l)

@@ -1,14 +1,17 @@
 -- The lines of a text that are left to read, and what is given where a part of them is read.
-use Rattle.std.specs.Prelude.{◌≡◌, ℕ, List, [], ◌∷◌, ◌++◌, Some, None, Option, Result, Ok, Err}
+use Rattle.std.specs.Prelude.{◌≡◌, ℕ, ◌+◌, List, [], ◌∷◌, ◌++◌, length, Some, None, Option, Result, Ok, Err}
+use Rattle.psm_table.specs.declared.definition.ForeignKey.{ForeignKey}
+use Rattle.psm_code.specs.declared.code.CodeTable.{CodeTable}
 use Rattle.psm_code.specs.declared.rule.CodeRule.{CodeRule}
 use Rattle.psm_load_line.specs.declared.fault.Unread.{Unread}
 use Rattle.psm_load_line.specs.declared.fault.Unread.TheVariants as unread
 use Rattle.psm_load.specs.Due.{lines_in}
 use Rattle.psm_load.specs.Parts.{At, Part, after_line, and_then, first_odd, given, times, ◌>>◌}
-use Rattle.psm_load.specs.Stated.{all_lines, at_start}
+use Rattle.psm_load.specs.Stated.{all_lines, at_start, keys_of, table, tables_of}
 use Rattle.psm_load.specs.declared.left.NumberedLine.{NumberedLine}
 use Rattle.psm_load.specs.declared.stop.Stop.{Stop}
 use Rattle.psm_load.specs.declared.stop.Stop.TheVariants.{Misfit, Memory}
+use Rattle.psm_load.specs.declared.tables.TableText.{TableText}
 
 -- where reading stands, and the lines that are left
 pub record Left : Type 0 where
@@ -80,3 +83,11 @@ after first p = p >> λ others. given (first ∷ others)
 -- With n more of a part after some items of it, a list of that part, begun with those at the start, is what it is from there on.
 pub record Repeated {A : Type 0} (part : Part A) (count : ℕ) (old : Left) (start items : List A) (n : ℕ) (now : Left) : Type 0 where
   pub same : following items (times n part now.at now.lines) ≡ following start (times count part old.at old.lines)
+
+-- The tables and the constraints that were read of so many tables, with n more to come.
+pub record TablesRead (count : ℕ) (old : Left) (tables : List CodeTable) (keys : List ForeignKey) (n : ℕ) (now : Left) : Type 0 where
+  pub texts : List TableText
+  pub tables_are : tables ≡ tables_of texts
+  pub keys_are : keys ≡ keys_of 0 texts
+  pub number : length texts + n ≡ count
+  pub read : Repeated table count old [] texts n now

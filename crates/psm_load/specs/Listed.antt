@@ -1,7 +1,9 @@
 -- Code whose parts the lines of a listing can say: numbers have 32 bits, names, data, types and SQLSTATEs are within bounds, lists of
--- columns have one, items without any are no set functions, and COUNT alone has no operand. A value of Rust's types is such code where it
+-- columns have one, FOREIGN KEY constraints stand in the order of the tables that refer, items without any are no set functions, and
+-- COUNT alone has no operand. A value of Rust's types is such code where it
 -- breaks no rule and no list has 2^32 items.
-use Rattle.std.specs.Prelude.{◌≡◌, ℕ, true, List, [], ◌∷◌, length, is_some, Option, Some, None}
+use Rattle.std.specs.Prelude.{◌≡◌, ℕ, suc, true, List, [], ◌∷◌, length, map, is_some, Option, Some, None}
+use Rattle.psm_table.specs.declared.definition.ForeignKey.{ForeignKey}
 use Rattle.psm_sqlstate.specs.State.{IsState}
 use Rattle.psm_cond.specs.declared.handlers.ConditionValue.{ConditionValue}
 use Rattle.psm_cond.specs.declared.handlers.ConditionValue.TheVariants as values
@@ -21,10 +23,13 @@ use Rattle.psm_code.specs.declared.code.Plan.TheVariants as plans
 use Rattle.psm_code.specs.declared.code.RawCode.{RawCode}
 use Rattle.psm_code.specs.declared.code.RawRoutine.{RawRoutine}
 use Rattle.psm_code.specs.PlanRules.{counts_rows}
+use Rattle.psm_code.specs.TableRules.{are_in_turn, keys_from}
 use Rattle.psm_words.specs.Words.{FitsType}
 use Rattle.psm_load_line.specs.Forms.{QueryHead}
 use Rattle.psm_load_line.specs.Heads.{AreColumns, EachIs, IsCodeLine, IsColumn, IsContext, IsCursor, IsIndex, IsName, IsOperation, IsParameter, IsQueryHead, IsRoutineHead, IsTableHead, table_head}
 use Rattle.psm_load_line.specs.RoutineForms.{RoutineHead}
+use Rattle.psm_load_line.specs.declared.head.Reference.{Reference}
+use Rattle.psm_load.specs.declared.tables.TableText.{TableText}
 
 -- a list of columns, which has one
 abbrev pub AreListed : List ℕ → Type 0
@@ -38,8 +43,25 @@ abbrev pub IsListedTest : Option (List Line) → Type 0
 IsListedTest None = Unit {0}
 IsListedTest (Some lines) = IsListedExpr lines
 
-abbrev pub IsListedTable : CodeTable → Type 0
-IsListedTable t = IsTableHead (table_head t) × EachIs IsColumn t.definition.columns × AreListed t.definition.key × EachIs AreListed t.definition.unique × EachIs IsListedExpr t.checks
+abbrev pub IsListedReference : Reference → Type 0
+IsListedReference r = AreListed r.columns × (IsIndex r.to × AreListed r.target)
+
+-- a table with its FOREIGN KEY constraints
+pub record IsListedTable (t : TableText) : Type 0 where
+  pub head : IsTableHead (table_head t.references t.table)
+  pub columns : EachIs IsColumn t.table.definition.columns
+  pub key : AreListed t.table.definition.key
+  pub uniques : EachIs AreListed t.table.definition.unique
+  pub references : EachIs IsListedReference t.references
+  pub checks : EachIs IsListedExpr t.table.checks
+
+abbrev pub reference_in : ForeignKey → Reference
+reference_in key = record { columns = key.columns; to = key.to; target = key.target }
+
+-- tables with their constraints; the first has that number
+abbrev pub texts_of : List ForeignKey → ℕ → List CodeTable → List TableText
+texts_of keys n [] = []
+texts_of keys n (t ∷ ts) = record { table = t; references = map reference_in (keys_from keys n) } ∷ texts_of keys (suc n) ts
 
 -- ---- queries
 
@@ -123,5 +145,6 @@ pub record IsListedRoutine (r : RawRoutine) : Type 0 where
 
 pub record IsListed (code : RawCode) : Type 0 where
   pub counts : IsIndex (length code.tables) × IsIndex (length code.routines)
-  pub tables : EachIs IsListedTable code.tables
+  pub in_turn : are_in_turn 0 (length code.tables) code.keys ≡ true
+  pub tables : EachIs IsListedTable (texts_of code.keys 0 code.tables)
   pub routines : EachIs IsListedRoutine code.routines

@@ -1,14 +1,13 @@
 -- The parts of a listing, by what the readers of their lines give.
 use Rattle.std.specs.Prelude.{List}
 use Rattle.psm_exprcode.specs.declared.op.Line.{Line}
-use Rattle.psm_code.specs.declared.code.CodeTable.{CodeTable}
 use Rattle.psm_code.specs.declared.code.Plan.{Plan}
 use Rattle.psm_code.specs.declared.code.Plan.TheVariants as plans
 use Rattle.psm_load_line.specs.Forms as forms
-use Rattle.psm_load_line.specs.Forms.{column_at, item_at, key_at, unique_at}
+use Rattle.psm_load_line.specs.Forms.{column_at, item_at, key_at, reference_at, unique_at}
 use Rattle.psm_load_line.specs.Readers.{LineReader}
 use Rattle.psm_load_line.specs.RoutineForms as routines
-use Rattle.psm_load_line.specs.Said.{columns_of}
+use Rattle.psm_load_line.specs.Said.{columns_of, reference_of}
 use Rattle.psm_load_line.specs.declared.head.ControlCounts.{ControlCounts}
 use Rattle.psm_load_line.specs.declared.head.DataCounts.{DataCounts}
 use Rattle.psm_load_line.specs.declared.head.ItemHead.{ItemHead}
@@ -21,6 +20,7 @@ use Rattle.psm_load_line.specs.declared.head.TableHead.{TableHead}
 use Rattle.psm_load.specs.Parts.{Part, given, if_there, noting, one, times, ◌>>◌}
 use Rattle.psm_load.specs.Stated.{breaks_rows, breaks_sets, expression, set_item, set_of_item, value_of_item}
 use Rattle.psm_exprcode.specs.declared.aggregate.Aggregate.{Aggregate}
+use Rattle.psm_load.specs.declared.tables.TableText.{TableText}
 
 -- a line, of which that is kept
 abbrev pub says : {A B : Type 0} → (A → B) → LineReader A → Part B
@@ -28,10 +28,10 @@ says f read = one read >> λ a. given (f a)
 
 -- ---- tables
 
-abbrev pub table_read : TableHead → Part CodeTable
+abbrev pub table_read : TableHead → Part TableText
 table_read h =
-    times h.columns (one column_at) >> λ columns. says columns_of key_at >> λ key. times h.uniques (says columns_of unique_at) >> λ uniques. times h.checks expression
-    >> λ checks. given (record { definition = record { name = h.name; columns = columns; key = key; unique = uniques }; checks = checks })
+    times h.columns (one column_at) >> λ columns. says columns_of key_at >> λ key. times h.uniques (says columns_of unique_at) >> λ uniques. times h.keys (says reference_of reference_at) >> λ references. times h.checks expression
+    >> λ checks. given (record { table = record { definition = record { name = h.name; columns = columns; key = key; unique = uniques }; checks = checks }; references = references })
 
 -- ---- queries
 

@@ -17,6 +17,7 @@ use Rattle.psm_exprcode.specs.declared.op.Op.{Op}
 use Rattle.psm_exprcode.specs.declared.op.Op.TheVariants as op
 use Rattle.psm_exprcode.specs.declared.query.Query.{Query}
 use Rattle.psm_exprcode.specs.declared.set_item.SetItem.{SetItem}
+use Rattle.psm_table.specs.declared.definition.ForeignKey.{ForeignKey}
 use Rattle.psm_code.specs.declared.code.CodeCursor.{CodeCursor}
 use Rattle.psm_code.specs.declared.code.CodeTable.{CodeTable}
 use Rattle.psm_code.specs.declared.code.Parameter.{Parameter}
@@ -29,13 +30,14 @@ use Rattle.psm_code.specs.declared.instruction.Instruction.{Instruction}
 use Rattle.psm_code.specs.declared.instruction.Instruction.TheVariants as instruction
 use Rattle.psm_code.specs.declared.rule.CodeRule.{CodeRule}
 use Rattle.psm_code.specs.declared.rule.CodeRule.TheVariants.{Place, Definition}
-use Rattle.psm_load_line.specs.Forms.{ItemHead, PlanHead, QueryHead, TableHead, column_at, condition_at, context_at, first_at, handler_at, item_at, key_at, plan_at, query_at, set_at, table_at, unique_at, Delete, DeleteAt, Function, Insert, InsertQuery, Rows, Update, UpdateAt, Value}
+use Rattle.psm_load_line.specs.Forms.{ItemHead, PlanHead, QueryHead, TableHead, column_at, condition_at, context_at, first_at, handler_at, item_at, key_at, plan_at, query_at, reference_at, set_at, table_at, unique_at, Delete, DeleteAt, Function, Insert, InsertQuery, Rows, Update, UpdateAt, Value}
 use Rattle.psm_load_line.specs.InstructionForms.{code_line_at, operation_line_at}
 use Rattle.psm_load_line.specs.OperationForms.{expression_at}
 use Rattle.psm_load_line.specs.RoutineForms.{ControlCounts, DataCounts, RoutineHead, cursor_at, parameter_at, routine_at, slot_at}
-use Rattle.psm_load_line.specs.Said.{columns_of, declared_of, handler_of}
+use Rattle.psm_load_line.specs.Said.{columns_of, declared_of, handler_of, key_from, reference_of}
 use Rattle.psm_load.specs.Due.{lines_in}
 use Rattle.psm_load.specs.Parts.{At, Part, given, if_there, noting, one, times, ◌>>◌}
+use Rattle.psm_load.specs.declared.tables.TableText.{TableText}
 
 -- ---- expressions
 
@@ -56,13 +58,27 @@ expression = one expression_at >> λ n. times n operation
 
 -- ---- tables
 
-abbrev pub table_by : TableHead → Part CodeTable
+abbrev pub table_by : TableHead → Part TableText
 table_by h =
-    times h.1.0 (one column_at) >> λ columns. one key_at >> λ key. times h.1.1.0 (one unique_at) >> λ uniques. times h.1.1.1 expression
-    >> λ checks. given (record { definition = record { name = h.0; columns = columns; key = columns_of key; unique = map columns_of uniques }; checks = checks })
+    times h.1.0 (one column_at) >> λ columns. one key_at >> λ key. times h.1.1.0 (one unique_at) >> λ uniques. times h.1.1.1.1 (one reference_at) >> λ references. times h.1.1.1.0 expression
+    >> λ checks. given (record {
+      table = record { definition = record { name = h.0; columns = columns; key = columns_of key; unique = map columns_of uniques }; checks = checks };
+      references = map reference_of references;
+    })
 
-abbrev pub table : Part CodeTable
+abbrev pub table : Part TableText
 table = one table_at >> table_by
+
+-- tables, and the FOREIGN KEY constraints of all of them; the first table has that number
+abbrev pub tables_of : List TableText → List CodeTable
+tables_of ts = map (λ t. t.table) ts
+
+abbrev pub keys_of : ℕ → List TableText → List ForeignKey
+keys_of n [] = []
+keys_of n (t ∷ ts) = map (key_from n) t.references ++ keys_of (suc n) ts
+
+abbrev pub tables_by : ℕ → Part (List CodeTable × List ForeignKey)
+tables_by n = times n table >> λ ts. given (tables_of ts, keys_of 0 ts)
 
 -- ---- queries
 
@@ -163,7 +179,7 @@ routine = one routine_at >> routine_by
 -- ---- code
 
 abbrev pub code_by : ℕ × ℕ → Part RawCode
-code_by (tables, routines) = times tables table >> λ ts. times routines routine >> λ rs. given (record { tables = ts; keys = []; routines = rs })
+code_by (tables, routines) = tables_by tables >> λ ts. times routines routine >> λ rs. given (record { tables = ts.0; keys = ts.1; routines = rs })
 
 abbrev pub code : Part RawCode
 code = one first_at >> code_by

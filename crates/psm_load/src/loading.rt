@@ -14,6 +14,7 @@ use crate::laws::{a_text_stands_for_the_code_that_it_lists, texts_are_one_thing}
 use crate::left::LinesLeft;
 use crate::listed::several;
 use crate::stop::Stop;
+use crate::tables::tables;
 use psm_code::{CodeRule, RawCode};
 use psm_load_line::first_head;
 use psm_object::rules_count_the_lines_of_a_listing;
@@ -74,11 +75,11 @@ fn code(alloc: Global, lines: &mut LinesLeft<'_>) -> Result<RawCode, Stop>
     ensures { Gives code_part lines.old lines.new result }
 {
     let counts = counts(lines)?;
-    let tables = several(alloc, counts.0, lines)?;
+    let (tables, keys) = tables(alloc, counts.0, lines)?;
     let routines = several(alloc, counts.1, lines)?;
     Ok(RawCode {
         tables,
-        keys: List::of(Vec::new(alloc)),
+        keys,
         routines,
     })
 }

@@ -1,25 +1,76 @@
 //! The tables of a listing.
+ghost use Rattle.std.specs.Prelude.{◌≡◌, ◌++◌, map, IfOk};
 ghost use Rattle.psm_load.specs.Left.{Gives};
 ghost use Rattle.psm_load.specs.Parts.{one};
 ghost use Rattle.psm_load.specs.Read.{says, table_read};
-ghost use Rattle.psm_load.specs.Stated.{table as table_part};
-ghost use Rattle.psm_load_line.specs.Forms.{column_at, key_at, table_at, unique_at};
-ghost use Rattle.psm_load_line.specs.Said.{columns_of, table_head_of};
+ghost use Rattle.psm_load.specs.Stated.{table as table_part, tables_by};
+ghost use Rattle.psm_load_line.specs.Forms.{column_at, key_at, reference_at, table_at, unique_at};
+ghost use Rattle.psm_load_line.specs.Said.{columns_of, key_from, reference_of, table_head_of};
 
 use crate::left::LinesLeft;
 use crate::listed::{Listed, several};
 use crate::stop::Stop;
 use psm_code::CodeTable;
 use psm_list::List;
-use psm_load_line::{TableHead, column, key, table_head, unique};
-use psm_table::{Column, TableDef};
-use std::alloc::Global;
+use psm_load_line::{Reference, TableHead, column, key, reference, table_head, unique};
+use psm_table::{Column, ForeignKey, TableDef};
+use std::alloc::{AllocError, Global};
 
-impl Listed for CodeTable {
+/// A table with its FOREIGN KEY constraints.
+#[derive(Drop)]
+pub(crate) struct TableText {
+    pub(crate) table: CodeTable,
+    pub(crate) references: List<Reference>,
+}
+
+/// Tables, of which there are n, and the FOREIGN KEY constraints of all of them.
+#[tactic(auto, using(crate::proofs::TableTexts::tables))]
+pub(crate) fn tables(
+    alloc: Global,
+    n: u32,
+    lines: &mut LinesLeft<'_>,
+) -> Result<(List<CodeTable>, List<ForeignKey>), Stop>
+    ensures { Gives (tables_by n) lines.old lines.new result }
+{
+    let mut tables = Vec::new(alloc);
+    let mut keys = Vec::new(alloc);
+    for number in 0..n {
+        let TableText { table, references } = TableText::read(alloc, lines)?;
+        tables.push(table)?;
+        add_keys(&mut keys, number, references)?;
+    }
+    Ok((List::of(tables), List::of(keys)))
+}
+
+// The constraints of the table of that number.
+fn add_keys(
+    keys: &mut Vec<ForeignKey>,
+    from: u32,
+    references: List<Reference>,
+) -> Result<(), AllocError>
+    ensures { IfOk result (λ _. keys.new.items ≡ keys.old.items ++ map (key_from from) references) }
+{
+    for reference in references.into_vec() {
+        let Reference {
+            columns,
+            to,
+            target,
+        } = reference;
+        keys.push(ForeignKey {
+            from,
+            columns,
+            to,
+            target,
+        })?;
+    }
+    Ok(())
+}
+
+impl Listed for TableText {
     ghost part = { table_part };
 
     #[tactic(auto, using(crate::proofs::Same::table_same))]
-    fn read(alloc: Global, lines: &mut LinesLeft<'_>) -> Result<CodeTable, Stop> {
+    fn read(alloc: Global, lines: &mut LinesLeft<'_>) -> Result<TableText, Stop> {
         let head = head(alloc, lines)?;
         table(alloc, head, lines)
     }
@@ -46,6 +97,16 @@ impl Listed for List<u32> {
     }
 }
 
+impl Listed for Reference {
+    ghost part = { says reference_of reference_at };
+
+    #[tactic(auto, using(crate::proofs::Said::said))]
+    fn read(alloc: Global, lines: &mut LinesLeft<'_>) -> Result<Reference, Stop> {
+        let line = lines.next()?;
+        line.says(reference(alloc, line.bytes))
+    }
+}
+
 #[tactic(auto, using(crate::proofs::Said::said))]
 fn head(alloc: Global, lines: &mut LinesLeft<'_>) -> Result<TableHead, Stop>
     ensures { Gives (says table_head_of table_at) lines.old lines.new result }
@@ -55,21 +116,23 @@ fn head(alloc: Global, lines: &mut LinesLeft<'_>) -> Result<TableHead, Stop>
 }
 
 // The lines behind that of a table.
-fn table(alloc: Global, head: TableHead, lines: &mut LinesLeft<'_>) -> Result<CodeTable, Stop>
+fn table(alloc: Global, head: TableHead, lines: &mut LinesLeft<'_>) -> Result<TableText, Stop>
     ensures { Gives (table_read head) lines.old lines.new result }
 {
     let columns = several(alloc, head.columns, lines)?;
     let key = key_columns(alloc, lines)?;
     let unique = several(alloc, head.uniques, lines)?;
+    let references = several(alloc, head.keys, lines)?;
     let checks = several(alloc, head.checks, lines)?;
-    Ok(CodeTable {
-        definition: TableDef {
-            name: head.name,
-            columns,
-            key,
-            unique,
-        },
-        checks,
+    let definition = TableDef {
+        name: head.name,
+        columns,
+        key,
+        unique,
+    };
+    Ok(TableText {
+        table: CodeTable { definition, checks },
+        references,
     })
 }
 

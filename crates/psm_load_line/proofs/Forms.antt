@@ -45,12 +45,21 @@ AreThree x = IsIndex x.0 × AreTwo x.1
 pub three_fields : Fields three_words AreThree (both index (both index index))
 three_fields = pair (λ n. number n ∷ []) IsIndex index two_words AreTwo (both index index) index_field two_fields
 
+abbrev four_words : ℕ × (ℕ × (ℕ × ℕ)) → List (List ℕ)
+four_words x = (number x.0 ∷ []) ++ three_words x.1
+
+abbrev AreFour : ℕ × (ℕ × (ℕ × ℕ)) → Type 0
+AreFour x = IsIndex x.0 × AreThree x.1
+
+four_fields : Fields four_words AreFour (both index (both index (both index index)))
+four_fields = pair (λ n. number n ∷ []) IsIndex index three_words AreThree (both index (both index index)) index_field three_fields
+
 abbrev table_words : TableHead → List (List ℕ)
-table_words x = (quoted x.0 ∷ []) ++ three_words x.1
+table_words x = (quoted x.0 ∷ []) ++ four_words x.1
 
 pub table_written : Written table_head_line IsTableHead table_at
-table_written = begin (codes "TABLE") table_words IsTableHead (last (both (word name_at) (both index (both index index)))) (
-    ends table_words IsTableHead (both (word name_at) (both index (both index index))) (pair (λ t. quoted t ∷ []) IsName (word name_at) three_words AreThree (both index (both index index)) name_field three_fields)
+table_written = begin (codes "TABLE") table_words IsTableHead (last (both (word name_at) (both index (both index (both index index))))) (
+    ends table_words IsTableHead (both (word name_at) (both index (both index (both index index)))) (pair (λ t. quoted t ∷ []) IsName (word name_at) four_words AreFour (both index (both index (both index index))) name_field four_fields)
     )
 
 pub expression_written : Written expression_head_line IsIndex expression_at

@@ -5,5 +5,6 @@ pub mod Instructions
 pub mod Many
 pub mod Operations
 pub mod OtherForms
+pub mod Parted
 pub mod Spelled
 pub mod Words

@@ -13,19 +13,22 @@ use Rattle.psm_code.specs.declared.code.Parameter.{Parameter}
 use Rattle.psm_code.specs.declared.code.ParameterMode.{ParameterMode}
 use Rattle.psm_code.specs.declared.code.ParameterMode.TheVariants.{In, Out, InOut}
 use Rattle.psm_words.specs.Words.{datum_word, number, quoted, state_word, type_word, FitsType, IsDatum, IsStateWord}
-use Rattle.psm_words.specs.Reading.{datum_at, state_at, type_at}
+use Rattle.psm_words.specs.Reading.{◌>>=◌, datum_at, state_at, type_at}
+use Rattle.psm_words.proofs.Several.{bind_some, some_is}
 use Rattle.psm_object.specs.Handlers.{context_line, kind_words}
 use Rattle.psm_object.specs.Queries.{cursor_line, direction_word, function_word, sensitivity_word, updatability_word}
 use Rattle.psm_object.specs.Routines.{mode_word, parameter_line, routine_kind_word, slot_line}
-use Rattle.psm_object.specs.Tables.{column_line, key_line, unique_line}
+use Rattle.psm_object.specs.Tables.{column_line, key_line, reference_line, unique_line}
 use Rattle.psm_object.specs.Words.{flag, further, spaced}
-use Rattle.psm_load_line.specs.Forms.{ItemHead, QueryHead, block_of, column_at, column_of, condition_at, context_at, context_kinds, context_of, directions, first_at, functions, index, item_at, items, key_at, query_at, set_at, unique_at, Function, Rows, Value}
-use Rattle.psm_load_line.specs.Heads.{AreColumns, AreControlCounts, AreDataCounts, ConditionHead, EachIs, IfThere, IsColumn, IsConditionHead, IsContext, IsContextKind, IsCursor, IsIndex, IsName, IsParameter, IsQueryHead, IsRoutineHead, condition_head_line, first_head_line, item_details, item_head_line, item_name, or_dash, query_head_line, routine_head_line}
-use Rattle.psm_load_line.specs.Readers.{alone, both, by_word, chosen, dash_or, flag_at, last, made, many, name_at, on, one_of, some, word}
+use Rattle.psm_load_line.specs.Forms.{ItemHead, QueryHead, ReferenceWords, block_of, column_at, column_of, condition_at, context_at, context_kinds, context_of, directions, first_at, functions, index, item_at, items, key_at, query_at, reference_at, referred_at, set_at, unique_at, Function, Rows, Value}
+use Rattle.psm_load_line.specs.Heads.{AreColumns, AreControlCounts, AreDataCounts, AreReferenceWords, ConditionHead, EachIs, IfThere, IsColumn, IsConditionHead, IsContext, IsContextKind, IsCursor, IsIndex, IsName, IsParameter, IsQueryHead, IsRoutineHead, condition_head_line, first_head_line, item_details, item_head_line, item_name, or_dash, query_head_line, routine_head_line}
+use Rattle.psm_load_line.specs.Readers.{alone, both, by_word, chosen, dash_or, flag_at, last, made, many, name_at, on, on_both_sides, one_of, parted, some, word}
 use Rattle.psm_load_line.specs.RoutineForms.{ControlCounts, DataCounts, RoutineHead, control_counts_at, cursor_at, cursor_of, data_counts_at, modes, parameter_at, parameter_of, routine_at, routine_kinds, sensitivities, slot_at, updatabilities}
 use Rattle.psm_load_line.proofs.Forms.{AreThree, AreTwo, flag_field, index_field, name_field, three_fields, three_words, two_rest, two_words}
+use Rattle.psm_load_line.specs.Said.{key_from, reference_of}
 use Rattle.psm_load_line.proofs.Operations.{number_rest}
-use Rattle.psm_load_line.proofs.Spelled.{◌&◌, all_words, alone_after, begin, convert, ends, field, first_word, follow_fields, is_solid, made_after, made_again, next_word, pair, same_line, some_words, table_word, After, Fields, Found, Rest, Spelled, Written}
+use Rattle.psm_load_line.proofs.Parted.{numbers_toless, parted_again, parted_takes}
+use Rattle.psm_load_line.proofs.Spelled.{◌&◌, all_words, alone_after, begin, convert, ends, field, first_word, follow_fields, further_append, is_solid, made_after, made_again, next_word, pair, same_line, some_words, table_word, After, Fields, Found, Rest, Spelled, Written}
 use Rattle.psm_load_line.proofs.Words.{dash_spelled, datum_spelled, name_spelled, quoted_dashless, state_spelled, type_dashless, type_spelled}
 
 -- ---- fields
@@ -54,7 +57,7 @@ two_valued write entries s t f g e = field write (λ b. Unit {0}) (one_of entrie
 -- ---- PSM, COL, KEY, UNI, SET
 
 pub first_written : Written first_head_line AreTwo first_at
-first_written = begin (codes "PSM 2") two_words AreTwo (last (both index index)) two_rest
+first_written = begin (codes "PSM 3") two_words AreTwo (last (both index index)) two_rest
 
 abbrev column_words : List ℕ × (SqlType × (Bool × Datum)) → List (List ℕ)
 column_words x = (quoted x.0 ∷ []) ++ ((type_word x.1.0 ∷ []) ++ ((flag x.1.1.0 ∷ []) ++ (datum_word x.1.1.1 ∷ [])))
@@ -90,6 +93,47 @@ key_written = begin (codes "KEY") (λ (x : ℕ × List ℕ). map number (x.0 ∷
 
 pub unique_written : Written (λ (x : ℕ × List ℕ). unique_line (x.0 ∷ x.1)) AreColumns unique_at
 unique_written = begin (codes "UNI") (λ (x : ℕ × List ℕ). map number (x.0 ∷ x.1)) AreColumns (some index) indices_rest
+
+-- ---- REF
+
+referred_written : Written (λ (x : ℕ × (ℕ × List ℕ)). codes " TO" ++ further (number x.0 ∷ map number (x.1.0 ∷ x.1.1))) (λ (x : ℕ × (ℕ × List ℕ)). IsIndex x.0 × AreColumns x.1) referred_at
+referred_written = begin (codes " TO") (λ (x : ℕ × (ℕ × List ℕ)). (number x.0 ∷ []) ++ map number (x.1.0 ∷ x.1.1)) (λ (x : ℕ × (ℕ × List ℕ)). IsIndex x.0 × AreColumns x.1) (on index (some index)) (
+    follow_fields (λ n. number n ∷ []) IsIndex index (λ (x : ℕ × List ℕ). map number (x.0 ∷ x.1)) AreColumns (some index) index_field indices_rest
+    )
+
+abbrev reference_words : ReferenceWords → List (List ℕ)
+reference_words x = map number (x.0.0 ∷ x.0.1) ++ codes "TO" ∷ number x.1.0 ∷ map number (x.1.1.0 ∷ x.1.1.1)
+
+reference_rest : Rest reference_words AreReferenceWords (on_both_sides (codes " TO") (some index) referred_at)
+reference_rest = record { again = again; takes = takes } where
+  again : (x : ReferenceWords) → AreReferenceWords x → on_both_sides (codes " TO") (some index) referred_at (further (reference_words x)) ≡ Some x
+  again x v =
+      let before : List ℕ = further (map number (x.0.0 ∷ x.0.1)) in
+      let behind : List ℕ = further (number x.1.0 ∷ map number (x.1.1.0 ∷ x.1.1.1)) in
+      ap (on_both_sides (codes " TO") (some index) referred_at) (further_append (map number (x.0.0 ∷ x.0.1)) (codes "TO" ∷ number x.1.0 ∷ map number (x.1.1.0 ∷ x.1.1.1)))
+      ∙ ap (λ (o : Option (List ℕ × List ℕ)). o >>= λ y. some index y.0 >>= λ a. referred_at y.1 >>= λ b. Some (a, b)) (parted_again before behind (numbers_toless (x.0.0 ∷ x.0.1) v.0))
+      ∙ ap (λ (o : Option (ℕ × List ℕ)). o >>= λ a. referred_at (codes " TO" ++ behind) >>= λ b. Some (a, b)) (indices_rest.again x.0 v.0)
+      ∙ ap (λ (o : Option (ℕ × (ℕ × List ℕ))). o >>= λ b. Some (x.0, b)) (referred_written.again x.1 v.1)
+
+  takes : (s : List ℕ) (x : ReferenceWords) → on_both_sides (codes " TO") (some index) referred_at s ≡ Some x → (s ≡ further (reference_words x)) × AreReferenceWords x
+  takes s x e =
+      let f = bind_some (parted (codes " TO") s) (λ y. some index y.0 >>= λ a. referred_at y.1 >>= λ b. Some (a, b)) x e in
+      let g = bind_some (some index f.0.0) (λ a. referred_at f.0.1 >>= λ b. Some (a, b)) x f.2 in
+      let h = bind_some (referred_at f.0.1) (λ b. Some (g.0, b)) x g.2 in
+      let made : ReferenceWords = (g.0, h.0) in
+      let left = indices_rest.takes f.0.0 g.0 g.1 in
+      let right = referred_written.takes f.0.1 h.0 h.1 in
+      let whole : s ≡ further (reference_words made) =
+      parted_takes (codes " TO") s f.0.0 f.0.1 f.1
+      ∙ ap (λ t. t ++ f.0.1) left.0
+      ∙ ap (λ t. further (map number (g.0.0 ∷ g.0.1)) ++ t) right.0
+      ∙ sym (further_append (map number (g.0.0 ∷ g.0.1)) (codes "TO" ∷ number h.0.0 ∷ map number (h.0.1.0 ∷ h.0.1.1))) in
+      subst (λ (y : ReferenceWords). (s ≡ further (reference_words y)) × AreReferenceWords y) (some_is made x h.2) (whole, (left.1, right.1))
+
+pub reference_written : Written (λ (x : ReferenceWords). reference_line (key_from 0 (reference_of x))) AreReferenceWords reference_at
+reference_written = begin (codes "REF") reference_words AreReferenceWords (on_both_sides (codes " TO") (some index) referred_at) reference_rest
+
+-- ---- SET
 
 pub set_written : Written (λ n. spaced (codes "SET" ∷ number n ∷ [])) IsIndex set_at
 set_written = begin (codes "SET") (λ n. number n ∷ []) IsIndex (last index) number_rest

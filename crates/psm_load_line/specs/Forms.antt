@@ -11,7 +11,7 @@ use Rattle.psm_table.specs.declared.definition.Column.{Column}
 use Rattle.psm_exprcode.specs.declared.aggregate.SetFunction.{SetFunction}
 use Rattle.psm_exprcode.specs.declared.aggregate.SetFunction.TheVariants as sets
 use Rattle.psm_words.specs.Reading.{◌>>=◌, after, datum_at, state_at, type_at}
-use Rattle.psm_load_line.specs.Readers.{alone, both, by_word, dash_or, flag_at, index_at, last, line, made, many, name_at, on, one_of, some, word, LineReader, Reader}
+use Rattle.psm_load_line.specs.Readers.{alone, both, by_word, dash_or, flag_at, index_at, last, line, made, many, name_at, on, on_both_sides, one_of, some, word, LineReader, Reader}
 
 -- a number after a blank
 abbrev pub index : Reader ℕ
@@ -19,16 +19,16 @@ index = word index_at
 
 -- ---- the first line, and tables
 
--- PSM 2 tables routines
+-- PSM 3 tables routines
 abbrev pub first_at : LineReader (ℕ × ℕ)
-first_at = line (codes "PSM 2") (last (both index index))
+first_at = line (codes "PSM 3") (last (both index index))
 
--- TABLE name columns uniques checks
+-- TABLE name columns uniques checks keys
 abbrev pub TableHead : Type 0
-TableHead = List ℕ × (ℕ × (ℕ × ℕ))
+TableHead = List ℕ × (ℕ × (ℕ × (ℕ × ℕ)))
 
 abbrev pub table_at : LineReader TableHead
-table_at = line (codes "TABLE") (last (both (word name_at) (both index (both index index))))
+table_at = line (codes "TABLE") (last (both (word name_at) (both index (both index (both index index)))))
 
 -- COL name type 0|1 datum
 abbrev pub column_of : List ℕ × (SqlType × (Bool × Datum)) → Column
@@ -43,6 +43,16 @@ key_at = line (codes "KEY") (some index)
 
 abbrev pub unique_at : LineReader (ℕ × List ℕ)
 unique_at = line (codes "UNI") (some index)
+
+-- REF i {i} TO table j {j}
+abbrev pub ReferenceWords : Type 0
+ReferenceWords = (ℕ × List ℕ) × (ℕ × (ℕ × List ℕ))
+
+abbrev pub referred_at : LineReader (ℕ × (ℕ × List ℕ))
+referred_at = line (codes " TO") (on index (some index))
+
+abbrev pub reference_at : LineReader ReferenceWords
+reference_at = line (codes "REF") (on_both_sides (codes " TO") (some index) referred_at)
 
 -- ---- queries
 

@@ -20,7 +20,7 @@ use Rattle.psm_object.specs.Handlers.{handler_kind_word}
 use Rattle.psm_object.specs.Words.{flag, spaced}
 use Rattle.psm_object.specs.Queries.{direction_word, function_word}
 use Rattle.psm_object.specs.Routines.{routine_kind_word}
-use Rattle.psm_load_line.specs.Forms.{HandlerHead, ItemHead, PlanHead, QueryHead, TableHead, ValueWord, Delete, DeleteAt, Function, Insert, InsertQuery, Named, NotFound, Rows, SqlException, SqlWarning, State, Update, UpdateAt, Value}
+use Rattle.psm_load_line.specs.Forms.{HandlerHead, ItemHead, PlanHead, QueryHead, ReferenceWords, TableHead, ValueWord, Delete, DeleteAt, Function, Insert, InsertQuery, Named, NotFound, Rows, SqlException, SqlWarning, State, Update, UpdateAt, Value}
 use Rattle.psm_load_line.specs.RoutineForms.{ControlCounts, DataCounts, RoutineHead}
 
 -- ---- what a word can say
@@ -39,14 +39,15 @@ EachIs V (a ∷ others) = V a × EachIs V others
 
 -- ---- tables and expressions
 
-abbrev pub table_head : CodeTable → TableHead
-table_head t = (t.definition.name, (length t.definition.columns, (length t.definition.unique, length t.checks)))
+-- of a table with its FOREIGN KEY constraints
+abbrev pub table_head : {A : Type 0} → List A → CodeTable → TableHead
+table_head own t = (t.definition.name, (length t.definition.columns, (length t.definition.unique, (length t.checks, length own))))
 
 abbrev pub table_head_line : TableHead → List ℕ
-table_head_line h = spaced (codes "TABLE" ∷ quoted h.0 ∷ number h.1.0 ∷ number h.1.1.0 ∷ number h.1.1.1 ∷ [])
+table_head_line h = spaced (codes "TABLE" ∷ quoted h.0 ∷ number h.1.0 ∷ number h.1.1.0 ∷ number h.1.1.1.0 ∷ number h.1.1.1.1 ∷ [])
 
 abbrev pub IsTableHead : TableHead → Type 0
-IsTableHead h = IsName h.0 × (IsIndex h.1.0 × (IsIndex h.1.1.0 × IsIndex h.1.1.1))
+IsTableHead h = IsName h.0 × (IsIndex h.1.0 × (IsIndex h.1.1.0 × (IsIndex h.1.1.1.0 × IsIndex h.1.1.1.1)))
 
 abbrev pub expression_head_line : ℕ → List ℕ
 expression_head_line m = spaced (codes "EXPR" ∷ number m ∷ [])
@@ -149,7 +150,7 @@ IsCodeLine l = IsIndex l.context × IfThere IsIndex l.resume × IsInstruction l.
 -- ---- the first line, queries, routines and declared conditions
 
 abbrev pub first_head_line : ℕ × ℕ → List ℕ
-first_head_line h = spaced (codes "PSM" ∷ codes "2" ∷ number h.0 ∷ number h.1 ∷ [])
+first_head_line h = spaced (codes "PSM" ∷ codes "3" ∷ number h.0 ∷ number h.1 ∷ [])
 
 abbrev pub query_head_line : QueryHead → List ℕ
 query_head_line h = spaced (codes "QUERY" ∷ number h.0 ∷ direction_word h.1.0 ∷ number h.1.1.0 ∷ flag h.1.1.1 ∷ [])
@@ -207,6 +208,10 @@ IsColumn c = IsName c.name × FitsType c.kind × IsDatum c.default
 -- the numbers of columns, the first of which is there
 abbrev pub AreColumns : ℕ × List ℕ → Type 0
 AreColumns x = IsIndex x.0 × EachIs IsIndex x.1
+
+-- the columns of a FOREIGN KEY constraint, and the table and the columns to which they refer
+abbrev pub AreReferenceWords : ReferenceWords → Type 0
+AreReferenceWords x = AreColumns x.0 × (IsIndex x.1.0 × AreColumns x.1.1)
 
 abbrev pub IsParameter : Parameter → Type 0
 IsParameter p = IsName p.name × FitsType p.kind

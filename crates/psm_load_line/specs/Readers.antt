@@ -1,6 +1,7 @@
 -- How a line of a listing is read: its words one after another, each after one blank. `Reading` of psm_words has how a word is read.
 use Rattle.std.specs.Prelude.{ℕ, Bool, List, [], ◌∷◌, codes, nat_eq, Option, Some, None, if◌then◌else◌}
 use Rattle.std.specs.Cmp.Lexicographic.{pointwise}
+use Rattle.std.specs.List.{starts_with}
 use Rattle.std.specs.Result.{result_ok}
 use Rattle.psm_text.specs.Name.{name_of}
 use Rattle.psm_words.specs.Reading.{◌>>=◌, after, number_at, quoted_at}
@@ -61,6 +62,20 @@ many p s = many_within p s s
 -- one word or more
 abbrev pub some : {A : Type 0} → Reader A → LineReader (A × List A)
 some p = on p (many p)
+
+-- ---- words on both sides of a word
+
+-- what stands before the first place of a word, and what stands from there on
+abbrev pub prefixed : ℕ → List ℕ × List ℕ → Option (List ℕ × List ℕ)
+prefixed c x = Some (c ∷ x.0, x.1)
+
+abbrev pub parted : List ℕ → List ℕ → Option (List ℕ × List ℕ)
+parted w [] = None
+parted w (c ∷ s) = if starts_with nat_eq (c ∷ s) w then Some ([], c ∷ s) else (parted w s >>= prefixed c)
+
+-- a line that is read from both sides of that place
+abbrev pub on_both_sides : {A B : Type 0} → List ℕ → LineReader A → LineReader B → LineReader (A × B)
+on_both_sides w p q s = parted w s >>= λ x. p x.0 >>= λ a. q x.1 >>= λ b. Some (a, b)
 
 -- ---- words of a table
 

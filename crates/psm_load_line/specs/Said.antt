@@ -9,6 +9,7 @@ use Rattle.psm_cond.specs.declared.handlers.ConditionValue.TheVariants as values
 use Rattle.psm_cond.specs.declared.handlers.Declared.{Declared}
 use Rattle.psm_cond.specs.declared.handlers.Declared.TheVariants as declares
 use Rattle.psm_cond.specs.declared.handlers.Handler.{Handler}
+use Rattle.psm_table.specs.declared.definition.ForeignKey.{ForeignKey}
 use Rattle.psm_load_line.specs.Forms as forms
 use Rattle.psm_load_line.specs.Forms.{ValueWord, Delete, DeleteAt, Function, Insert, InsertQuery, Named, NotFound, Rows, SqlException, SqlWarning, State, Update, UpdateAt, Value}
 use Rattle.psm_load_line.specs.RoutineForms as routines
@@ -21,6 +22,7 @@ use Rattle.psm_load_line.specs.declared.head.ItemHead.TheVariants as item
 use Rattle.psm_load_line.specs.declared.head.PlanHead.{PlanHead}
 use Rattle.psm_load_line.specs.declared.head.PlanHead.TheVariants as plan
 use Rattle.psm_load_line.specs.declared.head.QueryHead.{QueryHead}
+use Rattle.psm_load_line.specs.declared.head.Reference.{Reference}
 use Rattle.psm_load_line.specs.declared.head.RoutineHead.{RoutineHead}
 use Rattle.psm_load_line.specs.declared.head.TableHead.{TableHead}
 
@@ -33,7 +35,7 @@ Reads said (Err Memory) = Unit {0}
 -- ---- lines that count others
 
 abbrev pub table_head_of : forms.TableHead → TableHead
-table_head_of h = record { name = h.0; columns = h.1.0; uniques = h.1.1.0; checks = h.1.1.1 }
+table_head_of h = record { name = h.0; columns = h.1.0; uniques = h.1.1.0; checks = h.1.1.1.0; keys = h.1.1.1.1 }
 
 abbrev pub query_head_of : forms.QueryHead → QueryHead
 query_head_of h = record { table = h.0; downward = h.1.0; items = h.1.1.0; has_test = h.1.1.1 }
@@ -64,6 +66,13 @@ routine_head_of h = record { is_function = h.0; name = h.1.0; data_counts = data
 
 abbrev pub columns_of : ℕ × List ℕ → List ℕ
 columns_of x = x.0 ∷ x.1
+
+abbrev pub reference_of : forms.ReferenceWords → Reference
+reference_of x = record { columns = columns_of x.0; to = x.1.0; target = columns_of x.1.1 }
+
+-- the FOREIGN KEY constraint of the table of that number
+abbrev pub key_from : ℕ → Reference → ForeignKey
+key_from n r = record { from = n; columns = r.columns; to = r.to; target = r.target }
 
 -- ---- conditions and handlers: a state that is none, or a name on another state than 45000, stands for the state 00000, which breaks the
 -- same rule on the same line

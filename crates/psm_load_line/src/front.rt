@@ -2,7 +2,7 @@
 ghost use Rattle.std.specs.Prelude.{◌≡◌, ◌≤◌, codes, drop, length, map, option_map, take};
 ghost use Rattle.psm_words.specs.Reading.{after as after_word, datum_at, type_at};
 ghost use Rattle.psm_load_line.specs.Forms as forms;
-ghost use Rattle.psm_load_line.specs.Readers.{bare, chosen, flag_at, last, name_at, one_of, word};
+ghost use Rattle.psm_load_line.specs.Readers.{bare, chosen, flag_at, last, name_at, one_of, parted as parted_at, word};
 ghost use Rattle.psm_load_line.specs.Taken.{IsText, Takes};
 
 use crate::fault::Unread;
@@ -21,6 +21,18 @@ pub(crate) fn keyword<'a>(word: &[u8], line: &'a [u8]) -> Option<&'a [u8]>
     } else {
         None
     }
+}
+
+/// What stands before the first place of a word, and what stands from there on.
+pub(crate) fn parted<'a>(word: &[u8], text: &'a [u8]) -> Option<(&'a [u8], &'a [u8])>
+    ensures { option_map (λ x. (x.0.now, x.1.now)) result ≡ parted_at word.now text.now }
+{
+    for at in 0..text.len() {
+        if text[at..].starts_with(word) {
+            return Some((&text[..at], &text[at..]));
+        }
+    }
+    None
 }
 
 /// The number after a blank, and what follows it.

@@ -5,13 +5,22 @@ use psm_list::List;
 use psm_text::Name;
 use psm_value::SqlType;
 
-/// The line of a table: its name, and how many columns, UNIQUE lists and CHECKs it has.
+/// The line of a table: its name, and how many columns, UNIQUE lists, CHECKs and FOREIGN KEY constraints it has.
 #[derive(Debug, Drop)]
 pub struct TableHead {
     pub name: Name,
     pub columns: u32,
     pub uniques: u32,
     pub checks: u32,
+    pub keys: u32,
+}
+
+/// The line of a FOREIGN KEY constraint: its columns, and the table and the columns to which they refer.
+#[derive(Debug, Drop)]
+pub struct Reference {
+    pub columns: List<u32>,
+    pub to: u32,
+    pub target: List<u32>,
 }
 
 /// The line of a query: its table, whether it goes downward, how many items it has, and whether it has a test.

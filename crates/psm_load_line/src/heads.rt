@@ -25,7 +25,7 @@ pub fn set_head(line: &[u8]) -> Option<u32>
 pub fn first_head(line: &[u8]) -> Option<(u32, u32)>
     ensures { result ≡ forms.first_at line.now }
 {
-    let (tables, rest) = index(keyword(b"PSM 2", line)?)?;
+    let (tables, rest) = index(keyword(b"PSM 3", line)?)?;
     let (routines, rest) = index(rest)?;
     if rest.is_empty() {
         Some((tables, routines))

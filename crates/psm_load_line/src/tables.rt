@@ -1,14 +1,14 @@
 //! The lines of tables.
-ghost use Rattle.std.specs.Prelude.{◌≡◌, option_map};
-ghost use Rattle.psm_words.specs.Reading.{datum_at};
-ghost use Rattle.psm_load_line.specs.Forms.{column_at, index as index_word, key_at, table_at, unique_at};
+ghost use Rattle.std.specs.Prelude.{◌≡◌, codes, option_map};
+ghost use Rattle.psm_words.specs.Reading.{◌>>=◌, after, datum_at};
+ghost use Rattle.psm_load_line.specs.Forms.{column_at, index as index_word, key_at, reference_at, referred_at, table_at, unique_at};
 ghost use Rattle.psm_load_line.specs.Readers.{both, flag_at, last, word};
-ghost use Rattle.psm_load_line.specs.Said.{columns_of, table_head_of, Reads};
-ghost use Rattle.psm_load_line.specs.Taken.{Takes};
+ghost use Rattle.psm_load_line.specs.Said.{columns_of, reference_of, table_head_of, Reads};
+ghost use Rattle.psm_load_line.specs.Taken.{Builds, Takes};
 
 use crate::fault::Unread;
-use crate::front::{flag, index, keyword, kind, name, value};
-use crate::head::TableHead;
+use crate::front::{flag, index, keyword, kind, name, parted, value};
+use crate::head::{Reference, TableHead};
 use crate::lists::columns;
 use psm_list::List;
 use psm_table::Column;
@@ -21,26 +21,28 @@ pub fn table_head(alloc: Global, line: &[u8]) -> Result<TableHead, Unread>
 {
     let rest = keyword(b"TABLE", line).ok_or(Unread::Misfit)?;
     let (name, rest) = name(alloc, rest)?;
-    match three(rest) {
-        Some((columns, uniques, checks)) => Ok(TableHead {
+    match four(rest) {
+        Some((columns, uniques, checks, keys)) => Ok(TableHead {
             name,
             columns,
             uniques,
             checks,
+            keys,
         }),
         None => Err(Unread::Misfit),
     }
 }
 
-/// Three numbers, up to the end.
-fn three(rest: &[u8]) -> Option<(u32, u32, u32)>
-    ensures { option_map (λ x. (x.0, (x.1, x.2))) result ≡ last (both index_word (both index_word index_word)) rest.now }
+/// Four numbers, up to the end.
+fn four(rest: &[u8]) -> Option<(u32, u32, u32, u32)>
+    ensures { option_map (λ x. (x.0, (x.1, (x.2, x.3)))) result ≡ last (both index_word (both index_word (both index_word index_word))) rest.now }
 {
     let (first, rest) = index(rest)?;
     let (second, rest) = index(rest)?;
     let (third, rest) = index(rest)?;
+    let (fourth, rest) = index(rest)?;
     if rest.is_empty() {
-        Some((first, second, third))
+        Some((first, second, third, fourth))
     } else {
         None
     }
@@ -87,4 +89,34 @@ pub fn unique(alloc: Global, line: &[u8]) -> Result<List<u32>, Unread>
     ensures { Reads (option_map columns_of (unique_at line.now)) result }
 {
     columns(alloc, keyword(b"UNI", line).ok_or(Unread::Misfit)?)
+}
+
+/// What a line `REF` says.
+pub fn reference(alloc: Global, line: &[u8]) -> Result<Reference, Unread>
+    ensures { Reads (option_map reference_of (reference_at line.now)) result }
+{
+    let rest = keyword(b"REF", line).ok_or(Unread::Misfit)?;
+    let (before, behind) = parted(b" TO", rest).ok_or(Unread::Misfit)?;
+    let columns = columns(alloc, before)?;
+    let (to, target) = referred(alloc, behind)?;
+    Ok(Reference {
+        columns,
+        to,
+        target,
+    })
+}
+
+/// The table and the columns to which a constraint refers.
+fn referred(alloc: Global, rest: &[u8]) -> Result<(u32, List<u32>), Unread>
+    ensures { Builds (λ x. (x.0, columns_of x.1)) (referred_at rest.now) result }
+{
+    let (to, rest) = numbered(rest).ok_or(Unread::Misfit)?;
+    Ok((to, columns(alloc, rest)?))
+}
+
+/// The number of the table, and what follows it.
+fn numbered(rest: &[u8]) -> Option<(u32, &[u8])>
+    ensures { option_map (λ x. (x.0, x.1.now)) result ≡ (after (codes " TO") rest.now >>= index_word) }
+{
+    index(keyword(b" TO", rest)?)
 }

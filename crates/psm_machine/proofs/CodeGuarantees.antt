@@ -1,5 +1,5 @@
 -- Well-formed code has what its queries, cursors and plans ask.
-use Rattle.std.proofs.Common.{◌≡◌, ℕ, zero, suc, true, List, [], ◌∷◌, ◌++◌, map, slice_get, Option, Some, None, Ok, IfSome, refl, ap, sym, subst, ◌∙◌}
+use Rattle.std.proofs.Common.{◌≡◌, ℕ, zero, suc, true, List, [], ◌∷◌, ◌++◌, map, slice_get, Option, Some, None, Ok, IfSome, All, refl, ap, sym, subst, ◌∙◌}
 use Rattle.std.specs.Prelude.{option_map, slice_set}
 use Rattle.std.specs.Option.{option_map_or}
 use Rattle.psm_value.specs.declared.datum.Datum.{Datum}
@@ -8,11 +8,12 @@ use Rattle.psm_exprcode.specs.declared.items.Items.TheVariants as items
 use Rattle.psm_exprcode.specs.declared.op.Line.{Line}
 use Rattle.psm_exprcode.specs.declared.query.Query.{Query}
 use Rattle.psm_exprcode.specs.declared.set_item.SetItem.{SetItem}
-use Rattle.psm_table.specs.Changing.{Changed}
+use Rattle.psm_table.specs.Changing.{Changed, Schema}
 use Rattle.psm_table.specs.Cursors.{Closed, Cursor, Insensitive, Plain}
 use Rattle.psm_table.specs.Definition.{IsKey}
+use Rattle.psm_table.specs.Keyed.{are_keyed, are_keyed_with, rows_in, IsKeyOf}
 use Rattle.psm_table.specs.Table.{Contents}
-use Rattle.psm_table.proofs.Legal.{legal_inserted}
+use Rattle.psm_table.proofs.Legal.{keyed_inserted, legal_inserted}
 use Rattle.psm_tablecode.specs.NewRows.{new_row}
 use Rattle.psm_tablecode.specs.TypeChecks.{gives_truth, letters_of, TypeChecksTable}
 use Rattle.psm_cursor.specs.TypeChecks.{HasRows, StandsIn, TypeChecksCursor}
@@ -32,7 +33,8 @@ use Rattle.psm_code.specs.MachineInvariant.{AreCursors, AreLawful, IsKept, Keeps
 use Rattle.psm_code.proofs.Faults.{clean_first, clean_flat, clean_second, clean_tail, routine_well_formed, Clean, WellFormedRoutineCode}
 use Rattle.psm_code.proofs.Fetching.{well_formed_cursor, WellFormedCursorCode}
 use Rattle.psm_code.proofs.Operating.{stored_letters}
-use Rattle.psm_code.proofs.Planning.{kept_set}
+use Rattle.psm_code.proofs.KeysOfTables.{keys_are_of_tables, kept_definitions}
+use Rattle.psm_code.proofs.Planning.{kept_set, legal_of, rows_set}
 use Rattle.psm_code.proofs.Queried.{kept_at, well_formed_query, WellFormedQueryCode}
 use Rattle.psm_code.proofs.Rowing.{inserted_rows}
 use Rattle.psm_code.proofs.Guarantees.{checks_type_check, query_type_checks, sets_type_check, test_given}
@@ -65,14 +67,21 @@ cursor_kept code r (y ∷ xs) (d ∷ cs) (suc i) x c h e f = cursor_kept code r 
 -- ---- tables of well-formed code
 
 module _ (code : RawCode) (tables : List Contents) (well_formed_code : first_fault code ≡ None) (kept : AreLawful code tables) where
-  has_table : (n : ℕ) (t : CodeTable) → slice_get code.tables n ≡ Some t → HasTable t tables n
+  has_table : (n : ℕ) (t : CodeTable) → slice_get code.tables n ≡ Some t → HasTable code.keys t tables n
   has_table n t e =
       let k = kept_at code.tables tables n t kept.kept e in
-      record { contents = k.0; there = k.1; kept = k.2; checks = subst (λ d. ChecksTypeCheck t.checks d) (sym k.2.same) (checks_type_check code n t well_formed_code e) }
+      record {
+        contents = k.0;
+        there = k.1;
+        kept = k.2;
+        checks = subst (λ d. ChecksTypeCheck t.checks d) (sym k.2.same) (checks_type_check code n t well_formed_code e);
+        keys_there = subst (λ defs. All (IsKeyOf defs) code.keys) (sym (kept_definitions code.tables tables kept.kept)) (keys_are_of_tables code well_formed_code);
+        keyed = kept.keyed;
+      }
 
   -- rows may be put in
   pub put_right : (n : ℕ) → MayPut code tables n
-  put_right n = if_some (λ t. HasTable t tables n) (slice_get code.tables n) (λ t e. has_table n t e)
+  put_right n = if_some (λ t. HasTable code.keys t tables n) (slice_get code.tables n) (λ t e. has_table n t e)
 
   -- and the tables stay those of the code with the rows that are due
   pub put_kept : (n : ℕ) (t : CodeTable) (c : Contents) → slice_get code.tables n ≡ Some t → slice_get tables n ≡ Some c → (columns : List ℕ) (rows : List (List Datum)) (changed : Changed) → put_due (are_keyed_with code.keys (rows_in tables) n) t columns rows c ≡ Ok changed
@@ -154,7 +163,7 @@ module _ (code : RawCode) (r : RawRoutine) (tables : List Contents) (vars : List
   may_do_by (plans.InsertQuery table columns query) c = (may_ask query, put_right code tables h.well_formed_code h.kept table)
   may_do_by (plans.Update table sets test) c =
       let parts = clean_tail (plan_fault code r (plans.Update table sets test)) (sets_in code r table sets ++ test_in code r table test) c in
-      if_some (MayChange tables table vars sets test) (slice_get code.tables table) (λ t e.
+      if_some (MayChange code.keys tables table vars sets test) (slice_get code.tables table) (λ t e.
       let k = has_table code tables h.well_formed_code h.kept table t e in
       record {
         table = k;
@@ -162,15 +171,15 @@ module _ (code : RawCode) (r : RawRoutine) (tables : List Contents) (vars : List
         testing = subst (λ d. TypeChecksTest test vars d) (sym k.kept.same) (test_type_checks table t test e (clean_second (sets_in code r table sets) (test_in code r table test) parts));
       })
   may_do_by (plans.Delete table test) c =
-      if_some (MayErase tables table vars test) (slice_get code.tables table) (λ t e.
+      if_some (MayErase code.keys tables table vars test) (slice_get code.tables table) (λ t e.
       let k = has_table code tables h.well_formed_code h.kept table t e in
       record { table = k; testing = subst (λ d. TypeChecksTest test vars d) (sym k.kept.same) (test_type_checks table t test e (clean_tail (plan_fault code r (plans.Delete table test)) (test_in code r table test) c)) })
   may_do_by (plans.UpdateAt cursor sets) c =
-      let P : CodeCursor → Cursor → Type 0 = λ x c. OverQuery r x (λ n. IfSome (slice_get code.tables n) (MayChangeAt tables n vars sets c)) in
+      let P : CodeCursor → Cursor → Type 0 = λ x c. OverQuery r x (λ n. IfSome (slice_get code.tables n) (MayChangeAt code.keys tables n vars sets c)) in
       if_some (λ x. IfSome (slice_get cursors cursor) (P x)) (slice_get r.cursors cursor) (λ x e.
       if_some (P x) (slice_get cursors cursor) (λ d f.
-      if_some (λ q. IfSome (slice_get code.tables q.table) (MayChangeAt tables q.table vars sets d)) (slice_get r.queries x.query) (λ q a.
-      if_some (MayChangeAt tables q.table vars sets d) (slice_get code.tables q.table) (λ t b.
+      if_some (λ q. IfSome (slice_get code.tables q.table) (MayChangeAt code.keys tables q.table vars sets d)) (slice_get r.queries x.query) (λ q a.
+      if_some (MayChangeAt code.keys tables q.table vars sets d) (slice_get code.tables q.table) (λ t b.
       let k = has_table code tables h.well_formed_code h.kept q.table t b in
       let table : cursor_table r cursor ≡ Some q.table = ap (λ o. table_of_query r (option_map (λ (c : CodeCursor). c.query) o)) e ∙ ap (λ o. option_map (λ (q : Query). q.table) o) a in
       let parts = clean_tail (plan_fault code r (plans.UpdateAt cursor sets)) (sets_in code r (or_none code (cursor_table r cursor)) sets) c in
@@ -180,11 +189,11 @@ module _ (code : RawCode) (r : RawRoutine) (tables : List Contents) (vars : List
         stands = stands q t k.contents d b k.kept.same (kept_here cursor x d q e f a);
       }))))
   may_do_by (plans.DeleteAt cursor) c =
-      let P : CodeCursor → Cursor → Type 0 = λ x c. OverQuery r x (λ n. IfSome (slice_get code.tables n) (MayEraseAt tables n c)) in
+      let P : CodeCursor → Cursor → Type 0 = λ x c. OverQuery r x (λ n. IfSome (slice_get code.tables n) (MayEraseAt code.keys tables n c)) in
       if_some (λ x. IfSome (slice_get cursors cursor) (P x)) (slice_get r.cursors cursor) (λ x e.
       if_some (P x) (slice_get cursors cursor) (λ d f.
-      if_some (λ q. IfSome (slice_get code.tables q.table) (MayEraseAt tables q.table d)) (slice_get r.queries x.query) (λ q a.
-      if_some (MayEraseAt tables q.table d) (slice_get code.tables q.table) (λ t b.
+      if_some (λ q. IfSome (slice_get code.tables q.table) (MayEraseAt code.keys tables q.table d)) (slice_get r.queries x.query) (λ q a.
+      if_some (MayEraseAt code.keys tables q.table d) (slice_get code.tables q.table) (λ t b.
       let k = has_table code tables h.well_formed_code h.kept q.table t b in
       record { table = k; stands = stands q t k.contents d b k.kept.same (kept_here cursor x d q e f a) }))))
 

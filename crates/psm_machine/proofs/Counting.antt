@@ -1,5 +1,5 @@
 -- Statements that leave a table with other rows, as parts of an instruction.
-use Rattle.std.proofs.Common.{◌≡◌, ℕ, zero, suc, List, [], ◌∷◌, map, slice_get, Option, Some, IfSome, IsErrAnd, Result, Ok, Err, refl, ap, sym, subst, ◌∙◌}
+use Rattle.std.proofs.Common.{◌≡◌, ℕ, zero, suc, Bool, List, [], ◌∷◌, map, slice_get, Option, Some, IfSome, IsErrAnd, Result, Ok, Err, refl, ap, sym, subst, ◌∙◌}
 use Rattle.psm_cond.specs.Condition.{Entries}
 use Rattle.psm_cond.specs.declared.fault.DataFault.{DataFault}
 use Rattle.psm_cond.specs.declared.fault.DataFault.TheVariants as fault
@@ -21,6 +21,7 @@ use Rattle.psm_code.specs.declared.code.RawCode.{RawCode}
 use Rattle.psm_code.specs.Plans.{delete_rows, leaves, plain, put_in, schema_of, set_item, some_row, unless_failed, update_rows}
 use Rattle.psm_code.specs.State.{Machine}
 use Rattle.psm_code.specs.Steps.{Act, Came, Raises, go_on, got, raises, ◌>>=◌, ◌>>◌}
+use Rattle.psm_code.proofs.Planning.{any_rows}
 use Rattle.psm_unwind.specs.declared.run.Run.{Run}
 use Rattle.psm_unwind.specs.View.{machine_of}
 use Rattle.psm_machine.specs.declared.stop.Stop.{Stop}
@@ -103,8 +104,8 @@ pub schema_alone : (t : CodeTable) (def : TableDef) → def ≡ t.definition →
 schema_alone t def e = ap (λ d. ends.schema_of d t.checks) e
 
 -- a table that is there is legal
-pub legal_there : {t : CodeTable} {tables : List Contents} {n : ℕ} → (h : HasTable t tables n) → IsLegal plain (ends.schema_of h.contents.def t.checks) h.contents.rows
-legal_there {t} h = subst (λ s. IsLegal plain s h.contents.rows) (sym (schema_alone t h.contents.def h.kept.same)) h.kept.legal
+pub legal_there : {keys : List ForeignKey} {t : CodeTable} {tables : List Contents} {n : ℕ} → (h : HasTable keys t tables n) → IsLegal plain (ends.schema_of h.contents.def t.checks) h.contents.rows
+legal_there {keys} {t} h = subst (λ s. IsLegal plain s h.contents.rows) (sym (schema_alone t h.contents.def h.kept.same)) h.kept.legal
 
 -- the definition of a table that is there is that of the code
 ended_in : (t : CodeTable) (c : Contents) (due : Result Changed Failure) (old : List Contents) (n : ℕ) (new : List Contents) (res : Result ℕ DataFault) → c.def ≡ t.definition → Ends c due old n new res → EndsIn t c due old n new res
@@ -112,7 +113,7 @@ ended_in t c due old n new (Ok count) e h = h
 ended_in t c due old n new (Err (fault.Raised x)) e h = (subst (λ d. IsDue d due x) e h.0, h.1)
 ended_in t c due old n new (Err fault.Memory) e h = h
 
-pub puts_into : (keys : List ForeignKey) (t : CodeTable) (n : ℕ) (columns : List ℕ) (rows : List (List Datum)) (old new : List Contents) (res : Result ℕ DataFault) → HasTable t old n
+pub puts_into : (keys : List ForeignKey) (t : CodeTable) (n : ℕ) (columns : List ℕ) (rows : List (List Datum)) (old new : List Contents) (res : Result ℕ DataFault) → HasTable keys t old n
     → IfSome (slice_get old n) (λ c. Ends c (inserted plain (ends.keyed_schema keys old n c.def t.checks) (map (new_row t.definition columns) rows) c.rows) old n new res) → PutsInto keys t n columns rows old new res
 puts_into keys t n columns rows old new res h f =
     let c = h.contents in
@@ -132,7 +133,7 @@ module _ (code : RawCode) (table : ℕ) (t : CodeTable) (declared : slice_get co
   Vars = r.running.variables.items
 
   -- a statement that is due by the rules of the table, as the code has them
-  ruled_counted : (act : Act (Unit {0})) (due : Contents → Schema (List Line) → Result Changed Failure) (res : Result ℕ DataFault) → (h : HasTable t old table)
+  ruled_counted : (act : Act (Unit {0})) (due : Contents → Schema (List Line) → Result Changed Failure) (res : Result ℕ DataFault) → (h : HasTable code.keys t old table)
       → act (machine_of old at r) ≡ ◌>>=◌ (unless_failed t.definition (due h.contents (schema_of keyed t))) (left_with table h.contents some_row) (machine_of old at r)
       → Ends h.contents (due h.contents (ends.keyed_schema code.keys old table h.contents.def t.checks)) old table new res → Counted act some_row old at r new (part_of res)
   ruled_counted act due res h is e =
@@ -143,14 +144,14 @@ module _ (code : RawCode) (table : ℕ) (t : CodeTable) (declared : slice_get co
       let ruled = subst (λ s. Counted (act_of t.definition s) some_row old at r new (part_of res)) (schema_same code.keys old table t c.def h.kept.same) named in
       counted_like act (act_of t.definition (schema_of keyed t)) some_row old at r new (part_of res) is ruled
 
-  pub update_counted : (sets : List SetItem) (test : Option (List Line)) (res : Result ℕ DataFault) → (h : HasTable t old table)
+  pub update_counted : (sets : List SetItem) (test : Option (List Line)) (res : Result ℕ DataFault) → (h : HasTable code.keys t old table)
       → IfSome (slice_get old table) (λ c. Ends c (updated (over Vars) plain (ends.keyed_schema code.keys old table c.def t.checks) (map set_item sets) test c.rows) old table new res)
       → Counted (update_rows code table sets test) some_row old at r new (part_of res)
   update_counted sets test res h f =
       ruled_counted (update_rows code table sets test) (λ c s. updated (over Vars) plain s (map set_item sets) test c.rows) res h (rw (schema_there keyed code.tables table t declared, h.there) refl)
       (of_some (λ (c : Contents). Ends c (updated (over Vars) plain (ends.keyed_schema code.keys old table c.def t.checks) (map set_item sets) test c.rows) old table new res) (slice_get old table) h.contents h.there f)
 
-  pub delete_counted : (test : Option (List Line)) (res : Result ℕ DataFault) → (h : HasTable t old table)
+  pub delete_counted : (test : Option (List Line)) (res : Result ℕ DataFault) → (h : HasTable code.keys t old table)
       → IfSome (slice_get old table) (λ c. (checks : List (List Line)) → IsLegal plain (ends.schema_of c.def checks) c.rows → Ends c (deleted (over Vars) plain (ends.keyed_schema code.keys old table c.def checks) test c.rows) old table new res)
       → Counted (delete_rows code table test) some_row old at r new (part_of res)
   delete_counted test res h f =
@@ -160,7 +161,7 @@ module _ (code : RawCode) (table : ℕ) (t : CodeTable) (declared : slice_get co
 
   -- ---- INSERT
 
-  pub put_counted : (columns : List ℕ) (rows : List (List Datum)) (res : Result ℕ DataFault) → (h : HasTable t old table) → PutsInto code.keys t table columns rows old new res
+  pub put_counted : (columns : List ℕ) (rows : List (List Datum)) (res : Result ℕ DataFault) → (h : HasTable code.keys t old table) → PutsInto code.keys t table columns rows old new res
       → Counted (put_in code table columns rows) nothing_more old at r new (part_of res)
   put_counted columns rows res h f =
       let c = h.contents in

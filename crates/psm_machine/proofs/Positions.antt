@@ -1,6 +1,5 @@
 -- Positioned statements as parts of an instruction.
-use Rattle.std.proofs.Common.{◌≡◌, ℕ, Bool, true, List, map, slice_get, slice_set, Option, Some, None, IfSome, IsSome, Result, Ok, Err, refl, ap, sym, subst, ◌∙◌}
-use Rattle.std.specs.Prelude.{option_map}
+use Rattle.std.proofs.Common.{◌≡◌, ℕ, Bool, true, List, map, slice_get, Option, Some, None, IfSome, IsSome, Result, Ok, Err, refl, ap, sym, subst, ◌∙◌}
 use Rattle.psm_cond.specs.declared.fault.DataFault.{DataFault}
 use Rattle.psm_cond.specs.declared.fault.DataFault.TheVariants as fault
 use Rattle.psm_value.specs.declared.datum.Datum.{Datum}
@@ -8,16 +7,15 @@ use Rattle.psm_exprcode.specs.declared.op.Line.{Line}
 use Rattle.psm_exprcode.specs.declared.query.Query.{Query}
 use Rattle.psm_exprcode.specs.declared.set_item.SetItem.{SetItem}
 use Rattle.psm_table.specs.declared.definition.TableDef.{TableDef}
-use Rattle.psm_table.specs.Changing.{deleted_at as deleted_row, rows_but, updated_at as updated_row, Failure, IsLegal, Moved, Schema}
+use Rattle.psm_table.specs.Changing.{deleted_at as deleted_row, updated_at as updated_row, Failure, IsLegal, Moved, Schema}
 use Rattle.psm_table.specs.Cursors.{Closed, Cursor, Insensitive, Plain}
 use Rattle.psm_table.specs.Key.{values_at}
 use Rattle.psm_table.specs.Keyed.{are_keyed_with, rows_in}
-use Rattle.psm_table.specs.Table.{keyed, without_row, Contents}
+use Rattle.psm_table.specs.Table.{keyed, Contents}
 use Rattle.psm_tablecode.specs.Codes.{over}
 use Rattle.psm_store.specs.declared.store.Mark.{Mark}
-use Rattle.psm_store.specs.RowCalls.{changed_at, put_table}
 use Rattle.psm_dml.specs.Ends as ends
-use Rattle.psm_dml.specs.Ends.{EndsAt, EndsAtRow, ErasesByRules}
+use Rattle.psm_dml.specs.Ends.{EndsAt, EndsAtRow, EndsErased, ErasesByRules}
 use Rattle.psm_cursor.specs.Current.{current_key, current_row, off_row}
 use Rattle.psm_cursor.proofs.Standing.{current_found}
 use Rattle.psm_code.specs.declared.code.CodeCursor.{CodeCursor}
@@ -26,8 +24,8 @@ use Rattle.psm_code.specs.declared.code.RawCode.{RawCode}
 use Rattle.psm_code.specs.declared.code.RawRoutine.{RawRoutine}
 use Rattle.psm_code.specs.Plans.{delete_at, leave_row, leaves, left_by, plain, row_of_cursor, schema_of, set_item, standing_on, unless_failed, update_at}
 use Rattle.psm_code.specs.MachineInvariant.{IsKept}
-use Rattle.psm_code.specs.State.{Machine, with_cursor}
-use Rattle.psm_code.specs.Steps.{Act, Came, change, got, ◌>>=◌, ◌>>◌}
+use Rattle.psm_code.specs.State.{Machine}
+use Rattle.psm_code.specs.Steps.{Act, Came, got, ◌>>=◌, ◌>>◌}
 use Rattle.psm_unwind.specs.declared.run.Run.{Run}
 use Rattle.psm_unwind.specs.View.{machine_of}
 use Rattle.psm_machine.specs.declared.stop.Stop.{Stop}
@@ -35,7 +33,7 @@ use Rattle.psm_machine.specs.Allowed.{HasTable, OfCursor, OverQuery}
 use Rattle.psm_machine.specs.ActResults.{Evaluates}
 use Rattle.psm_machine.specs.Over.{part_of}
 use Rattle.psm_machine.proofs.Asking.{of_some}
-use Rattle.psm_machine.proofs.Counting.{counting, schema_same, schema_there, stopped_by}
+use Rattle.psm_machine.proofs.Counting.{counting, schema_alone, schema_same, schema_there, stopped_by}
 
 -- ---- cursors
 
@@ -67,44 +65,9 @@ may_at P code r cursors number x q t c d a b s h =
     (of_some (λ (q : Query). IfSome (slice_get code.tables q.table) (P q.table c)) (slice_get r.queries x.query) q a
     (of_some (Over x) (slice_get cursors number) c s (of_some (λ (x : CodeCursor). IfSome (slice_get cursors number) (Over x)) (slice_get r.cursors number) x d h)))
 
--- ---- DELETE
+-- ---- how a positioned statement ends
 
-taken_out : (key row : List Datum) (t : Contents) (old new : List Contents) (n : ℕ) → slice_get old n ≡ Some t → key ≡ values_at t.def.key row → new ≡ changed_at (without_row key) old n
-    → new ≡ slice_set old n (record t { rows = rows_but t.def row t.rows })
-taken_out key row t old new n e k h = h ∙ ap (λ o. put_table old n (option_map (without_row key) o)) e ∙ ap (λ k. slice_set old n (without_row k t)) k
-
-abbrev erasing : ℕ → Contents → ℕ → Cursor → List (List Datum) → Act (Unit {0})
-erasing n t number c rows = do
-  leaves n t rows 1
-  leave_row true number c
-
-delete_is : (code : RawCode) (r : RawRoutine) (number : ℕ) (x : CodeCursor) (q : Query) (y : CodeTable) (c : Cursor) (t : Contents) (row : List Datum) (old : List Contents) (at : Mark → List Contents) (run : Run)
-    → slice_get r.cursors number ≡ Some x → slice_get r.queries x.query ≡ Some q → slice_get code.tables q.table ≡ Some y → slice_get old q.table ≡ Some t → slice_get run.running.cursors.items number ≡ Some c → current_row t c ≡ Some row
-    → delete_at code r number (machine_of old at run) ≡ ◌>>=◌ (unless_failed y.definition (deleted_row plain (schema_of y) row t.rows)) (erasing q.table t number c) (machine_of old at run)
-delete_is code r number x q y c t row old at run d a b e s f = rw (d, a, schema_there code.tables q.table y b, e, s, row_found x t c row (machine_of old at run) f) refl
-
--- the statement ends by the rules of the table, which the rows that are left keep
-left_by_rules : (y : CodeTable) (old : List Contents) (n : ℕ) (t : Contents) (key row : List Datum) → HasTable y old n → slice_get old n ≡ Some t → key ≡ values_at t.def.key row → IfSome (slice_get old n) (ErasesByRules key)
-    → deleted_row plain (schema_of y) row t.rows ≡ Ok (rows_but t.def row t.rows)
-left_by_rules y old n t key row h e k f =
-    let kept : IsKept y t = subst (IsKept y) (same_some (slice_get old n) h.contents t h.there e) h.kept in
-    let schema = schema_same y t.def kept.same in
-    let legal = subst (λ s. IsLegal plain s t.rows) (sym schema) kept.legal in
-    subst (λ s. deleted_row plain s row t.rows ≡ Ok (rows_but t.def row t.rows)) schema
-    (of_some (ErasesByRules key) (slice_get old n) t e f row k y.checks legal ∙ ap (λ k. Ok (without_row k t).rows) k)
-
-pub erases : (code : RawCode) (r : RawRoutine) (number : ℕ) (x : CodeCursor) (q : Query) (y : CodeTable) (c : Cursor) (t : Contents) (key row : List Datum) (old new : List Contents) (at : Mark → List Contents) (run : Run)
-    → slice_get r.cursors number ≡ Some x → slice_get r.queries x.query ≡ Some q → slice_get code.tables q.table ≡ Some y → HasTable y old q.table → slice_get old q.table ≡ Some t → slice_get run.running.cursors.items number ≡ Some c
-    → current_row t c ≡ Some row → key ≡ values_at t.def.key row → IfSome (slice_get old q.table) (ErasesByRules key) → new ≡ changed_at (without_row key) old q.table
-    → delete_at code r number (machine_of old at run) ≡ change (with_cursor number (left_by c)) (machine_of new at (counting 1 run))
-erases code r number x q y c t key row old new at run d a b i e s f k l h =
-    delete_is code r number x q y c t row old at run d a b e s f
-    ∙ ap (λ due. ◌>>=◌ (unless_failed y.definition due) (erasing q.table t number c) (machine_of old at run)) (left_by_rules y old q.table t key row i e k l)
-    ∙ ap (λ tables. change (with_cursor number (left_by c)) (machine_of tables at (counting 1 run))) (sym (taken_out key row t old new q.table e k h))
-
--- ---- UPDATE
-
--- a positioned UPDATE is done and leaves the row where the key has changed, or it stops as is due
+-- it is done and leaves the row where that has another key or is gone, or it stops as is due
 abbrev pub Moves : Act (Unit {0}) → ℕ → Cursor → List Contents → (Mark → List Contents) → Run → List Contents → Result Bool Stop → Type 0
 Moves act number c old at r new (Ok b) = act (machine_of old at r) ≡ leave_row b number c (machine_of new at (counting 1 r))
 Moves act number c old at r new (Err s) = Evaluates {A = Unit {0}} (act (machine_of old at r)) (Err s) (machine_of new at r)
@@ -113,6 +76,8 @@ moves_like : (act other : Act (Unit {0})) (number : ℕ) (c : Cursor) (old : Lis
     → Moves other number c old at r new p → Moves act number c old at r new p
 moves_like act other number c old at r new (Ok b) e h = e ∙ h
 moves_like act other number c old at r new (Err s) e h = subst (λ (came : Came (Unit {0})). Evaluates came (Err s) (machine_of new at r)) (sym e) h
+
+-- ---- UPDATE
 
 abbrev then_leaves : ℕ → Contents → ℕ → Cursor → Moved → Act (Unit {0})
 then_leaves n t number c moved = do
@@ -134,7 +99,7 @@ update_is : (code : RawCode) (r : RawRoutine) (number : ℕ) (sets : List SetIte
 update_is code r number sets x q t c o row old at run d a b e s f = rw (d, a, schema_there (are_keyed_with code.keys (rows_in old) q.table) code.tables q.table t b, e, s, row_found x o c row (machine_of old at run) f) refl
 
 pub moves : (code : RawCode) (r : RawRoutine) (number : ℕ) (sets : List SetItem) (x : CodeCursor) (q : Query) (t : CodeTable) (c : Cursor) (key : List Datum) (o : Contents) (old new : List Contents) (at : Mark → List Contents) (run : Run) (res : Result Bool DataFault)
-    → slice_get r.cursors number ≡ Some x → slice_get r.queries x.query ≡ Some q → slice_get code.tables q.table ≡ Some t → (h : HasTable t old q.table) → slice_get run.running.cursors.items number ≡ Some c
+    → slice_get r.cursors number ≡ Some x → slice_get r.queries x.query ≡ Some q → slice_get code.tables q.table ≡ Some t → (h : HasTable code.keys t old q.table) → slice_get run.running.cursors.items number ≡ Some c
     → slice_get old q.table ≡ Some o → current_key c ≡ Some key → IsSome (keyed o key)
     → IfSome (slice_get old q.table) (λ d. EndsAtRow d (λ row. updated_row (over run.running.variables.items) plain (ends.keyed_schema code.keys old q.table d.def t.checks) (map set_item sets) row d.rows) (keyed d key) old q.table new res)
     → Moves (update_at code r number sets) number c old at run new (part_of res)
@@ -152,3 +117,45 @@ moves code r number sets x q t c key other old new at run res d a b h s z k j f 
     let named = subst (λ e. Moves (act e (ends.keyed_schema code.keys old q.table o.def t.checks)) number c old at run new (part_of res)) h.kept.same done in
     let ruled = subst (λ s. Moves (act t.definition s) number c old at run new (part_of res)) (schema_same code.keys old q.table t o.def h.kept.same) named in
     moves_like (update_at code r number sets) (act t.definition (schema_of (are_keyed_with code.keys (rows_in old) q.table) t)) number c old at run new (part_of res) (update_is code r number sets x q t c o row.0 old at run d a b h.there s current) ruled
+
+-- ---- DELETE
+
+abbrev erasing : ℕ → Contents → ℕ → Cursor → List (List Datum) → Act (Unit {0})
+erasing n t number c rows = do
+  leaves n t rows 1
+  leave_row true number c
+
+-- the row is gone where the statement is done
+abbrev pub gone_by : Result (Unit {0}) Stop → Result Bool Stop
+gone_by (Ok u) = Ok true
+gone_by (Err s) = Err s
+
+erased_by : (t : Contents) (due : Result (List (List Datum)) Failure) (number : ℕ) (c : Cursor) (n : ℕ) (old : List Contents) (at : Mark → List Contents) (r : Run) (new : List Contents) (res : Result (Unit {0}) DataFault)
+    → EndsErased t due old n new res → Moves (◌>>=◌ (unless_failed t.def due) (erasing n t number c)) number c old at r new (gone_by (part_of res))
+erased_by t due number c n old at r new (Ok u) h =
+    ap (λ d. ◌>>=◌ (unless_failed t.def d) (erasing n t number c) (machine_of old at r)) h.1 ∙ ap (λ tables. leave_row true number c (machine_of tables at (counting 1 r))) (sym h.2)
+erased_by t due number c n old at r new (Err (fault.Raised e)) h =
+    stopped_by t.def due (erasing n t number c) e (machine_of old at r) (machine_of new at r) h.0 (ap (λ tables. machine_of tables at r) (sym h.1))
+erased_by t due number c n old at r new (Err fault.Memory) h = tt
+
+delete_is : (code : RawCode) (r : RawRoutine) (number : ℕ) (x : CodeCursor) (q : Query) (y : CodeTable) (c : Cursor) (t : Contents) (row : List Datum) (old : List Contents) (at : Mark → List Contents) (run : Run)
+    → slice_get r.cursors number ≡ Some x → slice_get r.queries x.query ≡ Some q → slice_get code.tables q.table ≡ Some y → slice_get old q.table ≡ Some t → slice_get run.running.cursors.items number ≡ Some c → current_row t c ≡ Some row
+    → delete_at code r number (machine_of old at run)
+    ≡ ◌>>=◌ (unless_failed y.definition (deleted_row plain (schema_of (are_keyed_with code.keys (rows_in old) q.table) y) row t.rows)) (erasing q.table t number c) (machine_of old at run)
+delete_is code r number x q y c t row old at run d a b e s f = rw (d, a, schema_there (are_keyed_with code.keys (rows_in old) q.table) code.tables q.table y b, e, s, row_found x t c row (machine_of old at run) f) refl
+
+pub erases : (code : RawCode) (r : RawRoutine) (number : ℕ) (x : CodeCursor) (q : Query) (y : CodeTable) (c : Cursor) (t : Contents) (key row : List Datum) (old new : List Contents) (at : Mark → List Contents) (run : Run) (res : Result (Unit {0}) DataFault)
+    → slice_get r.cursors number ≡ Some x → slice_get r.queries x.query ≡ Some q → slice_get code.tables q.table ≡ Some y → HasTable code.keys y old q.table → slice_get old q.table ≡ Some t → slice_get run.running.cursors.items number ≡ Some c
+    → current_row t c ≡ Some row → key ≡ values_at t.def.key row → IfSome (slice_get old q.table) (ErasesByRules code.keys key old q.table new res)
+    → Moves (delete_at code r number) number c old at run new (gone_by (part_of res))
+erases code r number x q y c t key row old new at run res d a b h e s f k l =
+    let kept : IsKept y t = subst (IsKept y) (same_some (slice_get old q.table) h.contents t h.there e) h.kept in
+    let legal : IsLegal plain (ends.schema_of t.def y.checks) t.rows = subst (λ s. IsLegal plain s t.rows) (sym (schema_alone y t.def kept.same)) kept.legal in
+    let own = ends.keyed_schema code.keys old q.table t.def y.checks in
+    let due : Schema (List Line) → Result (List (List Datum)) Failure = λ s. deleted_row plain s row t.rows in
+    let act : TableDef → Schema (List Line) → Act (Unit {0}) = λ e s. ◌>>=◌ (unless_failed e (due s)) (erasing q.table t number c) in
+    let ended = of_some (ErasesByRules code.keys key old q.table new res) (slice_get old q.table) t e l row k y.checks legal in
+    let done = erased_by t (due own) number c q.table old at run new res ended in
+    let named = subst (λ e. Moves (act e own) number c old at run new (gone_by (part_of res))) kept.same done in
+    let ruled = subst (λ s. Moves (act y.definition s) number c old at run new (gone_by (part_of res))) (schema_same code.keys old q.table y t.def kept.same) named in
+    moves_like (delete_at code r number) (act y.definition (schema_of (are_keyed_with code.keys (rows_in old) q.table) y)) number c old at run new (gone_by (part_of res)) (delete_is code r number x q y c t row old at run d a b e s f) ruled

@@ -1,5 +1,5 @@
 -- INSERT, and how it is a part of an instruction (ISO/IEC 9075:1992, 13.8).
-use Rattle.std.specs.Prelude.{◌≡◌, ℕ, List, [], ◌*◌, length, map, slice_get, slice_set, IfSome, Result, Ok, Err}
+use Rattle.std.specs.Prelude.{◌≡◌, ℕ, Bool, List, [], ◌*◌, length, map, slice_get, slice_set, IfSome, Result, Ok, Err}
 use Rattle.psm_cond.specs.declared.fault.DataFault.{DataFault}
 use Rattle.psm_cond.specs.declared.fault.DataFault.TheVariants as fault
 use Rattle.psm_value.specs.declared.datum.Datum.{Datum}

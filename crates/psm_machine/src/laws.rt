@@ -3,6 +3,7 @@ ghost use Rattle.std.specs.Prelude.{◌≡◌, ℕ, List, IfSome, None, Ok, Some
 ghost use Rattle.psm_value.specs.declared.datum.Datum.{Datum};
 ghost use Rattle.psm_table.specs.Changing.{Changed};
 ghost use Rattle.psm_table.specs.Cursors.{Cursor};
+ghost use Rattle.psm_table.specs.Keyed.{are_keyed_with, rows_in};
 ghost use Rattle.psm_table.specs.Table.{Contents};
 ghost use Rattle.psm_code.specs.declared.code.CodeTable.{CodeTable};
 ghost use Rattle.psm_code.specs.declared.code.RawCode.{RawCode};

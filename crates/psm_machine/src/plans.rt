@@ -116,7 +116,7 @@ fn update_rows<S: Store>(
     sets: &[SetItem],
     test: Option<&ExprCode>,
 ) -> Result<(), Stop>
-    requires may { IfSome (slice_get code.now.tables table) (MayChange (S.tables store.old) table run.old.running.variables.items sets.now (option_copied test)) }
+    requires may { IfSome (slice_get code.now.tables table) (MayChange code.now.keys (S.tables store.old) table run.old.running.variables.items sets.now (option_copied test)) }
     requires room { S.marks store.old < most_marks }
     ensures due { DoesOver (S.tables store.old) (update_rows code.now table sets.now (option_copied test.entry)) run.old result (S.tables store.new) run.new }
     ensures marks { S.marks store.new ≡ S.marks store.old }
@@ -126,12 +126,14 @@ fn update_rows<S: Store>(
     let Some(declared) = table_at(code, table) else {
         return Err(Stop::Stuck);
     };
+    let keys = code.keys.items();
     let vars = run.running.variables.as_slice();
     let count = part_of(update(
         alloc,
         store,
         table,
         declared.checks.items(),
+        keys,
         sets,
         test,
         vars,
@@ -148,7 +150,7 @@ fn delete_rows<S: Store>(
     table: u32,
     test: Option<&ExprCode>,
 ) -> Result<(), Stop>
-    requires may { IfSome (slice_get code.now.tables table) (MayErase (S.tables store.old) table run.old.running.variables.items (option_copied test)) }
+    requires may { IfSome (slice_get code.now.tables table) (MayErase code.now.keys (S.tables store.old) table run.old.running.variables.items (option_copied test)) }
     requires room { S.marks store.old < most_marks }
     ensures due { DoesOver (S.tables store.old) (delete_rows code.now table (option_copied test.entry)) run.old result (S.tables store.new) run.new }
     ensures marks { S.marks store.new ≡ S.marks store.old }
@@ -158,8 +160,9 @@ fn delete_rows<S: Store>(
     let Some(_declared) = table_at(code, table) else {
         return Err(Stop::Stuck);
     };
+    let keys = code.keys.items();
     let vars = run.running.variables.as_slice();
-    let count = part_of(delete(alloc, store, table, test, vars))?;
+    let count = part_of(delete(alloc, store, table, keys, test, vars))?;
     run.area.set_rows(count);
     some_row(alloc, count)
 }

@@ -35,7 +35,7 @@ pub(crate) fn update_at<S: Store>(
     number: u32,
     sets: &[SetItem],
 ) -> Result<(), Stop>
-    requires may { OfCursor routine.now run.old.running.cursors.items number (λ x c. OverQuery routine.now x (λ n. IfSome (slice_get code.now.tables n) (MayChangeAt (S.tables store.old) n run.old.running.variables.items sets.now c))) }
+    requires may { OfCursor routine.now run.old.running.cursors.items number (λ x c. OverQuery routine.now x (λ n. IfSome (slice_get code.now.tables n) (MayChangeAt code.now.keys (S.tables store.old) n run.old.running.variables.items sets.now c))) }
     requires room { S.marks store.old < most_marks }
     ensures due { DoesOver (S.tables store.old) (update_at code.now routine.now number sets.now) run.old result (S.tables store.new) run.new }
     ensures marks { S.marks store.new ≡ S.marks store.old }
@@ -57,11 +57,13 @@ pub(crate) fn update_at<S: Store>(
     let Some(key) = key_on(cursor, store.table(query.table)) else {
         return Err(wrong_state(alloc, declared));
     };
+    let keys = code.keys.items();
     let moved = part_of(psm_dml::update_at(
         alloc,
         store,
         query.table,
         table.checks.items(),
+        keys,
         key,
         sets,
         run.running.variables.as_slice(),
@@ -100,7 +102,8 @@ pub(crate) fn delete_at<S: Store>(
     store: &mut S,
     number: u32,
 ) -> Result<(), Stop>
-    requires may { OfCursor routine.now run.old.running.cursors.items number (λ x c. OverQuery routine.now x (λ n. IfSome (slice_get code.now.tables n) (MayEraseAt (S.tables store.old) n c))) }
+    requires may { OfCursor routine.now run.old.running.cursors.items number (λ x c. OverQuery routine.now x (λ n. IfSome (slice_get code.now.tables n) (MayEraseAt code.now.keys (S.tables store.old) n c))) }
+    requires room { S.marks store.old < most_marks }
     ensures due { DoesOver (S.tables store.old) (delete_at code.now routine.now number) run.old result (S.tables store.new) run.new }
     ensures marks { S.marks store.new ≡ S.marks store.old }
     ensures keeps { Keeps AnyMark (S.holds store.old) (S.at store.old) (S.holds store.new) (S.at store.new) }
@@ -123,7 +126,8 @@ pub(crate) fn delete_at<S: Store>(
         return Err(wrong_state(alloc, declared));
     };
     let key = table.key_of(alloc, row)?;
-    part_of(psm_dml::delete_at(alloc, store, query.table, &key))?;
+    let keys = code.keys.items();
+    part_of(psm_dml::delete_at(alloc, store, query.table, keys, &key))?;
     run.area.set_rows(1);
     leave_row(run, true, number);
     Ok(())

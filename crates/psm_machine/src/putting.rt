@@ -21,7 +21,7 @@ use psm_dml::insert;
 use psm_list::List;
 use psm_sqlstate::SqlState;
 use psm_store::{Row, Store};
-use psm_table::TableDef;
+use psm_table::{ForeignKey, TableDef};
 use psm_unwind::Run;
 use psm_value::Datum;
 use std::alloc::{AllocError, Global};
@@ -98,7 +98,8 @@ fn put_in<S: Store>(
     let Some(declared) = table_at(code, table) else {
         return Err(Stop::Stuck);
     };
-    let count = part_of(put_into(alloc, declared, store, table, columns, rows))?;
+    let keys = code.keys.items();
+    let count = part_of(put_into(alloc, keys, declared, store, table, columns, rows))?;
     run.area.set_rows(count);
     Ok(())
 }
@@ -122,27 +123,37 @@ pub fn put_rows<S: Store>(
     ensures marks { S.marks store.new ≡ S.marks store.old }
     ensures keeps { Keeps AnyMark (S.holds store.old) (S.at store.old) (S.holds store.new) (S.at store.new) }
 {
+    let keys = code.keys.items();
     let tables = code.tables.items();
-    put_into(alloc, &tables[table as usize], store, table, columns, rows)
+    put_into(
+        alloc,
+        keys,
+        &tables[table as usize],
+        store,
+        table,
+        columns,
+        rows,
+    )
 }
 
 // Puts rows into the table that is declared so.
 fn put_into<S: Store>(
     alloc: Global,
+    keys: &[ForeignKey],
     declared: &CodeTable,
     store: &mut S,
     table: u32,
     columns: &[u32],
     rows: &[Row],
 ) -> Result<u32, DataFault>
-    requires has { HasTable declared.now (S.tables store.old) table }
+    requires has { HasTable keys.now declared.now (S.tables store.old) table }
     requires room { S.marks store.old < most_marks }
-    ensures puts { PutsInto declared.now table columns.now rows.now (S.tables store.old) (S.tables store.new) result }
+    ensures puts { PutsInto keys.now declared.now table columns.now rows.now (S.tables store.old) (S.tables store.new) result }
     ensures marks { S.marks store.new ≡ S.marks store.old }
     ensures keeps { Keeps AnyMark (S.holds store.old) (S.at store.old) (S.holds store.new) (S.at store.new) }
 {
     let new = new_rows(alloc, &declared.definition, columns, rows)?;
-    insert(alloc, store, table, declared.checks.items(), new)
+    insert(alloc, store, table, declared.checks.items(), keys, new)
 }
 
 // Takes n rows of n values off the operands, the first of all the lowest.

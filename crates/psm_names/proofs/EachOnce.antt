@@ -149,6 +149,7 @@ rule-at t column_rules.NotNull = at-none
 rule-at t column_rules.PrimaryKey = at-none
 rule-at t column_rules.Unique = at-none
 rule-at t (column_rules.Check e) = expr-all_at e (of_table t)
+rule-at t (column_rules.References r) = at-none
 
 rules-at : (t : TableTree) (rs : List ColumnRule) → AllAt [] (together (map (λ r. in_column_rule (of_table t) r.form) rs))
 rules-at t [] = at-none
@@ -158,6 +159,7 @@ table_rule-at : (t : TableTree) (r : TableRuleForm) → AllAt [] (in_table_rule 
 table_rule-at t (table_rules.PrimaryKey names) = at-none
 table_rule-at t (table_rules.Unique names) = at-none
 table_rule-at t (table_rules.Check e) = expr-all_at e (of_table t)
+table_rule-at t (table_rules.ForeignKey names r) = at-none
 
 element-at : (t : TableTree) (e : Element) → AllAt [] (in_element (of_table t) e)
 element-at t (elements.Column name kind default rules) = rules-at t rules

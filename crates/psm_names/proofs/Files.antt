@@ -42,6 +42,7 @@ own_check-gives s column_rules.NotNull = gives-none
 own_check-gives s column_rules.PrimaryKey = gives-none
 own_check-gives s column_rules.Unique = gives-none
 own_check-gives s (column_rules.Check e) = gives-as (append-nil _) (expr-gives e s)
+own_check-gives s (column_rules.References r) = gives-none
 
 own_checks-give : (s : ResolverScope) (rs : List ColumnRule) → Gives s.symbols (together (map expr_referents (own_checks s rs))) (together (map (λ r. in_column_rule (site_of s) r.form) rs))
 own_checks-give s [] = gives-none
@@ -51,6 +52,7 @@ rule_check-gives : (s : ResolverScope) (r : TableRuleForm) → Gives s.symbols (
 rule_check-gives s (table_rules.PrimaryKey names) = gives-none
 rule_check-gives s (table_rules.Unique names) = gives-none
 rule_check-gives s (table_rules.Check e) = gives-as (append-nil _) (expr-gives e s)
+rule_check-gives s (table_rules.ForeignKey names r) = gives-none
 
 element-gives : (s : ResolverScope) (e : Element) → Gives s.symbols (together (map expr_referents (checks_in s e))) (in_element (site_of s) e)
 element-gives s (elements.Column name kind default rules) = own_checks-give s rules

@@ -15,7 +15,7 @@ use Rattle.psm_scope.specs.declared.kinds.ArgKind.{ArgKind}
 use Rattle.psm_scope.specs.declared.kinds.ArgKind.TheVariants as kinds
 use Rattle.psm_scope.specs.declared.procedures.ProcedureScope.{ProcedureScope}
 use Rattle.psm_rules.specs.CheckerScope.{Columns}
-use Rattle.psm_rules.specs.FileFaults.{column_names, columns_from, columns_of, file_fault, key_fault, keys_of, kinds_of, parameter_of, routines_fault, symbols_of, table_elements, table_fault, too_many, element_fault, alone}
+use Rattle.psm_rules.specs.FileFaults.{column_names, columns_from, columns_of, file_fault, key_fault, keys_of, kinds_of, parameter_of, references_faults, routines_fault, symbols_of, table_elements, table_fault, too_many, element_fault, alone}
 use Rattle.psm_rules.proofs.Earliest.{first_of_cons}
 use Rattle.psm_rules.specs.Faults.{breaks_if, earlier, first_of}
 use Rattle.psm_rules.specs.StatementFaults.{repeated, repeated_from}
@@ -105,19 +105,30 @@ each-table g (t ∷ ts) none =
 
 -- ---- files without a fault
 
+-- what is known of a file without a fault
+pub record FileParts (f : FileTree) : Type 0 where
+  pub names : repeated rule.TableRepeated (map (λ t. t.name) f.tables) ≡ None
+  pub tables : first_of (map table_fault f.tables) ≡ None
+  pub references : first_of (references_faults [] f.tables) ≡ None
+
+pub file-parts : (f : FileTree) → file_fault f ≡ None → FileParts f
+file-parts f none =
+    let routines : Option Fault = first_of (routines_fault (symbols_of f) [] f.«module».routines) in
+    let references : Option Fault = first_of (references_faults [] f.tables) in
+    let first = none-first (repeated rule.TableRepeated (map (λ t. t.name) f.tables)) (first_of (map table_fault f.tables) ∷ references ∷ routines ∷ []) none in
+    let second = none-first (first_of (map table_fault f.tables)) (references ∷ routines ∷ []) first.1 in
+    let third = none-first references (routines ∷ []) second.1 in
+    record { names = first.0; tables = second.0; references = third.0 }
+
 pub names-once : (f : FileTree) → file_fault f ≡ None → NamesEachOnce f
 names-once f none =
-    let routines : Option Fault = first_of (routines_fault (symbols_of f) [] f.«module».routines) in
-    let parts = none-first (repeated rule.TableRepeated (map (λ t. t.name) f.tables)) (first_of (map table_fault f.tables) ∷ routines ∷ []) none in
-    let rest = none-first (first_of (map table_fault f.tables)) (routines ∷ []) parts.1 in
-    record { tables = tables-new [] [] f.tables (λ n. refl) parts.0; columns = each-table (λ c t. c) f.tables rest.0 }
+    let p : FileParts f = file-parts f none in
+    record { tables = tables-new [] [] f.tables (λ n. refl) p.names; columns = each-table (λ c t. c) f.tables p.tables }
 
 pub tables-declared : (f : FileTree) → file_fault f ≡ None → (known_symbols f).tables ≡ map table_declared f.tables
 tables-declared f none =
-    let routines : Option Fault = first_of (routines_fault (symbols_of f) [] f.«module».routines) in
-    let parts = none-first (repeated rule.TableRepeated (map (λ t. t.name) f.tables)) (first_of (map table_fault f.tables) ∷ routines ∷ []) none in
-    let rest = none-first (first_of (map table_fault f.tables)) (routines ∷ []) parts.1 in
-    tables-known f (names-once f none).tables ∙ each-table (λ c t. (t.name.name, c)) f.tables rest.0
+    let p : FileParts f = file-parts f none in
+    tables-known f (names-once f none).tables ∙ each-table (λ c t. (t.name.name, c)) f.tables p.tables
 
 -- ---- resolved tables
 

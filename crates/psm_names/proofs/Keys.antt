@@ -7,12 +7,11 @@ use Rattle.std.proofs.lemmas.List.{append_assoc}
 use Rattle.psm_value.specs.declared.sqltype.SqlType.{SqlType}
 use Rattle.psm_scope.specs.Lookup.{index_named, named, or_else}
 use Rattle.psm_scope.specs.Scopes.{Spelling, is_spelled}
-use Rattle.psm_rules.specs.CheckerScope.{Columns}
-use Rattle.psm_rules.specs.FileFaults.{column_names, columns_of, file_fault, no_symbols, table_elements, table_fault, routines_fault, symbols_of}
+use Rattle.psm_rules.specs.CheckerScope.{Columns, SymbolTable}
+use Rattle.psm_rules.specs.FileFaults.{column_names, columns_of, file_fault, no_symbols, table_elements, table_fault}
 use Rattle.psm_rules.specs.Faults.{breaks_if, first_of}
-use Rattle.psm_rules.specs.StatementFaults.{repeated, repeated_from, several}
+use Rattle.psm_rules.specs.StatementFaults.{repeated_from, several}
 use Rattle.psm_rules.specs.Types.{type_of}
-use Rattle.psm_rules.specs.declared.fault.Fault.{Fault}
 use Rattle.psm_rules.specs.declared.rule.Rule.TheVariants as rule
 use Rattle.psm_tree.specs.declared.file.ColumnRule.{ColumnRule}
 use Rattle.psm_tree.specs.declared.file.ColumnRuleForm.{ColumnRuleForm}
@@ -29,7 +28,7 @@ use Rattle.psm_names.specs.DeclaredInFiles.{columns_declared}
 use Rattle.psm_names.specs.KeyOccurrences.{first_key, in_key, in_uniques, key_in_column_rule, key_in_table_rule, keys_in_element, named_columns, of_key, of_uniques, unique_in_column_rule, unique_in_table_rule, uniques_in_element}
 use Rattle.psm_names.specs.Occurrences.{Occurrence, looked_up, place_of}
 use Rattle.psm_names.specs.Referents.{Column, together}
-use Rattle.psm_names.proofs.FilesDeclared.{Knows, each-same, knows-more, no-repeat, none-first, table-columns, unbroken}
+use Rattle.psm_names.proofs.FilesDeclared.{FileParts, Knows, each-same, file-parts, knows-more, no-repeat, none-first, table-columns, unbroken}
 use Rattle.psm_names.proofs.LookedUp.{Gives, gives-none}
 use Rattle.psm_names.proofs.Simples.{columns-give}
 
@@ -50,6 +49,7 @@ rule-first columns name column_rules.NotNull o ks h = h
 rule-first columns name column_rules.PrimaryKey o ks h = (ks, refl)
 rule-first columns name column_rules.Unique o ks h = h
 rule-first columns name (column_rules.Check e) o ks h = h
+rule-first columns name (column_rules.References r) o ks h = h
 
 own-first : (columns : Columns) (name : Identifier) (rs : List ColumnRule) → IsFirst columns (own_key name rs) (together (map (λ r. key_in_column_rule columns name r.form) rs))
 own-first columns name [] = refl
@@ -59,6 +59,7 @@ table_rule-first : (columns : Columns) (r : TableRuleForm) → IsFirst columns (
 table_rule-first columns (table_rules.PrimaryKey names) = ([], refl)
 table_rule-first columns (table_rules.Unique names) = refl
 table_rule-first columns (table_rules.Check e) = refl
+table_rule-first columns (table_rules.ForeignKey names r) = refl
 
 element-first : (columns : Columns) (e : Element) → IsFirst columns (element_key e) (keys_in_element columns e)
 element-first columns (elements.Column name kind default rules) = own-first columns name rules
@@ -68,15 +69,18 @@ keys-first : (columns : Columns) (es : List Element) → IsFirst columns (key_am
 keys-first columns [] = refl
 keys-first columns (e ∷ es) = first-then columns (element_key e) (key_among es) (keys_in_element columns e) (together (map (keys_in_element columns) es)) (element-first columns e) (keys-first columns es)
 
-first-gives : (columns : Columns) (o : Option (List Identifier)) (ks : List (List Occurrence)) → IsFirst columns o ks → Gives no_symbols (map (λ i. Column i) (places_in columns o)) (first_key ks)
-first-gives columns None ks h = subst (λ l. Gives no_symbols [] (first_key l)) (sym h) gives-none
-first-gives columns (Some names) ks h = subst (λ l. Gives no_symbols (map (λ i. Column i) (places_in columns (Some names))) (first_key l)) (sym h.1) (columns-give no_symbols columns names)
+first-gives : (symbols : SymbolTable) (columns : Columns) (o : Option (List Identifier)) (ks : List (List Occurrence)) → IsFirst columns o ks → Gives symbols (map (λ i. Column i) (places_in columns o)) (first_key ks)
+first-gives symbols columns None ks h = subst (λ l. Gives symbols [] (first_key l)) (sym h) gives-none
+first-gives symbols columns (Some names) ks h = subst (λ l. Gives symbols (map (λ i. Column i) (places_in columns (Some names))) (first_key l)) (sym h.1) (columns-give symbols columns names)
 
-key-resolved : (t : TableTree) → of_key (resolve_table t) ≡ looked_up no_symbols (in_key t)
-key-resolved t =
+pub key-gives : (symbols : SymbolTable) (t : TableTree) → Gives symbols (of_key (resolve_table t)) (in_key t)
+key-gives symbols t =
     let es : List Element = table_elements t in
     let columns : Columns = columns_of es in
-    (first-gives columns (key_among es) (together (map (keys_in_element columns) es)) (keys-first columns es)).is
+    first-gives symbols columns (key_among es) (together (map (keys_in_element columns) es)) (keys-first columns es)
+
+key-resolved : (t : TableTree) → of_key (resolve_table t) ≡ looked_up no_symbols (in_key t)
+key-resolved t = (key-gives no_symbols t).is
 
 pub keys-resolved : (f : FileTree) → map of_key (resolved_file f).tables ≡ map (λ t. looked_up no_symbols (in_key t)) f.tables
 keys-resolved f = each-same of_key resolve_table (λ t. looked_up no_symbols (in_key t)) key-resolved f.tables
@@ -86,7 +90,7 @@ keys-resolved f = each-same of_key resolve_table (λ t. looked_up no_symbols (in
 abbrev Alike : List (List ℕ) → List (List Occurrence) → Type 0
 Alike xs os = map (map (λ i. Column i)) xs ≡ map (looked_up no_symbols) os
 
-map-append : {A B : Type 0} (g : A → B) (xs ys : List A) → map g (xs ++ ys) ≡ map g xs ++ map g ys
+pub map-append : {A B : Type 0} (g : A → B) (xs ys : List A) → map g (xs ++ ys) ≡ map g xs ++ map g ys
 map-append g [] ys = refl
 map-append g (x ∷ xs) ys = ap (λ l. g x ∷ l) (map-append g xs ys)
 
@@ -100,6 +104,7 @@ rule-alike columns name place column_rules.NotNull e = refl
 rule-alike columns name place column_rules.PrimaryKey e = refl
 rule-alike columns name place column_rules.Unique e = ap (λ k. (Column k ∷ []) ∷ []) (sym e)
 rule-alike columns name place (column_rules.Check x) e = refl
+rule-alike columns name place (column_rules.References r) e = refl
 
 own-alike : (columns : Columns) (name : Identifier) (place : ℕ) (rs : List ColumnRule) → place_of (index_named 0 name.name columns) ≡ place → Alike (own_uniques place rs) (together (map (λ r. unique_in_column_rule columns name r.form) rs))
 own-alike columns name place [] e = refl
@@ -109,6 +114,7 @@ table_rule-alike : (columns : Columns) (r : TableRuleForm) → Alike (rule_uniqu
 table_rule-alike columns (table_rules.PrimaryKey names) = refl
 table_rule-alike columns (table_rules.Unique names) = ap (λ l. l ∷ []) (columns-give no_symbols columns (several names)).is
 table_rule-alike columns (table_rules.Check e) = refl
+table_rule-alike columns (table_rules.ForeignKey names r) = refl
 
 -- a column that no earlier one is called like has its place
 
@@ -123,7 +129,7 @@ at-step : {A : Type 0} (b : Bool) (x : A) (i : ℕ) (o : Option A) (r s : Option
 at-step true x i o r s none h = absurd cc
 at-step false x i o r s none h = h none
 
-index-at : (i : ℕ) (n : Spelling) (t : Option SqlType) (before more : Columns) → is_some (named n before) ≡ false → index_named i n (before ++ (n, t) ∷ more) ≡ Some (i + length before, t)
+pub index-at : (i : ℕ) (n : Spelling) (t : Option SqlType) (before more : Columns) → is_some (named n before) ≡ false → index_named i n (before ++ (n, t) ∷ more) ≡ Some (i + length before, t)
 index-at i n t [] more none =
     let e : i ≡ i + 0 = omega arith in
     ap (λ b. if b then Some (i, t) else index_named (suc i) n more) (same-here n) ∙ ap (λ k. Some (k, t)) e
@@ -132,7 +138,7 @@ index-at i n t (p ∷ before) more none =
     at-step (is_spelled n p.0) p.1 i (named n before) (index_named (suc i) n (before ++ (n, t) ∷ more)) (Some (i + suc (length before), t)) none
     (λ none. index-at (suc i) n t before more none ∙ ap (λ k. Some (k, t)) e)
 
-longer : (before : Columns) (p : Spelling × Option SqlType) → length (before ++ p ∷ []) ≡ suc (length before)
+pub longer : (before : Columns) (p : Spelling × Option SqlType) → length (before ++ p ∷ []) ≡ suc (length before)
 longer [] p = refl
 longer (q ∷ before) p = ap suc (longer before p)
 
@@ -164,7 +170,5 @@ each-unique (t ∷ ts) none =
 
 pub uniques-resolved : (f : FileTree) → file_fault f ≡ None → map of_uniques (resolved_file f).tables ≡ map (λ t. map (looked_up no_symbols) (in_uniques t)) f.tables
 uniques-resolved f none =
-    let routines : Option Fault = first_of (routines_fault (symbols_of f) [] f.«module».routines) in
-    let parts = none-first (repeated rule.TableRepeated (map (λ t. t.name) f.tables)) (first_of (map table_fault f.tables) ∷ routines ∷ []) none in
-    let rest = none-first (first_of (map table_fault f.tables)) (routines ∷ []) parts.1 in
-    each-unique f.tables rest.0
+    let p : FileParts f = file-parts f none in
+    each-unique f.tables p.tables

@@ -15,3 +15,4 @@ pub mod EachOnce
 pub mod FilesDeclared
 pub mod Held
 pub mod Keys
+pub mod ForeignKeys

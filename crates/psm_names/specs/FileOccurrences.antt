@@ -35,11 +35,13 @@ in_column_rule site column_rules.NotNull = []
 in_column_rule site column_rules.PrimaryKey = []
 in_column_rule site column_rules.Unique = []
 in_column_rule site (column_rules.Check e) = expr_occurrences e site
+in_column_rule site (column_rules.References r) = []
 
 abbrev pub in_table_rule : Site → TableRuleForm → List Occurrence
 in_table_rule site (table_rules.PrimaryKey names) = []
 in_table_rule site (table_rules.Unique names) = []
 in_table_rule site (table_rules.Check e) = expr_occurrences e site
+in_table_rule site (table_rules.ForeignKey names r) = []
 
 abbrev pub in_element : Site → Element → List Occurrence
 in_element site (elements.Column name kind default rules) = together (map (λ r. in_column_rule site r.form) rules)

@@ -19,7 +19,7 @@ ghost use Rattle.psm_resolve.specs.Files.{resolve_routine, resolved_file};
 ghost use Rattle.psm_resolve.specs.SymbolTables.{known_symbols};
 ghost use Rattle.psm_names.specs.DeclaredInFiles.{IsFunction, IsProcedure, NamesEachOnce, resolved_names, table_declared, table_names};
 ghost use Rattle.psm_names.specs.DeclaredNames.{AreDeclared, CompoundHolds, ForHolds, NumbersEachOnce, RoutineHolds, in_order, own_condition};
-ghost use Rattle.psm_names.specs.KeyOccurrences.{in_key, in_uniques, of_key, of_uniques};
+ghost use Rattle.psm_names.specs.KeyOccurrences.{in_foreign_keys, in_key, in_uniques, of_foreign_key, of_key, of_uniques};
 ghost use Rattle.psm_names.specs.Occurrences.{EnclosingScopes, Site, looked_up};
 ghost use Rattle.psm_names.specs.Referents.{together};
 ghost use Rattle.psm_names.specs.ExprOccurrences.{expr_occurrences, query_occurrences};
@@ -89,9 +89,11 @@ pub fn names_mean_what_the_file_declares()
     ensures functions { (f : FileTree) (n : Spelling) (kinds : List ArgKind) → IsFunction f.«module».routines n kinds (function (known_symbols f).functions n kinds) }
 {}
 
-/// The columns of the primary key of a table, and those of each UNIQUE, are what look-up gives for their names among its columns. A
-/// column that is itself UNIQUE is known by its place, which in an accepted file is what look-up gives for its name.
+/// The columns of the primary key of a table, and those of each UNIQUE, are what look-up gives for their names among its columns, and
+/// so are the columns of a FOREIGN KEY, the table that it refers to and the columns there (ISO/IEC 9075:1992, 11.8). A column that itself
+/// is UNIQUE or REFERENCES a table is known by its place, which in an accepted file is what look-up gives for its name.
 pub fn names_in_keys_are_resolved()
     ensures keys { (f : FileTree) → map of_key (resolved_file f).tables ≡ map (λ t. looked_up no_symbols (in_key t)) f.tables }
     ensures uniques { (f : FileTree) → file_fault f ≡ None → map of_uniques (resolved_file f).tables ≡ map (λ t. map (looked_up no_symbols) (in_uniques t)) f.tables }
+    ensures foreign_keys { (f : FileTree) → file_fault f ≡ None → map of_foreign_key (resolved_file f).keys ≡ map (looked_up (known_symbols f)) (in_foreign_keys f) }
 {}

@@ -2,4 +2,6 @@ pub mod Characters
 pub mod LineCounts
 pub mod LinesInOrder
 pub mod Mnemonics
+pub mod OwnKeys
 pub mod Pieces
+pub mod TableLines

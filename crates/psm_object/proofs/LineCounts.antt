@@ -1,5 +1,5 @@
 -- A listing has as many lines as the rules of code have entries.
-use Rattle.std.proofs.Common.{◌≡◌, ℕ, suc, ◌+◌, Bool, List, [], ◌∷◌, ◌++◌, length, map, refl, sym, ap, ◌∙◌, append_assoc}
+use Rattle.std.proofs.Common.{◌≡◌, ℕ, suc, ◌+◌, Bool, List, [], ◌∷◌, ◌++◌, length, map, refl, sym, ap, ◌∙◌, append_assoc, arith}
 use Rattle.std.specs.Prelude.{Option, Some, None, slice_get}
 use Rattle.std.specs.List.{flat_map}
 use Rattle.std.proofs.lemmas.List.{length-append}
@@ -12,6 +12,7 @@ use Rattle.psm_exprcode.specs.declared.query.Query.{Query}
 use Rattle.psm_exprcode.specs.declared.set_item.SetItem.{SetItem}
 use Rattle.psm_exprcode.specs.Kinds.{is_letter, is_value}
 use Rattle.psm_exprcode.specs.declared.op.Letter.TheVariants.{B}
+use Rattle.psm_table.specs.declared.definition.ForeignKey.{ForeignKey}
 use Rattle.psm_table.specs.declared.definition.TableDef.{TableDef}
 use Rattle.psm_cond.specs.declared.handlers.Context.{Context}
 use Rattle.psm_code.specs.declared.code.CodeTable.{CodeTable}
@@ -26,7 +27,7 @@ use Rattle.psm_code.specs.Instructions.{column_letters, columns_at, variables_of
 use Rattle.psm_code.specs.PlanRules.{cursor_fault, has_operand, is_column_letter, is_due, item_in, items_in, operand_in, or_none, cursor_table, plan_faults, query_faults, set_faults, set_in, sets_in, test_in}
 use Rattle.psm_code.specs.RoutineRules.{code_faults, context_faults, handler_fault, line_faults, parameter_fault, routine_fault, routine_faults, type_fault, declared_fault}
 use Rattle.psm_code.specs.Rules.{each_after, unless}
-use Rattle.psm_code.specs.TableRules.{column_fault, key_fault, name_fault, expr_faults, expr_line_faults, table_faults, unique_fault}
+use Rattle.psm_code.specs.TableRules.{are_in_turn, column_fault, expr_faults, expr_line_faults, faults_of_table, foreign_key_fault, key_fault, keys_from, name_fault, table_faults, unique_fault}
 use Rattle.psm_object.specs.Expressions.{expression_lines, operation_line, test_lines}
 use Rattle.psm_object.specs.Handlers.{condition_line, context_line, handler_line}
 use Rattle.psm_object.specs.Instructions.{code_line}
@@ -34,7 +35,7 @@ use Rattle.psm_object.specs.Listing.{first_line, lines_of}
 use Rattle.psm_object.specs.Plans.{plan_lines, set_lines}
 use Rattle.psm_object.specs.Queries.{aggregate_lines, cursor_line, function_lines, item_lines, items_lines, query_lines}
 use Rattle.psm_object.specs.Routines.{access_lines, handling_lines, parameter_line, routine_line, routine_lines, slot_line, variable_lines}
-use Rattle.psm_object.specs.Tables.{column_line, key_line, table_line, table_lines, unique_line}
+use Rattle.psm_object.specs.Tables.{column_line, key_line, reference_line, table_line, table_lines, tables_lines, unique_line}
 
 -- lists of one length
 abbrev Alike : {A B : Type 0} → List A → List B → Type 0
@@ -77,16 +78,28 @@ test_count code r table (Some lines) = expression_count (columns_at code table) 
 
 -- ---- tables
 
-table_count : (before : List CodeTable) (t : CodeTable) → Alike (table_lines t) (table_faults before t)
-table_count before t =
+table_count : (own : List ForeignKey) (before : List CodeTable) (t : CodeTable) → Alike (table_lines own t) (faults_of_table own before t)
+table_count own before t =
     let d : TableDef = t.definition in
     let cols : List (List ℕ) = map column_line d.columns in
     let cols' : List (Option CodeRule) = each_after column_fault [] d.columns in
     let keys : List (List ℕ) = key_line d.key ∷ map unique_line d.unique in
     let keys' : List (Option CodeRule) = key_fault d ∷ map (unique_fault d) d.unique in
-    both ((table_line t ∷ cols) ++ keys) ((name_fault before t ∷ cols') ++ keys') (flat_map expression_lines t.checks) (flat_map (expr_faults (column_letters t) [] (is_letter B)) t.checks)
-    (both (table_line t ∷ cols) (name_fault before t ∷ cols') keys keys' (ap suc (of_each_after column_line column_fault [] d.columns (λ before c. refl))) (ap suc (of_each unique_line (unique_fault d) d.unique)))
+    let refs : List (List ℕ) = map reference_line own in
+    let refs' : List (Option CodeRule) = map (foreign_key_fault before t) own in
+    both ((table_line (length own) t ∷ cols) ++ keys ++ refs) ((name_fault before t ∷ cols') ++ keys' ++ refs') (flat_map expression_lines t.checks) (flat_map (expr_faults (column_letters t) [] (is_letter B)) t.checks)
+    (both ((table_line (length own) t ∷ cols) ++ keys) ((name_fault before t ∷ cols') ++ keys') refs refs'
+    (both (table_line (length own) t ∷ cols) (name_fault before t ∷ cols') keys keys' (ap suc (of_each_after column_line column_fault [] d.columns (λ before c. refl))) (ap suc (of_each unique_line (unique_fault d) d.unique)))
+    (of_each reference_line (foreign_key_fault before t) own))
     (of_parts expression_lines (expr_faults (column_letters t) [] (is_letter B)) t.checks (expression_count (column_letters t) [] (is_letter B)))
+
+tables_count : (keys : List ForeignKey) (before ts : List CodeTable) (n : ℕ) → n ≡ length before → Alike (tables_lines keys n ts) (each_after (table_faults keys) before ts)
+tables_count keys before [] n e = refl
+tables_count keys before (t ∷ ts) n e =
+    let more : length (before ++ t ∷ []) ≡ length before + 1 = length-append before (t ∷ []) in
+    both (table_lines (keys_from keys n) t) (table_faults keys before t) (tables_lines keys (suc n) ts) (each_after (table_faults keys) (before ++ t ∷ []) ts)
+    (ap (λ k. length (table_lines (keys_from keys k) t)) e ∙ table_count (keys_from keys (length before)) before t)
+    (tables_count keys (before ++ t ∷ []) ts (suc n) (omega (arith, e, more)))
 
 -- ---- queries and plans
 
@@ -175,6 +188,7 @@ module _ (code : RawCode) (before : List RawRoutine) (r : RawRoutine) where
 
 pub listing_count : (code : RawCode) → length (lines_of code) ≡ length (code_faults code)
 listing_count code =
-    both (first_line code ∷ flat_map table_lines code.tables) (None ∷ each_after table_faults [] code.tables) (flat_map routine_lines code.routines) (each_after (routine_faults code) [] code.routines)
-    (ap suc (of_parts_after table_lines table_faults [] code.tables table_count))
+    both (first_line code ∷ tables_lines code.keys 0 code.tables) (unless (are_in_turn 0 (length code.tables) code.keys) Definition ∷ each_after (table_faults code.keys) [] code.tables)
+    (flat_map routine_lines code.routines) (each_after (routine_faults code) [] code.routines)
+    (ap suc (tables_count code.keys [] code.tables 0 refl))
     (of_parts_after routine_lines (routine_faults code) [] code.routines (routine_count code))

@@ -8,3 +8,4 @@ pub mod Handlers
 pub mod Routines
 pub mod Listing
 pub mod StatedLines
+pub mod OwnKeys

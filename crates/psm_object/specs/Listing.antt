@@ -1,7 +1,7 @@
 -- The listing of code: its text, of which each line stands for a part of it. Words are separated by one blank, and each line
 -- ends with a line feed.
 --
---     PSM 2 tables routines
+--     PSM 3 tables routines
 --     TABLE ..                tables times, numbered from 0, each with its lines
 --     ROUTINE ..              routines times, numbered from 0, each with its lines
 --
@@ -17,8 +17,8 @@
 --
 -- has these lines:
 --
---     PSM 2 1 1
---     TABLE 'T' 2 0 0
+--     PSM 3 1 1
+--     TABLE 'T' 2 0 0 0
 --     COL 'K' INTEGER 1 NULL
 --     COL 'N' INTEGER 0 NULL
 --     KEY 0
@@ -52,22 +52,22 @@
 --
 -- The shortest code with a routine, to which no module file compiles, since a procedure has a statement:
 --
---     PSM 2 0 1
+--     PSM 3 0 1
 --     ROUTINE P 'P' 0 0 0 0 0 0 0 0 1 -
 --     0 - - END
 use Rattle.std.specs.Prelude.{ℕ, List, [], ◌∷◌, ◌++◌, codes}
 use Rattle.std.specs.List.{flat_map}
 use Rattle.psm_code.specs.declared.code.RawCode.{RawCode}
 use Rattle.psm_object.specs.Routines.{routine_lines}
-use Rattle.psm_object.specs.Tables.{table_lines}
+use Rattle.psm_object.specs.Tables.{tables_lines}
 use Rattle.psm_object.specs.Words.{count, spaced, text}
 
 -- the first line: the version of the format, and how many tables and routines there are
 abbrev pub first_line : RawCode → List ℕ
-first_line code = spaced (codes "PSM" ∷ codes "2" ∷ count code.tables ∷ count code.routines ∷ [])
+first_line code = spaced (codes "PSM" ∷ codes "3" ∷ count code.tables ∷ count code.routines ∷ [])
 
 abbrev pub lines_of : RawCode → List (List ℕ)
-lines_of code = first_line code ∷ flat_map table_lines code.tables ++ flat_map routine_lines code.routines
+lines_of code = first_line code ∷ tables_lines code.keys 0 code.tables ++ flat_map routine_lines code.routines
 
 abbrev pub listing : RawCode → List ℕ
 listing code = text (lines_of code)

@@ -9,6 +9,7 @@ mod laws;
 mod listing;
 mod plans;
 mod queries;
+mod references;
 mod routines;
 mod tables;
 mod words;

@@ -2,39 +2,57 @@
 ghost use Rattle.std.specs.Prelude.{◌≡◌, ◌++◌, map, OnOk};
 ghost use Rattle.std.specs.List.{flat_map};
 ghost use Rattle.psm_object.specs.Expressions.{expression_lines};
-ghost use Rattle.psm_object.specs.Tables.{column_line, key_line, table_line, table_lines, unique_line};
+ghost use Rattle.psm_object.specs.Tables.{column_line, key_line, table_line, table_lines, tables_lines, unique_line};
+ghost use Rattle.psm_code.specs.TableRules.{keys_from};
 ghost use Rattle.psm_object.specs.Words.{ended, text};
 
 use crate::expressions::put_expression;
+use crate::references::{ascend, count_of, parted, put_references};
 use crate::words::{end_line, put_count, put_flag, put_indices, put_kind, put_name, put_value};
 use psm_code::CodeTable;
 use psm_exprcode::ExprCode;
 use psm_list::List;
-use psm_table::Column;
+use psm_table::{Column, ForeignKey};
 use std::alloc::AllocError;
 
-/// Appends the lines of tables.
-pub(crate) fn put_tables(out: &mut Vec<u8>, tables: &[CodeTable]) -> Result<(), AllocError>
-    ensures { OnOk result (out.new.items ≡ out.old.items ++ text (flat_map table_lines tables.now)) }
+/// Appends the lines of tables with their FOREIGN KEY constraints. Takes the time of the text, if these stand in the order of the
+/// tables that refer.
+pub(crate) fn put_tables(
+    out: &mut Vec<u8>,
+    tables: &[CodeTable],
+    keys: &[ForeignKey],
+) -> Result<(), AllocError>
+    ensures { OnOk result (out.new.items ≡ out.old.items ++ text (tables_lines keys.now 0 tables.now)) }
 {
-    for table in tables {
-        put_table(out, table)?;
+    let in_order = ascend(keys);
+    let mut left = keys;
+    for (number, table) in tables.iter().enumerate() {
+        let (own, others) = parted(left, number, in_order);
+        put_table(out, number, table, own)?;
+        left = others;
     }
     Ok(())
 }
 
-fn put_table(out: &mut Vec<u8>, table: &CodeTable) -> Result<(), AllocError>
-    ensures { OnOk result (out.new.items ≡ out.old.items ++ text (table_lines table.now)) }
+// The lines of the table of that number, with those of the constraints that are its own.
+fn put_table(
+    out: &mut Vec<u8>,
+    number: usize,
+    table: &CodeTable,
+    keys: &[ForeignKey],
+) -> Result<(), AllocError>
+    ensures { OnOk result (out.new.items ≡ out.old.items ++ text (table_lines (keys_from keys.now number) table.now)) }
 {
-    put_table_line(out, table)?;
+    put_table_line(out, table, count_of(keys, number))?;
     put_columns(out, table.definition.columns.items())?;
     put_key(out, table.definition.key.items())?;
     put_uniques(out, table.definition.unique.items())?;
+    put_references(out, keys, number)?;
     put_checks(out, table.checks.items())
 }
 
-fn put_table_line(out: &mut Vec<u8>, table: &CodeTable) -> Result<(), AllocError>
-    ensures { OnOk result (out.new.items ≡ out.old.items ++ ended (table_line table.now)) }
+fn put_table_line(out: &mut Vec<u8>, table: &CodeTable, keys: usize) -> Result<(), AllocError>
+    ensures { OnOk result (out.new.items ≡ out.old.items ++ ended (table_line keys table.now)) }
 {
     let definition = &table.definition;
     out.extend_from_slice(b"TABLE")?;
@@ -42,6 +60,7 @@ fn put_table_line(out: &mut Vec<u8>, table: &CodeTable) -> Result<(), AllocError
     put_count(out, definition.columns.items().len())?;
     put_count(out, definition.unique.items().len())?;
     put_count(out, table.checks.items().len())?;
+    put_count(out, keys)?;
     end_line(out)
 }
 

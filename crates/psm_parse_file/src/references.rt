@@ -117,7 +117,7 @@ fn perhaps_actions(tokens: &mut Tokens, levels: u32) -> Result<Option<Place>, Ha
 fn perhaps_columns(alloc: Global, tokens: &mut Tokens, levels: u32) -> Result<Option<Names>, Halt>
     ensures { Takes (reading levels (optional names_part) tokens.old.rest.now) result tokens.new.rest.now }
 {
-    if tokens.at(Sign::LeftParen) {
+    if tokens.at_sign(Sign::LeftParen) {
         return Ok(Some(names_in_parens(alloc, tokens, levels)?));
     }
     Ok(None)

@@ -33,7 +33,7 @@ fn references(out: &mut Writer, to: &References) -> Result<(), AllocError>
     ensures { IfOk result (λ _. out.new ≡ out.old ++ references_tokens to.now) }
 {
     out.word(Word::References)?;
-    out.name(&to.table)?;
+    name(out, &to.table)?;
     match &to.columns {
         None => Ok(()),
         Some(columns) => enclosed_names(out, columns),

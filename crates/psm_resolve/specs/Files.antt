@@ -1,5 +1,5 @@
 -- The resolved module file that stands for one: its tables, and its routines, with the types of their slots.
-use Rattle.std.specs.Prelude.{ℕ, suc, Bool, true, false, not, ◌||◌, Option, Some, None, Result, Ok, Err, List, [], ◌∷◌, ◌++◌, map, nat_eq, option_map, if◌then◌else◌}
+use Rattle.std.specs.Prelude.{ℕ, suc, Bool, true, false, not, ◌||◌, Option, Some, None, Result, Ok, Err, List, [], ◌∷◌, ◌++◌, map, nat_eq, option_map, slice_get, if◌then◌else◌}
 use Rattle.std.specs.List.{list_any}
 use Rattle.psm_symbols.specs.Columns.{column_of}
 use Rattle.psm_value.specs.declared.datum.Datum.{Datum}
@@ -13,6 +13,7 @@ use Rattle.psm_rules.specs.CheckerScope.{SymbolTable, Columns}
 use Rattle.psm_rules.specs.FileFaults.{no_symbols, datum_of, columns_of, table_elements, is_in}
 use Rattle.psm_rules.specs.StatementFaults.{several}
 use Rattle.psm_rules.specs.Types.{type_of}
+use Rattle.psm_tree.specs.Names.{Names}
 use Rattle.psm_tree.specs.declared.name.Identifier.{Identifier}
 use Rattle.psm_tree.specs.declared.file.ColumnRule.{ColumnRule}
 use Rattle.psm_tree.specs.declared.file.ColumnRuleForm.{ColumnRuleForm}
@@ -23,12 +24,14 @@ use Rattle.psm_tree.specs.declared.file.FileTree.{FileTree}
 use Rattle.psm_tree.specs.declared.file.Mode.{Mode}
 use Rattle.psm_tree.specs.declared.file.Mode.TheVariants as modes
 use Rattle.psm_tree.specs.declared.file.Parameter.{Parameter}
+use Rattle.psm_tree.specs.declared.file.References.{References}
 use Rattle.psm_tree.specs.declared.file.Routine.{Routine}
 use Rattle.psm_tree.specs.declared.file.TableRuleForm.{TableRuleForm}
 use Rattle.psm_tree.specs.declared.file.TableRuleForm.TheVariants as table_rules
 use Rattle.psm_tree.specs.declared.file.TableTree.{TableTree}
 use Rattle.psm_tree.specs.declared.types.Constant.{Constant}
 use Rattle.psm_table.specs.declared.definition.Column.{Column}
+use Rattle.psm_table.specs.declared.definition.ForeignKey.{ForeignKey}
 use Rattle.psm_resolved.specs.declared.expr.ResolvedExpr.{ResolvedExpr}
 use Rattle.psm_resolved.specs.declared.file.ParameterMode.{ParameterMode}
 use Rattle.psm_resolved.specs.declared.file.ParameterMode.TheVariants as passed
@@ -36,8 +39,8 @@ use Rattle.psm_resolved.specs.declared.file.ResolvedFile.{ResolvedFile}
 use Rattle.psm_resolved.specs.declared.file.ResolvedParameter.{ResolvedParameter}
 use Rattle.psm_resolved.specs.declared.file.ResolvedRoutine.{ResolvedRoutine}
 use Rattle.psm_resolved.specs.declared.file.ResolvedTable.{ResolvedTable}
-use Rattle.psm_resolve_expr.specs.Exprs.{type_known}
-use Rattle.psm_resolve_expr.specs.ResolverScope.{ResolverScope}
+use Rattle.psm_resolve_expr.specs.Exprs.{columns_in, number_of, type_known}
+use Rattle.psm_resolve_expr.specs.ResolverScope.{ResolverScope, table_at}
 use Rattle.psm_declare.specs.Numbering.{Numbering, with_slot, next_slot}
 use Rattle.psm_declare.specs.Declarations.{Numbered, with_variable}
 use Rattle.psm_declare.specs.Seen.{expr_at}
@@ -61,6 +64,7 @@ says_primary column_rules.NotNull = false
 says_primary column_rules.PrimaryKey = true
 says_primary column_rules.Unique = false
 says_primary (column_rules.Check e) = false
+says_primary (column_rules.References r) = false
 
 abbrev pub own_key : Identifier → List ColumnRule → Option (List Identifier)
 own_key name [] = None
@@ -70,6 +74,7 @@ abbrev pub rule_key : TableRuleForm → Option (List Identifier)
 rule_key (table_rules.PrimaryKey names) = Some (several names)
 rule_key (table_rules.Unique names) = None
 rule_key (table_rules.Check e) = None
+rule_key (table_rules.ForeignKey names r) = None
 
 abbrev pub element_key : Element → Option (List Identifier)
 element_key (elements.Column name kind default rules) = own_key name rules
@@ -92,6 +97,7 @@ says_not_null column_rules.NotNull = true
 says_not_null column_rules.PrimaryKey = false
 says_not_null column_rules.Unique = false
 says_not_null (column_rules.Check e) = false
+says_not_null (column_rules.References r) = false
 
 -- a column of the key refuses null too
 abbrev pub column_with : List ℕ → ℕ → Spelling → SqlType → Option Constant → List ColumnRule → Column
@@ -122,6 +128,7 @@ own_unique place column_rules.NotNull = []
 own_unique place column_rules.PrimaryKey = []
 own_unique place column_rules.Unique = (place ∷ []) ∷ []
 own_unique place (column_rules.Check e) = []
+own_unique place (column_rules.References r) = []
 
 abbrev pub own_uniques : ℕ → List ColumnRule → List (List ℕ)
 own_uniques place [] = []
@@ -176,61 +183,59 @@ resolve_table t = let es = table_elements t in let columns = columns_of es in re
   checks = checks_of (on_columns t.name.name columns) es;
 }
 
--- ---- FOREIGN KEY constraints (ISO/IEC 9075:1992, 11.8), each of a table before or of the table itself
+-- ---- FOREIGN KEY constraints (ISO/IEC 9075:1992, 11.8), in the order of the tables and of the declarations
 
--- a table that can be referred to: its number, its columns, and the places of those in its key
-pub record Target : Type 0 where
-  pub number : ℕ
-  pub columns : Columns
-  pub key : List ℕ
+abbrev pub key_in : Option ResolvedTable → List ℕ
+key_in None = []
+key_in (Some t) = t.definition.key
 
-abbrev pub Targets : Type 0
-Targets = List (Spelling × Target)
+-- the columns that are referred to: without a list those of the primary key
+abbrev pub target_of : List ResolvedTable → Option (ℕ × Columns) → Option Names → List ℕ
+target_of tables to None = key_in (slice_get tables (number_of to))
+target_of tables to (Some names) = map (column_of (columns_in to)) (several names)
 
--- without a list the primary key is meant
-abbrev pub target_columns : Target → Option Names → List ℕ
-target_columns to None = to.key
-target_columns to (Some names) = map (column_of to.columns) (several names)
+-- the table that is referred to is known as in a statement
+abbrev pub key_to : List ResolvedTable → ResolverScope → ℕ → List ℕ → References → ForeignKey
+key_to tables resolver_scope from columns r = let to = table_at resolver_scope r.table.name in
+    record { from = from; columns = columns; to = number_of to; target = target_of tables to r.columns }
 
--- in a file without a fault the table is known
-abbrev pub key_to : ℕ → List ℕ → References → Option Target → ForeignKey
-key_to from columns r None = record { from = from; columns = columns; to = 0; target = [] }
-key_to from columns r (Some to) = record { from = from; columns = columns; to = to.number; target = target_columns to r.columns }
+abbrev pub own_reference : List ResolvedTable → ResolverScope → ℕ → ℕ → ColumnRuleForm → List ForeignKey
+own_reference tables resolver_scope from place column_rules.NotNull = []
+own_reference tables resolver_scope from place column_rules.PrimaryKey = []
+own_reference tables resolver_scope from place column_rules.Unique = []
+own_reference tables resolver_scope from place (column_rules.Check e) = []
+own_reference tables resolver_scope from place (column_rules.References r) = key_to tables resolver_scope from (place ∷ []) r ∷ []
 
-abbrev pub own_reference : Targets → ℕ → ℕ → ColumnRuleForm → List ForeignKey
-own_reference targets from place column_rules.NotNull = []
-own_reference targets from place column_rules.PrimaryKey = []
-own_reference targets from place column_rules.Unique = []
-own_reference targets from place (column_rules.Check e) = []
-own_reference targets from place (column_rules.References r) = key_to from (place ∷ []) r (named r.table.name targets) ∷ []
+abbrev pub own_references : List ResolvedTable → ResolverScope → ℕ → ℕ → List ColumnRule → List ForeignKey
+own_references tables resolver_scope from place [] = []
+own_references tables resolver_scope from place (r ∷ rs) = own_reference tables resolver_scope from place r.form ++ own_references tables resolver_scope from place rs
 
-abbrev pub own_references : Targets → ℕ → ℕ → List ColumnRule → List ForeignKey
-own_references targets from place [] = []
-own_references targets from place (r ∷ rs) = own_reference targets from place r.form ++ own_references targets from place rs
+abbrev pub rule_reference : List ResolvedTable → ResolverScope → ℕ → Columns → TableRuleForm → List ForeignKey
+rule_reference tables resolver_scope from columns (table_rules.PrimaryKey names) = []
+rule_reference tables resolver_scope from columns (table_rules.Unique names) = []
+rule_reference tables resolver_scope from columns (table_rules.Check e) = []
+rule_reference tables resolver_scope from columns (table_rules.ForeignKey names r) = key_to tables resolver_scope from (map (column_of columns) (several names)) r ∷ []
 
-abbrev pub rule_reference : Targets → ℕ → Columns → TableRuleForm → List ForeignKey
-rule_reference targets from columns (table_rules.PrimaryKey names) = []
-rule_reference targets from columns (table_rules.Unique names) = []
-rule_reference targets from columns (table_rules.Check e) = []
-rule_reference targets from columns (table_rules.ForeignKey names r) = key_to from (map (column_of columns) (several names)) r (named r.table.name targets) ∷ []
+abbrev pub references_in : List ResolvedTable → ResolverScope → ℕ → Columns → ℕ → Element → List ForeignKey
+references_in tables resolver_scope from columns place (elements.Column name kind default rules) = own_references tables resolver_scope from place rules
+references_in tables resolver_scope from columns place (elements.Rule rule) = rule_reference tables resolver_scope from columns rule.form
 
-abbrev pub references_in : Targets → ℕ → Columns → ℕ → Element → List ForeignKey
-references_in targets from columns place (elements.Column name kind default rules) = own_references targets from place rules
-references_in targets from columns place (elements.Rule rule) = rule_reference targets from columns rule.form
+abbrev pub references_from : List ResolvedTable → ResolverScope → ℕ → Columns → ℕ → List Element → List ForeignKey
+references_from tables resolver_scope from columns place [] = []
+references_from tables resolver_scope from columns place (e ∷ es) =
+    references_in tables resolver_scope from columns place e ++ references_from tables resolver_scope from columns (next_place place e) es
 
-abbrev pub references_from : Targets → ℕ → Columns → ℕ → List Element → List ForeignKey
-references_from targets from columns place [] = []
-references_from targets from columns place (e ∷ es) = references_in targets from columns place e ++ references_from targets from columns (next_place place e) es
+abbrev pub references_of : List ResolvedTable → ResolverScope → ℕ → TableTree → List ForeignKey
+references_of tables resolver_scope from t = references_from tables resolver_scope from (columns_of (table_elements t)) 0 (table_elements t)
 
-abbrev pub with_target : Targets → ℕ → TableTree → Targets
-with_target targets n t = declared_once targets t.name.name (record { number = n; columns = columns_of (table_elements t); key = (resolve_table t).definition.key })
+-- those of the tables from number n on
+abbrev pub foreign_keys : List ResolvedTable → ResolverScope → ℕ → List TableTree → List ForeignKey
+foreign_keys tables resolver_scope n [] = []
+foreign_keys tables resolver_scope n (t ∷ ts) = references_of tables resolver_scope n t ++ foreign_keys tables resolver_scope (suc n) ts
 
--- those of the tables from number n on, in the order of the tables and of the declarations
-abbrev pub foreign_keys : Targets → ℕ → List TableTree → List ForeignKey
-foreign_keys targets n [] = []
-foreign_keys targets n (t ∷ ts) =
-    references_from (with_target targets n t) n (columns_of (table_elements t)) 0 (table_elements t)
-    ++ foreign_keys (with_target targets n t) (suc n) ts
+-- what is seen of a file outside its routines
+abbrev pub in_file : SymbolTable → ResolverScope
+in_file symbols = record { symbols = symbols; scopes = []; row = None }
 
 -- ---- routines
 
@@ -274,4 +279,8 @@ resolve_routine symbols r = routine_in symbols r (routine_numbered r)
 -- ---- the file
 
 abbrev pub resolved_file : FileTree → ResolvedFile
-resolved_file f = record { tables = map resolve_table f.tables; keys = foreign_keys [] 0 f.tables; routines = map (resolve_routine (known_symbols f)) f.«module».routines }
+resolved_file f = let tables = map resolve_table f.tables in record {
+  tables = tables;
+  keys = foreign_keys tables (in_file (known_symbols f)) 0 f.tables;
+  routines = map (resolve_routine (known_symbols f)) f.«module».routines;
+}

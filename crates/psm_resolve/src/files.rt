@@ -2,6 +2,7 @@
 ghost use Rattle.std.specs.Prelude.{◌≡◌, IfOk};
 ghost use Rattle.psm_resolve.specs.Files.{resolved_file};
 
+use crate::references::foreign_keys;
 use crate::routines::resolve_routines;
 use crate::symbol_tables::known_symbols;
 use crate::tables::resolve_tables;
@@ -20,11 +21,12 @@ pub fn resolve_file(alloc: Global, file: &FileTree) -> Result<ResolvedFile, Allo
         alloc,
         symbols: &symbols,
     };
-    let routines = resolve_routines(resolver, file.module.routines.items())?;
     let tables = resolve_tables(alloc, file.tables.items())?;
+    let keys = foreign_keys(resolver, tables.items(), file.tables.items())?;
+    let routines = resolve_routines(resolver, file.module.routines.items())?;
     Ok(ResolvedFile {
         tables,
-        keys: List::of(Vec::new(alloc)),
+        keys,
         routines,
     })
 }

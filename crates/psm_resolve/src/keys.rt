@@ -76,7 +76,10 @@ fn says_primary(form: &ColumnRuleForm) -> bool
 {
     match form {
         ColumnRuleForm::PrimaryKey => true,
-        ColumnRuleForm::NotNull | ColumnRuleForm::Unique | ColumnRuleForm::Check(_) => false,
+        ColumnRuleForm::NotNull
+        | ColumnRuleForm::Unique
+        | ColumnRuleForm::Check(_)
+        | ColumnRuleForm::References(_) => false,
     }
 }
 
@@ -85,6 +88,7 @@ fn rule_key(form: &TableRuleForm) -> Key<'_>
 {
     match form {
         TableRuleForm::PrimaryKey(names) => Key::Rule(names),
-        TableRuleForm::Unique(_) | TableRuleForm::Check(_) => Key::None,
+        TableRuleForm::Unique(_) | TableRuleForm::Check(_) | TableRuleForm::ForeignKey { .. } =>
+            Key::None,
     }
 }

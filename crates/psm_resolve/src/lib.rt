@@ -12,6 +12,7 @@ mod handlers;
 mod keys;
 mod known;
 mod laws;
+mod references;
 mod routines;
 mod rows;
 mod simple;

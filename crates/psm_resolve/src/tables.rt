@@ -205,7 +205,10 @@ fn is_not_null(form: &ColumnRuleForm) -> bool
 {
     match form {
         ColumnRuleForm::NotNull => true,
-        ColumnRuleForm::PrimaryKey | ColumnRuleForm::Unique | ColumnRuleForm::Check(_) => false,
+        ColumnRuleForm::PrimaryKey
+        | ColumnRuleForm::Unique
+        | ColumnRuleForm::Check(_)
+        | ColumnRuleForm::References(_) => false,
     }
 }
 
@@ -246,7 +249,9 @@ fn push_own_rule(
     ensures checks { IfOk result (λ _. parts.new.checks.items ≡ parts.old.checks.items ++ own_check (seen_at resolver_scope.entry) form.now) }
 {
     match form {
-        ColumnRuleForm::NotNull | ColumnRuleForm::PrimaryKey => Ok(()),
+        ColumnRuleForm::NotNull | ColumnRuleForm::PrimaryKey | ColumnRuleForm::References(_) => {
+            Ok(())
+        }
         ColumnRuleForm::Unique => {
             let places = vec![in alloc; place]?;
             parts.unique.push(List::of(places))?;
@@ -268,7 +273,7 @@ fn push_rule(
     ensures checks { IfOk result (λ _. parts.new.checks.items ≡ parts.old.checks.items ++ rule_check (seen_at resolver_scope.entry) form.now) }
 {
     match form {
-        TableRuleForm::PrimaryKey(_) => Ok(()),
+        TableRuleForm::PrimaryKey(_) | TableRuleForm::ForeignKey { .. } => Ok(()),
         TableRuleForm::Unique(names) => {
             let places = places_of(alloc, Some(columns), names)?;
             parts.unique.push(places)?;

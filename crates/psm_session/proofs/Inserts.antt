@@ -7,6 +7,7 @@ use Rattle.psm_cond.specs.Condition.{Entries}
 use Rattle.psm_cond.specs.declared.fault.DataFault.{DataFault}
 use Rattle.psm_cond.specs.declared.fault.DataFault.TheVariants as fault
 use Rattle.psm_table.specs.Changing.{Changed, Failure, Raised, OfTable}
+use Rattle.psm_table.specs.Keyed.{are_keyed_with, rows_in}
 use Rattle.psm_table.specs.Table.{Contents}
 use Rattle.psm_dml.specs.Ends.{IsDue}
 use Rattle.psm_code.specs.declared.code.CodeTable.{CodeTable}

@@ -1,5 +1,5 @@
 -- Lines of the items of a list, one after another.
-use Rattle.std.proofs.Common.{◌≡◌, ℕ, suc, ◌+◌, ◌<◌, List, [], ◌∷◌, ◌++◌, length, get_or, drop, take, map, ap, sym, subst, ◌∙◌, arith, Option, Some, Result, Ok, Err}
+use Rattle.std.proofs.Common.{◌≡◌, ◌≢◌, ℕ, zero, suc, ◌+◌, ◌<◌, List, [], ◌∷◌, ◌++◌, length, get_or, drop, take, map, refl, ap, sym, subst, ◌∙◌, arith, Option, Some, Result, Ok, Err}
 use Rattle.std.specs.List.{flat_map}
 use Rattle.std.proofs.Math.Seq.{drop-cons}
 use Rattle.std.proofs.lemmas.List.{take_more}
@@ -64,6 +64,20 @@ module _ {A : Type 0} (f : List A → A → List (Option CodeRule)) (xs : List A
   pub after_stop : {s : Stop} {r : Result ℕ Stop} → r ≡ Err s → at < length xs → checked n (each_after f [] xs) ≡ checked k (each_after f (take at xs) (drop at xs))
       → Finds (checked k (item_at f xs at)) (Err s) → Finds (checked n (each_after f [] xs)) r
   after_stop {s} {r} q l i h = subst (λ d. Finds d r) (sym (i ∙ ap (checked k) (item_next l))) (stop (item_at f xs at) (each_after f (take (at + 1) xs) (drop (at + 1) xs)) k q h)
+
+-- ---- an item among those before it and itself
+
+pub got_before : {A : Type 0} (xs : List A) (x : A) (n : ℕ) → n ≢ length xs → slice_get (xs ++ x ∷ []) n ≡ slice_get xs n
+got_before [] x zero h = absurd (h refl)
+got_before [] x (suc n) h = refl
+got_before (y ∷ xs) x zero h = refl
+got_before (y ∷ xs) x (suc n) h = got_before xs x n (λ e. h (ap suc e))
+
+pub got_last : {A : Type 0} (xs : List A) (x : A) (n : ℕ) → n ≡ length xs → slice_get (xs ++ x ∷ []) n ≡ Some x
+got_last xs x n h = ap (slice_get (xs ++ x ∷ [])) h ∙ last xs where
+  last : (ys : List A) → slice_get (ys ++ x ∷ []) (length ys) ≡ Some x
+  last [] = refl
+  last (y ∷ ys) = last ys
 
 -- ---- what is known of the items, one for one
 

@@ -9,6 +9,7 @@ use Rattle.psm_value.specs.Stored.{stored}
 use Rattle.psm_exprcode.specs.declared.set_item.SetItem.{SetItem}
 use Rattle.psm_exprcode.specs.WellFormed.{is_type}
 use Rattle.psm_table.specs.declared.definition.Column.{Column}
+use Rattle.psm_table.specs.declared.definition.ForeignKey.{ForeignKey}
 use Rattle.psm_cond.specs.declared.handlers.ConditionValue.{ConditionValue}
 use Rattle.psm_cond.specs.declared.handlers.Handler.{Handler}
 use Rattle.psm_code.specs.declared.code.CodeTable.{CodeTable}
@@ -61,8 +62,8 @@ holds : (b : Bool) (r : CodeRule) → unless b r ≡ None → b ≡ true
 holds true r h = refl
 holds false r h = absurd (cc)
 
-pub table_passed : (before : List CodeTable) (t : CodeTable) (n m : ℕ) → checked n (table_faults before t) ≡ Ok m → is_new_table before t ≡ true
-table_passed before t n m h = new_table before t ∙ holds (list_all (λ u. not (is_same u.definition.name t.definition.name)) before) Definition (first_none n m (name_fault before t) _ h)
+pub table_passed : (keys : List ForeignKey) (before : List CodeTable) (t : CodeTable) (n m : ℕ) → checked n (table_faults keys before t) ≡ Ok m → is_new_table before t ≡ true
+table_passed keys before t n m h = new_table before t ∙ holds (list_all (λ u. not (is_same u.definition.name t.definition.name)) before) Definition (first_none n m (name_fault before t) _ h)
 
 pub column_passed : (before : List Column) (c : Column) (n m : ℕ) → checked n (column_fault before c) ≡ Ok m → is_new_column before c ≡ true
 column_passed before c n m h =

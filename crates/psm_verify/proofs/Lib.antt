@@ -2,6 +2,7 @@ pub mod Callings
 pub mod Contexts
 pub mod Earlier
 pub mod Each
+pub mod InTurn
 pub mod Ending
 pub mod KnownLetters
 pub mod LinesInOrder

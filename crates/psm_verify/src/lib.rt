@@ -18,6 +18,7 @@ mod numbers;
 mod parts;
 mod placed;
 mod plans;
+mod references;
 mod routines;
 mod stating;
 mod tables;

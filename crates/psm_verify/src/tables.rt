@@ -1,5 +1,5 @@
-//! Tables (ISO/IEC 9075:1992, 11.3, 11.4, 11.7 and 11.9).
-ghost use Rattle.std.specs.Prelude.{◌≡◌, [], ◌∷◌, map, IfOk};
+//! Tables (ISO/IEC 9075:1992, 11.3, 11.4 and 11.7 to 11.9).
+ghost use Rattle.std.specs.Prelude.{◌≡◌, [], ◌∷◌, length, map, true, IfOk};
 ghost use Rattle.std.specs.List.{flat_map, list_all};
 ghost use Rattle.psm_exprcode.specs.Kinds.{is_letter};
 ghost use Rattle.psm_exprcode.specs.declared.op.Letter.TheVariants.{B};
@@ -15,12 +15,13 @@ use crate::expressions::{Due, expression};
 use crate::fault::Stop;
 use crate::listing::passed;
 use crate::numbers::are_there;
+use crate::references::{of_table, references};
 use crate::types::is_type;
 use psm_code::{CodeRule, CodeTable};
 use psm_exprcode::{ExprCode, Letter};
 use psm_keys::{NameSet, are_distinct};
 use psm_list::List;
-use psm_table::{Column, TableDef};
+use psm_table::{Column, ForeignKey, TableDef};
 use psm_value::{Datum, SqlType, is_stored, storing_is_stable};
 use std::alloc::{AllocError, Global};
 
@@ -28,17 +29,22 @@ use std::alloc::{AllocError, Global};
 pub(crate) fn tables(
     alloc: Global,
     line: u64,
+    keys: &[ForeignKey],
     tables: &[CodeTable],
     letters: &[List<Letter>],
 ) -> Result<u64, Stop>
-    requires { letters.now ≡ map column_letters tables.now }
-    ensures { Finds (checked line (each_after rules.table_faults [] tables.now)) result }
+    requires letters { letters.now ≡ map column_letters tables.now }
+    requires turn { rules.are_in_turn 0 (length tables.now) keys.now ≡ true }
+    ensures { Finds (checked line (each_after (rules.table_faults keys.now) [] tables.now)) result }
 {
     let mut names = NameSet::new(alloc);
     let mut line = line;
+    let mut left = keys;
     for at in 0..tables.len() {
         let is_new = names.add(&tables[at].definition.name)?;
-        line = table_at(alloc, line, tables, letters, at, is_new)?;
+        let (own, others) = of_table(left, at);
+        line = table_at(alloc, line, own, tables, letters, at, is_new)?;
+        left = others;
     }
     Ok(line)
 }
@@ -47,6 +53,7 @@ pub(crate) fn tables(
 fn table_at(
     alloc: Global,
     line: u64,
+    own: &[ForeignKey],
     tables: &[CodeTable],
     letters: &[List<Letter>],
     at: usize,
@@ -54,20 +61,29 @@ fn table_at(
 ) -> Result<u64, Stop>
     requires letters { letters.now ≡ map column_letters tables.now }
     requires new { is_new ≡ at_place is_new_table tables.now at }
-    ensures { Finds (checked line (item_at rules.table_faults tables.now at)) result }
+    ensures { Finds (checked line (item_at (rules.faults_of_table own.now) tables.now at)) result }
 {
     match (tables.get(at), letters.get(at)) {
         (Some(table), Some(letters)) => {
-            table_lines(alloc, line, is_new, &tables[..at], table, letters.items())
+            table_lines(
+                alloc,
+                line,
+                own,
+                is_new,
+                &tables[..at],
+                table,
+                letters.items(),
+            )
         }
         _ => Ok(line),
     }
 }
 
-// The line of a table, those of its columns, of its key, of its UNIQUE lists and of its CHECKs.
+// The line of a table, those of its columns, of its key, of its UNIQUE lists, of its FOREIGN KEY constraints and of its CHECKs.
 fn table_lines(
     alloc: Global,
     line: u64,
+    own: &[ForeignKey],
     is_new: bool,
     before: &[CodeTable],
     table: &CodeTable,
@@ -75,11 +91,12 @@ fn table_lines(
 ) -> Result<u64, Stop>
     requires letters { letters.now ≡ column_letters table.now }
     requires new { is_new ≡ is_new_table before.now table.now }
-    ensures { Finds (checked line (rules.table_faults before.now table.now)) result }
+    ensures { Finds (checked line (rules.faults_of_table own.now before.now table.now)) result }
 {
     let line = passed(line, name_fault(is_new, before, table))?;
     let line = columns(alloc, line, &table.definition)?;
     let line = keys(alloc, line, &table.definition)?;
+    let line = references(alloc, line, own, before, table)?;
     checks(alloc, line, letters, table)
 }
 

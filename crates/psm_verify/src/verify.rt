@@ -1,23 +1,25 @@
 //! The verifier of code.
-ghost use Rattle.std.specs.Prelude.{◌≡◌, [], ◌∷◌, map, None, IfOk};
+ghost use Rattle.std.specs.Prelude.{◌≡◌, [], ◌∷◌, length, map, IfOk};
 ghost use Rattle.psm_code.specs.Instructions.{column_letters};
-ghost use Rattle.psm_code.specs.Rules.{each_after};
+ghost use Rattle.psm_code.specs.declared.rule.CodeRule.TheVariants.{Definition};
+ghost use Rattle.psm_code.specs.Rules.{each_after, unless};
 ghost use Rattle.psm_code.specs.RoutineRules.{code_faults, routine_faults};
 ghost use Rattle.psm_verify.specs.Called.{call_of};
 ghost use Rattle.psm_verify.specs.Checked.{Finds, checked, item_at};
 ghost use Rattle.psm_verify.specs.Earlier.{at_place, is_new_routine};
 ghost use Rattle.psm_verify.specs.VerifyContext.{letters_with};
 ghost use Rattle.psm_verify.specs.Verified.{Verifies};
-ghost use Rattle.psm_code.specs.TableRules.{table_faults};
+ghost use Rattle.psm_code.specs.TableRules as rules;
 
 use crate::calls::{Call, calls_of};
 use crate::code::Code;
 use crate::fault::{CodeFault, Stop};
 use crate::inserts::rows_of_plans;
 use crate::listing::next;
+use crate::references::are_in_turn;
 use crate::tables::tables;
 use crate::verify_context::{VerifyContext, item_letters, letters_of_tables, letters_of_variables};
-use psm_code::{RawCode, RawRoutine};
+use psm_code::{CodeRule, RawCode, RawRoutine};
 use psm_exprcode::{Letter, Query};
 use psm_keys::SignatureSet;
 use psm_list::List;
@@ -46,13 +48,22 @@ fn code_lines(alloc: Global, code: &RawCode) -> Result<u64, Stop>
     routines(alloc, line, code, letters.as_slice(), calls.as_slice())
 }
 
-// The first line of the listing, which counts tables and routines, and those of the tables.
+// The first line of the listing, which counts tables and routines, and at which a FOREIGN KEY constraint is at fault that stands out
+// of turn, and those of the tables.
 fn tables_lines(alloc: Global, code: &RawCode, letters: &[List<Letter>]) -> Result<u64, Stop>
     requires { letters.now ≡ map column_letters code.now.tables }
-    ensures { Finds (checked 1 (None ∷ each_after table_faults [] code.now.tables)) result }
+    ensures { Finds (checked 1 (unless (rules.are_in_turn 0 (length code.now.tables) code.now.keys) Definition ∷ each_after (rules.table_faults code.now.keys) [] code.now.tables)) result }
 {
+    let keys = code.keys.items();
+    let code_tables = code.tables.items();
+    if !are_in_turn(keys, code_tables.len()) {
+        return Err(Stop::Fault(CodeFault {
+            line: 1,
+            rule: CodeRule::Definition,
+        }));
+    }
     let line = next(1)?;
-    tables(alloc, line, code.tables.items(), letters)
+    tables(alloc, line, keys, code_tables, letters)
 }
 
 fn routines(

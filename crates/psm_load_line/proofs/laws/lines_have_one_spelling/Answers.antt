@@ -5,7 +5,7 @@ use Rattle.psm_load_line.proofs.laws.lines_have_one_spelling.Goals as goal
 
 pub returns : goal.returns
 returns c = record {
-  table_heads = λ t. refl;
+  table_heads = λ own t. refl;
   table_again = table_written.again;
   table_takes = table_written.takes;
   expression_again = expression_written.again;

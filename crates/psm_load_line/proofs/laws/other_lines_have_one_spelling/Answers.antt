@@ -1,4 +1,4 @@
-use Rattle.psm_load_line.proofs.OtherForms.{column_written, condition_written, context_written, cursor_written, first_written, item_written, key_written, parameter_written, query_written, routine_written, slot_written, unique_written}
+use Rattle.psm_load_line.proofs.OtherForms.{column_written, condition_written, context_written, cursor_written, first_written, item_written, key_written, parameter_written, query_written, reference_written, routine_written, slot_written, unique_written}
 use Rattle.psm_load_line.proofs.laws.other_lines_have_one_spelling.Goals as goal
 
 pub returns : goal.returns
@@ -11,6 +11,8 @@ returns c = record {
   key_takes = key_written.takes;
   unique_again = unique_written.again;
   unique_takes = unique_written.takes;
+  reference_again = reference_written.again;
+  reference_takes = reference_written.takes;
   query_again = query_written.again;
   query_takes = query_written.takes;
   item_again = λ i. item_written.again i tt;

@@ -5,7 +5,7 @@ use Rattle.psm_table.specs.Changing.{inserted}
 use Rattle.psm_table.specs.Definition.{HasColumns}
 use Rattle.psm_table.specs.Table.{Contents}
 use Rattle.psm_table.specs.declared.definition.TableDef.{TableDef}
-use Rattle.psm_dml.specs.Ends.{schema_of, Ends}
+use Rattle.psm_dml.specs.Ends.{keyed_schema, Ends}
 use Rattle.psm_code.specs.Plans.{plain}
 use Rattle.psm_machine.proofs.Asking.{some_of}
 use Rattle.psm_machine.proofs.Counting.{puts_into}
@@ -26,6 +26,6 @@ returns-clause-puts g c =
     let new : List Contents = g.S.Store.tables c.insert.new.store in
     let t = c.args.declared.now in
     let n = c.args.table in
-    let ruled = subst (λ (checks : List (List Line)). IfSome (slice_get old n) (λ d. Ends d (inserted plain (schema_of d.def checks) c.in_ok-new.new.items d.rows) old n new c.insert.result)) c.items.ensures c.insert.ensures.answer in
-    let filled = subst (λ (rs : List (List Datum)). IfSome (slice_get old n) (λ d. Ends d (inserted plain (schema_of d.def t.checks) rs d.rows) old n new c.insert.result)) c.in_ok-new.ensures ruled in
-    puts_into t n c.args.columns.now c.args.rows.now old new c.insert.result c.requires.has filled
+    let ruled = subst (λ (checks : List (List Line)). IfSome (slice_get old n) (λ d. Ends d (inserted plain (keyed_schema c.args.keys.now old n d.def checks) c.in_ok-new.new.items d.rows) old n new c.insert.result)) c.items.ensures c.insert.ensures.answer in
+    let filled = subst (λ (rs : List (List Datum)). IfSome (slice_get old n) (λ d. Ends d (inserted plain (keyed_schema c.args.keys.now old n d.def t.checks) rs d.rows) old n new c.insert.result)) c.in_ok-new.ensures ruled in
+    puts_into c.args.keys.now t n c.args.columns.now c.args.rows.now old new c.insert.result c.requires.has filled

@@ -1,8 +1,10 @@
-use Rattle.std.proofs.Common.{◌≡◌, ◌++◌, drop}
-use Rattle.std.specs.List.{flat_map}
-use Rattle.psm_object.specs.Tables.{table_lines}
+use Rattle.std.proofs.Common.{◌≡◌, ◌++◌, drop, true}
+use Rattle.psm_object.specs.OwnKeys.{ascend}
+use Rattle.psm_object.specs.Tables.{tables_lines}
 use Rattle.psm_object.specs.Words.{text}
 use Rattle.psm_object.proofs.tables.put_tables.Given as goal
 
-abbrev pub invariant-loop-table : goal.invariant-loop-table
-invariant-loop-table l = l.out.items ++ text (flat_map table_lines (drop l.table-index l.tables)) ≡ l.fn.out.items ++ text (flat_map table_lines l.tables)
+abbrev pub invariant-loop-number : goal.invariant-loop-number
+invariant-loop-number l =
+    (l.out.items ++ text (tables_lines l.left l.number (drop l.number l.tables)) ≡ l.fn.out.items ++ text (tables_lines l.keys 0 l.tables))
+    × (l.in_order ≡ true → ascend l.number l.left ≡ true)

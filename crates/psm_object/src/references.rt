@@ -1,0 +1,99 @@
+//! The lines of FOREIGN KEY constraints, each behind those of the table that refers.
+ghost use Rattle.std.specs.Prelude.{◌≡◌, ◌++◌, ◌<◌, ℕ, suc, true, length, map, OnOk};
+ghost use Rattle.psm_code.specs.TableRules.{keys_from};
+ghost use Rattle.psm_object.specs.OwnKeys as order;
+ghost use Rattle.psm_object.specs.Tables.{reference_line, referred_words};
+ghost use Rattle.psm_object.specs.Words.{ended, further, text};
+
+use crate::words::{end_line, put_index, put_indices, put_word};
+use psm_table::ForeignKey;
+use std::alloc::AllocError;
+
+/// Whether constraints stand in the order of the tables that refer.
+pub(crate) fn ascend(keys: &[ForeignKey]) -> bool
+    ensures { result ≡ order.ascend 0 keys.now }
+{
+    let mut at = 0;
+    let mut rest = keys;
+    while let Some((key, others)) = rest.split_first() {
+        if key.from < at {
+            return false;
+        }
+        at = key.from;
+        rest = others;
+    }
+    true
+}
+
+/// The constraints among which are all of a table, and those among which are all of later tables. Where they stand in order,
+/// the first are those of the table alone, and the second are of later tables alone.
+pub(crate) fn parted(
+    keys: &[ForeignKey],
+    table: usize,
+    in_order: bool,
+) -> (&[ForeignKey], &[ForeignKey])
+    requires { in_order ≡ true → order.ascend table keys.now ≡ true }
+    ensures own { keys_from result.0.now table ≡ keys_from keys.now table }
+    ensures others { (m : ℕ) → table < m → keys_from result.1.now m ≡ keys_from keys.now m }
+    ensures order { in_order ≡ true → order.ascend (suc table) result.1.now ≡ true }
+{
+    if in_order {
+        keys.split_at(count_at_front(keys, table))
+    } else {
+        (keys, keys)
+    }
+}
+
+fn count_at_front(keys: &[ForeignKey], table: usize) -> usize
+    ensures { result ≡ order.count_at_front table keys.now }
+{
+    let mut count = 0;
+    for key in keys {
+        if key.from as usize != table {
+            return count;
+        }
+        count += 1;
+    }
+    count
+}
+
+/// How many constraints a table has.
+pub(crate) fn count_of(keys: &[ForeignKey], table: usize) -> usize
+    ensures { result ≡ length (keys_from keys.now table) }
+{
+    keys.iter().filter(|key| key.from as usize == table).count()
+}
+
+/// Appends the lines of the constraints of a table.
+pub(crate) fn put_references(
+    out: &mut Vec<u8>,
+    keys: &[ForeignKey],
+    table: usize,
+) -> Result<(), AllocError>
+    ensures { OnOk result (out.new.items ≡ out.old.items ++ text (map reference_line (keys_from keys.now table))) }
+{
+    for key in keys {
+        if key.from as usize == table {
+            put_reference(out, key)?;
+        }
+    }
+    Ok(())
+}
+
+fn put_reference(out: &mut Vec<u8>, key: &ForeignKey) -> Result<(), AllocError>
+    ensures { OnOk result (out.new.items ≡ out.old.items ++ ended (reference_line key.now)) }
+{
+    out.extend_from_slice(b"REF")?;
+    put_indices(out, key.columns.items())?;
+    put_referred(out, key)
+}
+
+// The table and the columns to which a constraint refers.
+fn put_referred(out: &mut Vec<u8>, key: &ForeignKey) -> Result<(), AllocError>
+    ensures { OnOk result (out.new.items ≡ out.old.items ++ ended (further (referred_words key.now))) }
+{
+    put_word(out, "TO")?;
+    put_index(out, key.to)?;
+    put_indices(out, key.target.items())?;
+    end_line(out)
+}

@@ -1,0 +1,159 @@
+//! FOREIGN KEY constraints (ISO/IEC 9075:1992, 11.8).
+ghost use Rattle.std.specs.Prelude.{◌≡◌, ◌&&◌, ◌∷◌, ◌++◌, [], length, nat_eq, map, option_copied, slice_get, IfOk};
+ghost use Rattle.std.specs.Cmp.Lexicographic.{pointwise};
+ghost use Rattle.std.specs.List.{list_all, list_any, zip};
+ghost use Rattle.psm_code.specs.TableRules as rules;
+ghost use Rattle.psm_verify.specs.Checked.{Finds, checked};
+ghost use Rattle.psm_verify.specs.InTurn.{count_of, others_of, own_of};
+
+use crate::fault::Stop;
+use crate::listing::passed;
+use crate::numbers::are_there;
+use crate::tables::is_column_list;
+use psm_code::{CodeRule, CodeTable};
+use psm_exprcode::Letter;
+use psm_list::List;
+use psm_table::{ForeignKey, TableDef};
+use std::alloc::{AllocError, Global};
+
+/// Whether the constraints stand in the order of the tables that refer, of which there are so many.
+pub(crate) fn are_in_turn(keys: &[ForeignKey], count: usize) -> bool
+    ensures { result ≡ rules.are_in_turn 0 count keys.now }
+{
+    let mut at = 0;
+    let mut rest = keys;
+    while let Some((key, others)) = rest.split_first() {
+        if key.from < at || key.from as usize >= count {
+            return false;
+        }
+        at = key.from;
+        rest = others;
+    }
+    true
+}
+
+/// Those at the front that are of a table, and the others.
+#[tactic(auto, using(crate::proofs::InTurn::count_within))]
+pub(crate) fn of_table(keys: &[ForeignKey], table: usize) -> (&[ForeignKey], &[ForeignKey])
+    ensures own { result.0.now ≡ own_of table keys.now }
+    ensures others { result.1.now ≡ others_of table keys.now }
+{
+    keys.split_at(count_at_front(keys, table))
+}
+
+fn count_at_front(keys: &[ForeignKey], table: usize) -> usize
+    ensures { result ≡ count_of table keys.now }
+{
+    let mut count = 0;
+    for key in keys {
+        if key.from as usize != table {
+            return count;
+        }
+        count += 1;
+    }
+    count
+}
+
+/// The lines of the constraints of a table.
+#[tactic(auto, using(crate::proofs::Each::map_next, crate::proofs::LinesInOrder::going_on, crate::proofs::LinesInOrder::stopped))]
+pub(crate) fn references(
+    alloc: Global,
+    line: u64,
+    own: &[ForeignKey],
+    before: &[CodeTable],
+    table: &CodeTable,
+) -> Result<u64, Stop>
+    ensures { Finds (checked line (map (rules.foreign_key_fault before.now table.now) own.now)) result }
+{
+    let mut line = line;
+    for key in own {
+        line = passed(line, foreign_key_fault(alloc, before, table, key)?)?;
+    }
+    Ok(line)
+}
+
+fn foreign_key_fault(
+    alloc: Global,
+    before: &[CodeTable],
+    table: &CodeTable,
+    key: &ForeignKey,
+) -> Result<Option<CodeRule>, AllocError>
+    ensures { IfOk result (λ fault. fault ≡ rules.foreign_key_fault before.now table.now key.now) }
+{
+    match table_of(before, table, key.to) {
+        Some(to) => pair_fault(alloc, &table.definition, key, &to.definition),
+        None => Ok(Some(CodeRule::Range)),
+    }
+}
+
+// The table of a number, if it is this one or one before it.
+#[tactic(auto, using(crate::proofs::Each::got_before, crate::proofs::Each::got_last))]
+fn table_of<'a>(before: &'a [CodeTable], table: &'a CodeTable, number: u32) -> Option<&'a CodeTable>
+    ensures { option_copied result ≡ slice_get (before.now ++ table.now ∷ []) number }
+{
+    let place = number as usize;
+    if place == before.len() {
+        Some(table)
+    } else {
+        before.get(place)
+    }
+}
+
+fn pair_fault(
+    alloc: Global,
+    from: &TableDef,
+    key: &ForeignKey,
+    to: &TableDef,
+) -> Result<Option<CodeRule>, AllocError>
+    ensures { IfOk result (λ fault. fault ≡ rules.pair_fault from.now key.now to.now) }
+{
+    let columns = key.columns.items();
+    let target = key.target.items();
+    if !are_there(from.columns.items(), columns) || !are_there(to.columns.items(), target) {
+        return Ok(Some(CodeRule::Range));
+    }
+    let are_lists = is_column_list(alloc, columns)? && is_column_list(alloc, target)?;
+    if are_lists && pair_up(from, to, columns, target) && is_one_of_keys(to, target) {
+        Ok(None)
+    } else {
+        Ok(Some(CodeRule::Definition))
+    }
+}
+
+// Whether the columns are as many on both sides, and those of each pair of one family.
+fn pair_up(from: &TableDef, to: &TableDef, columns: &[u32], target: &[u32]) -> bool
+    ensures { result ≡ (nat_eq (length columns.now) (length target.now) && list_all (rules.pairs_up from.now to.now) (zip columns.now target.now)) }
+{
+    columns.len() == target.len()
+        && columns
+            .iter()
+            .zip(target)
+            .all(|(column, place)| pairs_up(from, to, *column, *place))
+}
+
+fn pairs_up(from: &TableDef, to: &TableDef, column: u32, place: u32) -> bool
+    ensures { result ≡ rules.pairs_up from.now to.now (column, place) }
+{
+    match from.columns.items().get(column as usize) {
+        Some(c) => {
+            match to.columns.items().get(place as usize) {
+                Some(d) => Letter::of_type(c.kind) == Letter::of_type(d.kind),
+                None => true,
+            }
+        }
+        None => true,
+    }
+}
+
+// Whether the places are those of the key, or of a UNIQUE list, in order.
+fn is_one_of_keys(def: &TableDef, places: &[u32]) -> bool
+    ensures { result ≡ rules.is_one_of_keys def.now places.now }
+{
+    places == def.key.items() || is_one_of(def.unique.items(), places)
+}
+
+fn is_one_of(lists: &[List<u32>], places: &[u32]) -> bool
+    ensures { result ≡ list_any (pointwise nat_eq places.now) lists.now }
+{
+    lists.iter().any(|list| places == list.items())
+}
