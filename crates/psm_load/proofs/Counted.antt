@@ -12,6 +12,7 @@ use Rattle.psm_exprcode.specs.declared.op.Line.{Line}
 use Rattle.psm_exprcode.specs.declared.query.Query.{Query}
 use Rattle.psm_exprcode.specs.declared.set_item.SetItem.{SetItem}
 use Rattle.psm_table.specs.declared.definition.Column.{Column}
+use Rattle.psm_table.specs.declared.definition.ForeignKey.{ForeignKey}
 use Rattle.psm_code.specs.declared.code.CodeCursor.{CodeCursor}
 use Rattle.psm_code.specs.declared.code.CodeTable.{CodeTable}
 use Rattle.psm_code.specs.declared.code.Plan.{Plan}
@@ -27,15 +28,18 @@ use Rattle.psm_object.specs.Listing.{lines_of}
 use Rattle.psm_object.specs.Plans.{plan_lines, set_lines}
 use Rattle.psm_object.specs.Queries.{aggregate_lines, cursor_line, function_lines, item_lines, items_lines, query_lines}
 use Rattle.psm_object.specs.Routines.{parameter_line, routine_lines, slot_line}
-use Rattle.psm_object.specs.Tables.{column_line, table_lines, unique_line}
-use Rattle.psm_load_line.specs.Forms.{ItemHead, PlanHead, QueryHead, TableHead, Delete, DeleteAt, Function, Insert, InsertQuery, Rows, Update, UpdateAt, Value, column_at, condition_at, context_at, first_at, handler_at, item_at, key_at, plan_at, query_at, set_at, table_at, unique_at}
+use Rattle.psm_object.specs.Tables.{column_line, reference_line, table_lines, tables_lines, unique_line}
+use Rattle.psm_load_line.specs.Forms.{ItemHead, PlanHead, QueryHead, ReferenceWords, TableHead, Delete, DeleteAt, Function, Insert, InsertQuery, Rows, Update, UpdateAt, Value, column_at, condition_at, context_at, first_at, handler_at, item_at, key_at, plan_at, query_at, reference_at, set_at, table_at, unique_at}
 use Rattle.psm_load_line.specs.InstructionForms.{code_line_at, operation_line_at}
 use Rattle.psm_load_line.specs.OperationForms.{expression_at}
 use Rattle.psm_load_line.specs.RoutineForms.{ControlCounts, DataCounts, RoutineHead, cursor_at, parameter_at, routine_at, slot_at}
-use Rattle.psm_load_line.specs.Said.{columns_of, declared_of, handler_of}
+use Rattle.psm_load_line.specs.Said.{columns_of, declared_of, handler_of, key_from, reference_of}
 use Rattle.psm_load_line.specs.Readers.{LineReader}
 use Rattle.psm_load.specs.Parts.{At, Part, after_line, and_then, first_odd, given, if_there, noting, one, taken, times, ◌>>◌}
-use Rattle.psm_load.specs.Stated.{at_start, breaks_place, breaks_rows, breaks_sets, code, code_by, condition, op_of, routine_of, expression, handler, handling_by, access_by, items_by, items_of, lines_by, more_rows, more_sets, operation, plan, plan_by, query, query_by, routine, routine_by, set_item, set_of_item, table, table_by, value_of_item, variables_by}
+use Rattle.psm_load.specs.Stated.{at_start, breaks_place, breaks_rows, breaks_sets, code, code_by, condition, op_of, routine_of, expression, handler, handling_by, access_by, items_by, items_of, keys_of, lines_by, more_rows, more_sets, operation, plan, plan_by, query, query_by, routine, routine_by, set_item, set_of_item, table, table_by, tables_by, tables_of, value_of_item, variables_by}
+use Rattle.psm_load.specs.declared.tables.TableText.{TableText}
+use Rattle.psm_load.specs.Listed.{texts_of}
+use Rattle.psm_load.proofs.TableTexts.{text_lines, texts_again, texts_lines}
 
 -- Where k lines were read and then the part, the lines that were read are as many as n says of what the part gives, unless one of them
 -- stands for nothing that code holds.
@@ -138,26 +142,39 @@ expression_counts = then_adds (one expression_at) (λ n. times n operation) 0 (�
 test_counts : (there : Bool) → Counts (if_there there expression) test_size
 test_counts there = there_counts there expression expression_size test_size expression_counts refl (λ lines. refl)
 
-abbrev table_size : CodeTable → ℕ
-table_size t = suc (length t.definition.columns) + suc (length t.definition.unique) + total expression_size t.checks
+abbrev table_size : TableText → ℕ
+table_size t = suc (length t.table.definition.columns) + suc (length t.table.definition.unique) + length t.references + total expression_size t.table.checks
 
-abbrev table_of : TableHead → List Column → ℕ × List ℕ → List (ℕ × List ℕ) → List (List Line) → CodeTable
-table_of h columns key uniques checks = record { definition = record { name = h.0; columns = columns; key = columns_of key; unique = map columns_of uniques }; checks = checks }
+abbrev table_of : TableHead → List Column → ℕ × List ℕ → List (ℕ × List ℕ) → List ReferenceWords → List (List Line) → TableText
+table_of h columns key uniques references checks =
+    record { table = record { definition = record { name = h.0; columns = columns; key = columns_of key; unique = map columns_of uniques }; checks = checks }; references = map reference_of references }
 
-abbrev with_checks : TableHead → List Column → ℕ × List ℕ → List (ℕ × List ℕ) → Part CodeTable
-with_checks h columns key uniques = times h.1.1.1 expression >> λ checks. given (table_of h columns key uniques checks)
+abbrev with_checks : TableHead → List Column → ℕ × List ℕ → List (ℕ × List ℕ) → List ReferenceWords → Part TableText
+with_checks h columns key uniques references = times h.1.1.1.0 expression >> λ checks. given (table_of h columns key uniques references checks)
+
+abbrev with_references : TableHead → List Column → ℕ × List ℕ → List (ℕ × List ℕ) → Part TableText
+with_references h columns key uniques = times h.1.1.1.1 (one reference_at) >> λ references. with_checks h columns key uniques references
 
 table_by_adds : (h : TableHead) → Adds (table_by h) (0 + 1) table_size
 table_by_adds h =
-    then_adds (times h.1.0 (one column_at)) (λ columns. one key_at >> λ key. times h.1.1.0 (one unique_at) >> λ uniques. with_checks h columns key uniques) (0 + 1) length table_size (lines_count column_at h.1.0)
-    (λ columns. then_adds (one key_at) (λ key. times h.1.1.0 (one unique_at) >> λ uniques. with_checks h columns key uniques) (0 + 1 + length columns) (λ a. 1) table_size (one_counts key_at)
-    (λ key. then_adds (times h.1.1.0 (one unique_at)) (λ uniques. with_checks h columns key uniques) (0 + 1 + length columns + 1) length table_size (lines_count unique_at h.1.1.0)
-    (λ uniques. then_adds (times h.1.1.1 expression) (λ checks. given (table_of h columns key uniques checks)) (0 + 1 + length columns + 1 + length uniques) (total expression_size) table_size (times_counts expression expression_size h.1.1.1 expression_counts)
-    (λ checks. given_adds (table_of h columns key uniques checks) (0 + 1 + length columns + 1 + length uniques + total expression_size checks) table_size
-    (omega (arith, length-map uniques columns_of))))))
+    then_adds (times h.1.0 (one column_at)) (λ columns. one key_at >> λ key. times h.1.1.0 (one unique_at) >> λ uniques. with_references h columns key uniques) (0 + 1) length table_size (lines_count column_at h.1.0)
+    (λ columns. then_adds (one key_at) (λ key. times h.1.1.0 (one unique_at) >> λ uniques. with_references h columns key uniques) (0 + 1 + length columns) (λ a. 1) table_size (one_counts key_at)
+    (λ key. then_adds (times h.1.1.0 (one unique_at)) (λ uniques. with_references h columns key uniques) (0 + 1 + length columns + 1) length table_size (lines_count unique_at h.1.1.0)
+    (λ uniques. then_adds (times h.1.1.1.1 (one reference_at)) (λ references. with_checks h columns key uniques references) (0 + 1 + length columns + 1 + length uniques) length table_size (lines_count reference_at h.1.1.1.1)
+    (λ references. then_adds (times h.1.1.1.0 expression) (λ checks. given (table_of h columns key uniques references checks)) (0 + 1 + length columns + 1 + length uniques + length references) (total expression_size) table_size
+    (times_counts expression expression_size h.1.1.1.0 expression_counts)
+    (λ checks. given_adds (table_of h columns key uniques references checks) (0 + 1 + length columns + 1 + length uniques + length references + total expression_size checks) table_size
+    (omega (arith, length-map uniques columns_of, length-map references reference_of)))))))
 
 table_counts : Counts table table_size
 table_counts = then_adds (one table_at) table_by 0 (λ a. 1) table_size (one_counts table_at) table_by_adds
+
+abbrev tables_size : List CodeTable × List ForeignKey → ℕ
+tables_size x = total table_size (texts_of x.1 0 x.0)
+
+tables_counts : (n : ℕ) → Counts (tables_by n) tables_size
+tables_counts n = then_adds (times n table) (λ ts. given (tables_of ts, keys_of 0 ts)) 0 (total table_size) tables_size (times_counts table table_size n table_counts)
+    (λ ts. given_adds (tables_of ts, keys_of 0 ts) (0 + total table_size ts) tables_size (let e = ap (total table_size) (texts_again 0 ts) in omega (arith, e)))
 
 -- ---- queries
 
@@ -317,12 +334,12 @@ routine_counts = then_adds (one routine_at) routine_by 0 (λ a. 1) routine_size 
 -- ---- code
 
 abbrev code_size : RawCode → ℕ
-code_size c = suc (total table_size c.tables + total routine_size c.routines)
+code_size c = suc (tables_size (c.tables, c.keys) + total routine_size c.routines)
 
 code_by_adds : (h : ℕ × ℕ) → Adds (code_by h) (0 + 1) code_size
-code_by_adds (tables, routines) = then_adds (times tables table) (λ ts. times routines routine >> λ rs. given (record { tables = ts; keys = []; routines = rs })) (0 + 1) (total table_size) code_size (times_counts table table_size tables table_counts)
-    (λ ts. then_adds (times routines routine) (λ rs. given (record { tables = ts; keys = []; routines = rs })) (0 + 1 + total table_size ts) (total routine_size) code_size (times_counts routine routine_size routines routine_counts)
-    (λ rs. given_adds (record { tables = ts; keys = []; routines = rs }) (0 + 1 + total table_size ts + total routine_size rs) code_size (omega arith)))
+code_by_adds (tables, routines) = then_adds (tables_by tables) (λ ts. times routines routine >> λ rs. given (record { tables = ts.0; keys = ts.1; routines = rs })) (0 + 1) tables_size code_size (tables_counts tables)
+    (λ ts. then_adds (times routines routine) (λ rs. given (record { tables = ts.0; keys = ts.1; routines = rs })) (0 + 1 + tables_size ts) (total routine_size) code_size (times_counts routine routine_size routines routine_counts)
+    (λ rs. given_adds (record { tables = ts.0; keys = ts.1; routines = rs }) (0 + 1 + tables_size ts + total routine_size rs) code_size (omega arith)))
 
 code_counts : Counts code code_size
 code_counts = then_adds (one first_at) code_by 0 (λ a. 1) code_size (one_counts first_at) code_by_adds
@@ -340,8 +357,18 @@ test_length : (test : Option (List Line)) → length (test_lines test) ≡ test_
 test_length None = refl
 test_length (Some lines) = expression_length lines
 
-table_length : (t : CodeTable) → length (table_lines t) ≡ table_size t
-table_length t = simp (length-append) (omega (arith, length-map t.definition.columns column_line, length-map t.definition.unique unique_line, total_lines expression_lines expression_size t.checks expression_length))
+table_length : (t : TableText) → length (text_lines t) ≡ table_size t
+table_length t =
+    let d = t.table.definition in
+    let own = map (key_from 0) t.references in
+    simp (length-append) (omega (
+      arith,
+      length-map d.columns column_line,
+      length-map d.unique unique_line,
+      length-map own reference_line,
+      length-map t.references (key_from 0),
+      total_lines expression_lines expression_size t.table.checks expression_length,
+    ))
 
 function_length : (f : SetFunction) (operand : Option (List Line)) → length (function_lines f operand) ≡ suc (test_size operand)
 function_length f None = refl
@@ -382,8 +409,11 @@ routine_length r = simp (length-append) (omega (
 ))
 
 code_length : (c : RawCode) → length (lines_of c) ≡ code_size c
-code_length c = ap suc (length-append (flat_map table_lines c.tables) (flat_map routine_lines c.routines) ∙ (let a = total_lines table_lines table_size c.tables table_length in let b = total_lines routine_lines routine_size c.routines routine_length in
-    let g : length (flat_map table_lines c.tables) + length (flat_map routine_lines c.routines) ≡ total table_size c.tables + total routine_size c.routines = omega (arith, a, b) in g))
+code_length c = ap suc (length-append (tables_lines c.keys 0 c.tables) (flat_map routine_lines c.routines) ∙ (
+    let a : length (tables_lines c.keys 0 c.tables) ≡ tables_size (c.tables, c.keys) =
+    ap (λ (ls : List (List ℕ)). length ls) (sym (texts_lines c.keys 0 c.tables)) ∙ total_lines text_lines table_size (texts_of c.keys 0 c.tables) table_length in
+    let b = total_lines routine_lines routine_size c.routines routine_length in
+    let g : length (tables_lines c.keys 0 c.tables) + length (flat_map routine_lines c.routines) ≡ tables_size (c.tables, c.keys) + total routine_size c.routines = omega (arith, a, b) in g))
 
 -- the line after the last one of what a text stands for has the number that it has in the listing
 pub number_after : (c : RawCode) (ls rest : List (List ℕ)) (at : At) → code at_start ls ≡ Ok (c, (at, rest)) → at.odd ≡ None → at.number ≡ 1 + length (lines_of c)

@@ -14,7 +14,6 @@ use Rattle.psm_exprcode.specs.declared.items.Items.TheVariants as items
 use Rattle.psm_exprcode.specs.declared.op.Line.{Line}
 use Rattle.psm_exprcode.specs.declared.query.Query.{Query}
 use Rattle.psm_exprcode.specs.declared.set_item.SetItem.{SetItem}
-use Rattle.psm_code.specs.declared.code.CodeTable.{CodeTable}
 use Rattle.psm_code.specs.declared.code.Plan.{Plan}
 use Rattle.psm_code.specs.declared.code.Plan.TheVariants as plans
 use Rattle.psm_code.specs.declared.code.RawCode.{RawCode}
@@ -29,18 +28,23 @@ use Rattle.psm_object.specs.Listing.{first_line, lines_of}
 use Rattle.psm_object.specs.Plans.{plan_lines, set_lines}
 use Rattle.psm_object.specs.Queries.{aggregate_lines, cursor_line, direction_word, function_lines, item_lines, items_count, items_lines, query_line, query_lines}
 use Rattle.psm_object.specs.Routines.{access_lines, control_counts, data_counts, handling_lines, parameter_line, result_word, routine_kind_word, routine_line, routine_lines, slot_line, variable_lines}
-use Rattle.psm_object.specs.Tables.{column_line, key_line, table_line, table_lines, unique_line}
+use Rattle.psm_object.specs.Tables.{column_line, key_line, reference_line, table_line, tables_lines, unique_line}
 use Rattle.psm_object.specs.Words.{count, flag, spaced}
 use Rattle.psm_load.specs.Due.{Due, behind, behind_first, behind_item, behind_plan, behind_query, behind_routine, behind_table, control_due, data_due, fits, going_on, misfit, test_due, Column, Condition, Context, Cursor, Expression, First, Item, Key, Operation, Parameter, Routine, Set, Slot, Table, Unique}
 use Rattle.psm_load.specs.Due as due
 use Rattle.psm_load_line.specs.Forms.{ItemHead, PlanHead, QueryHead, TableHead, Delete, DeleteAt, Function, Insert, InsertQuery, Rows, Update, UpdateAt, Value}
 use Rattle.psm_load_line.specs.Heads.{EachIs, IsColumn, IsCodeLine, IsContext, IsCursor, IsIndex, IsOperation, IsParameter, IsPlanHead, item_head_line, or_dash, plan_head_line, query_head_line, routine_head_line, table_head}
 use Rattle.psm_load_line.specs.RoutineForms.{RoutineHead}
-use Rattle.psm_load.specs.Listed.{AreListed, AreListedItems, AreListedSets, IsListed, IsListedCondition, IsListedExpr, IsListedHandler, IsListedPlan, IsListedQuery, IsListedRoutine, IsListedSet, IsListedTable, IsListedTest, item_count, query_head, routine_head}
+use Rattle.psm_load_line.specs.Said.{key_from}
+use Rattle.psm_load_line.specs.declared.head.Reference.{Reference}
+use Rattle.psm_load.specs.Listed.{AreListed, AreListedItems, AreListedSets, IsListed, IsListedCondition, IsListedExpr, IsListedHandler, IsListedPlan, IsListedQuery, IsListedReference, IsListedRoutine, IsListedSet, IsListedTable, IsListedTest, item_count, query_head, routine_head, texts_of}
+use Rattle.psm_load.specs.declared.tables.TableText.{TableText}
+use Rattle.psm_load.proofs.TableTexts.{text_lines, texts_length, texts_lines}
+use Rattle.psm_load.proofs.WrittenParts.{length_map, reference_said}
 use Rattle.psm_load.proofs.Conditions.{condition_fits, condition_head, condition_line_is, handler_fits, handler_head, handler_line_is}
 use Rattle.psm_load_line.proofs.Forms.{expression_written, handler_written, plan_written, table_written}
 use Rattle.psm_load_line.proofs.Instructions.{code_line_written, operation_line_written}
-use Rattle.psm_load_line.proofs.OtherForms.{column_written, condition_written, context_written, cursor_written, first_written, item_written, key_written, parameter_written, query_written, routine_written, set_written, slot_written, unique_written}
+use Rattle.psm_load_line.proofs.OtherForms.{column_written, condition_written, context_written, cursor_written, first_written, item_written, key_written, parameter_written, query_written, reference_written, routine_written, set_written, slot_written, unique_written}
 
 -- ---- lines one after another
 
@@ -98,16 +102,33 @@ reads_unique : (columns : List ℕ) → AreListed columns → behind Unique (uni
 reads_unique [] v = absurd v
 reads_unique (n ∷ ns) v = fits_of _ (n, ns) (unique_written.again (n, ns) v)
 
-reads_table : (t : CodeTable) → IsListedTable t → Reads (Table ∷ []) (table_lines t)
+reads_reference : (r : Reference) → IsListedReference r → behind due.Reference (reference_line (key_from 0 r)) ≡ Some []
+reads_reference r v =
+    let x = reference_said r v in
+    ap (λ q. behind due.Reference (reference_line (key_from 0 q))) x.1 ∙ fits_of _ x.0.0 (reference_written.again x.0.0 x.0.1)
+
+references_are : (rs : List Reference) → map (λ r. reference_line (key_from 0 r)) rs ≡ map reference_line (map (key_from 0) rs)
+references_are [] = refl
+references_are (r ∷ rs) = ap (λ ls. reference_line (key_from 0 r) ∷ ls) (references_are rs)
+
+reads_references : (rs : List Reference) → EachIs IsListedReference rs → Reads (replicate (length rs) due.Reference) (map reference_line (map (key_from 0) rs))
+reads_references rs v = subst (Reads (replicate (length rs) due.Reference)) (references_are rs) (reads_map due.Reference (λ r. reference_line (key_from 0 r)) IsListedReference reads_reference rs v)
+
+reads_table : (t : TableText) → IsListedTable t → Reads (Table ∷ []) (text_lines t)
 reads_table t v =
-    let d = t.definition in
-    let columns = reads_map Column column_line IsColumn (λ c w. fits_of _ c (column_written.again c w)) d.columns v.1 in
-    let uniques = reads_map Unique unique_line AreListed reads_unique d.unique v.3 in
-    let checks = reads_flat Expression expression_lines IsListedExpr reads_expr t.checks v.4 in
-    let keys = reads_both (Key ∷ []) (replicate (length d.unique) Unique) (key_line d.key ∷ []) (map unique_line d.unique) (reads_one Key (key_line d.key) (reads_key d.key v.2)) uniques in
-    reads_line Table (table_line t) (behind_table (table_head t)) ((map column_line d.columns ++ key_line d.key ∷ map unique_line d.unique) ++ flat_map expression_lines t.checks) (ap (λ (o : Option TableHead). o >>= λ h. Some (behind_table h)) (table_written.again (table_head t) v.0)) (
-    reads_both (replicate (length d.columns) Column ++ Key ∷ replicate (length d.unique) Unique) (replicate (length t.checks) Expression) (map column_line d.columns ++ key_line d.key ∷ map unique_line d.unique) (flat_map expression_lines t.checks)
-    (reads_both (replicate (length d.columns) Column) (Key ∷ replicate (length d.unique) Unique) (map column_line d.columns) (key_line d.key ∷ map unique_line d.unique) columns keys) checks
+    let d = t.table.definition in
+    let h = table_head t.references t.table in
+    let own = map (key_from 0) t.references in
+    let columns = reads_map Column column_line IsColumn (λ c w. fits_of _ c (column_written.again c w)) d.columns v.columns in
+    let uniques = reads_map Unique unique_line AreListed reads_unique d.unique v.uniques in
+    let checks = reads_flat Expression expression_lines IsListedExpr reads_expr t.table.checks v.checks in
+    let keys = reads_both (Key ∷ []) (replicate (length d.unique) Unique) (key_line d.key ∷ []) (map unique_line d.unique) (reads_one Key (key_line d.key) (reads_key d.key v.key)) uniques in
+    reads_line Table (table_line (length own) t.table) (behind_table h) (((map column_line d.columns ++ key_line d.key ∷ map unique_line d.unique) ++ map reference_line own) ++ flat_map expression_lines t.table.checks)
+    (ap (λ n. behind Table (table_line n t.table)) (length_map (key_from 0) t.references) ∙ ap (λ (o : Option TableHead). o >>= λ h. Some (behind_table h)) (table_written.again h v.head)) (
+    reads_both ((replicate (length d.columns) Column ++ Key ∷ replicate (length d.unique) Unique) ++ replicate (length t.references) due.Reference) (replicate (length t.table.checks) Expression)
+    ((map column_line d.columns ++ key_line d.key ∷ map unique_line d.unique) ++ map reference_line own) (flat_map expression_lines t.table.checks)
+    (reads_both (replicate (length d.columns) Column ++ Key ∷ replicate (length d.unique) Unique) (replicate (length t.references) due.Reference) (map column_line d.columns ++ key_line d.key ∷ map unique_line d.unique) (map reference_line own)
+    (reads_both (replicate (length d.columns) Column) (Key ∷ replicate (length d.unique) Unique) (map column_line d.columns) (key_line d.key ∷ map unique_line d.unique) columns keys) (reads_references t.references v.references)) checks
     )
 
 -- ---- queries
@@ -221,8 +242,12 @@ reads_routine r v =
 pub listing_fits : (code : RawCode) → IsListed code → misfit 1 (First ∷ []) (lines_of code) ≡ None
 listing_fits code v =
     let h : ℕ × ℕ = (length code.tables, length code.routines) in
-    let tables = reads_flat Table table_lines IsListedTable reads_table code.tables v.tables in
+    let texts = texts_of code.keys 0 code.tables in
+    let lines = tables_lines code.keys 0 code.tables in
+    let tables : Reads (replicate (length code.tables) Table) lines =
+    subst (λ n. Reads (replicate n Table) lines) (texts_length code.keys 0 code.tables)
+    (subst (Reads (replicate (length texts) Table)) (texts_lines code.keys 0 code.tables) (reads_flat Table text_lines IsListedTable reads_table texts v.tables)) in
     let routines = reads_flat Routine routine_lines IsListedRoutine reads_routine code.routines v.routines in
-    let all = reads_line First (first_line code) (behind_first h) (flat_map table_lines code.tables ++ flat_map routine_lines code.routines) (ap (λ (o : Option (ℕ × ℕ)). o >>= λ c. Some (behind_first c)) (first_written.again h v.counts))
-    (reads_both (replicate (length code.tables) Table) (replicate (length code.routines) Routine) (flat_map table_lines code.tables) (flat_map routine_lines code.routines) tables routines) in
+    let all = reads_line First (first_line code) (behind_first h) (lines ++ flat_map routine_lines code.routines) (ap (λ (o : Option (ℕ × ℕ)). o >>= λ c. Some (behind_first c)) (first_written.again h v.counts))
+    (reads_both (replicate (length code.tables) Table) (replicate (length code.routines) Routine) lines (flat_map routine_lines code.routines) tables routines) in
     ap (misfit 1 (First ∷ [])) (sym (append-nil (lines_of code))) ∙ all 1 [] []

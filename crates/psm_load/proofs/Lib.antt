@@ -15,6 +15,7 @@ pub mod Objects
 pub mod OneThing
 pub mod Sound
 pub mod Spelling
+pub mod TableTexts
 pub mod Texts
 pub mod UnbrokenLines
 pub mod UnbrokenWords

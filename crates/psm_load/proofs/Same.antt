@@ -1,16 +1,17 @@
 -- Parts by what the readers of their lines give are those of a text.
 use Rattle.std.proofs.Common.{◌≡◌, ℕ, zero, suc, ◌<◌, ◌-◌, List, ◌∷◌, map, Option, Some, None, option_map, Result, Ok, Err, refl, sym, ap, ◌∙◌, arith}
 use Rattle.psm_table.specs.declared.definition.Column.{Column}
-use Rattle.psm_code.specs.declared.code.CodeTable.{CodeTable}
 use Rattle.psm_load_line.specs.Forms as forms
-use Rattle.psm_load_line.specs.Forms.{column_at, item_at, key_at, plan_at, table_at, unique_at}
+use Rattle.psm_load_line.specs.Forms.{column_at, item_at, key_at, plan_at, reference_at, table_at, unique_at}
 use Rattle.psm_load_line.specs.Readers.{LineReader}
-use Rattle.psm_load_line.specs.Said.{columns_of, item_head_of, plan_head_of, table_head_of}
+use Rattle.psm_load_line.specs.Said.{columns_of, item_head_of, plan_head_of, reference_of, table_head_of}
 use Rattle.psm_load_line.specs.declared.head.ItemHead.{ItemHead}
+use Rattle.psm_load_line.specs.declared.head.Reference.{Reference}
 use Rattle.psm_load_line.specs.declared.head.TableHead.{TableHead}
 use Rattle.psm_load.specs.Parts.{At, Part, and_then, given, one, times, ◌>>◌}
 use Rattle.psm_load.specs.Read.{item_words, plan_read, says, table_read}
 use Rattle.psm_load.specs.Stated.{expression, items_by, items_of, plan, plan_by, table, table_by}
+use Rattle.psm_load.specs.declared.tables.TableText.{TableText}
 
 abbrev Given : Type 0 → Type 0
 Given A = Result (A × (At × List (List ℕ))) ℕ
@@ -32,14 +33,24 @@ times_says f read (suc n) at ls =
     ∙ sym ((λ i. nested (one read at ls) (λ a. times n (one read) >> λ others. given (a ∷ others)) (λ xs. given (map f xs)) i)
     ∙ (λ i. and_then (one read at ls) (λ a at ls. fused (λ others. a ∷ others) (λ xs. given (map f xs)) (times n (one read) at ls) i)))
 
-abbrev with_checks : TableHead → List Column → List ℕ → List (List ℕ) → Part CodeTable
-with_checks h columns key uniques = times h.checks expression >> λ checks. given (record { definition = record { name = h.name; columns = columns; key = key; unique = uniques }; checks = checks })
+abbrev with_checks : TableHead → List Column → List ℕ → List (List ℕ) → List Reference → Part TableText
+with_checks h columns key uniques references =
+    times h.checks expression >> λ checks. given (record { table = record { definition = record { name = h.name; columns = columns; key = key; unique = uniques }; checks = checks }; references = references })
+
+abbrev with_references : TableHead → List Column → List ℕ → List (List ℕ) → Part TableText
+with_references h columns key uniques = times h.keys (says reference_of reference_at) >> λ references. with_checks h columns key uniques references
 
 table_by_same : (h : forms.TableHead) (at : At) (ls : List (List ℕ)) → table_read (table_head_of h) at ls ≡ table_by h at ls
 table_by_same h at ls =
-    (λ i. and_then (times h.1.0 (one column_at) at ls) (λ columns at ls. fused columns_of (λ key. times h.1.1.0 (says columns_of unique_at) >> λ uniques. with_checks (table_head_of h) columns key uniques) (one key_at at ls) i))
-    ∙ (λ i. and_then (times h.1.0 (one column_at) at ls) (λ columns at ls. and_then (one key_at at ls) (λ key at ls. and_then (times_says columns_of unique_at h.1.1.0 at ls i) (λ uniques. with_checks (table_head_of h) columns (columns_of key) uniques))))
-    ∙ (λ i. and_then (times h.1.0 (one column_at) at ls) (λ columns at ls. and_then (one key_at at ls) (λ key at ls. fused (map columns_of) (λ uniques. with_checks (table_head_of h) columns (columns_of key) uniques) (times h.1.1.0 (one unique_at) at ls) i)))
+    let k : forms.TableHead = h in
+    let f = table_head_of k in
+    (λ i. and_then (times h.1.0 (one column_at) at ls) (λ columns at ls. fused columns_of (λ key. times h.1.1.0 (says columns_of unique_at) >> λ uniques. with_references f columns key uniques) (one key_at at ls) i))
+    ∙ (λ i. and_then (times h.1.0 (one column_at) at ls) (λ columns at ls. and_then (one key_at at ls) (λ key at ls. and_then (times_says columns_of unique_at h.1.1.0 at ls i) (λ uniques. with_references f columns (columns_of key) uniques))))
+    ∙ (λ i. and_then (times h.1.0 (one column_at) at ls) (λ columns at ls. and_then (one key_at at ls) (λ key at ls. fused (map columns_of) (λ uniques. with_references f columns (columns_of key) uniques) (times h.1.1.0 (one unique_at) at ls) i)))
+    ∙ (λ i. and_then (times h.1.0 (one column_at) at ls) (λ columns at ls. and_then (one key_at at ls) (λ key at ls. and_then (times h.1.1.0 (one unique_at) at ls) (λ uniques at ls.
+    and_then (times_says reference_of reference_at h.1.1.1.1 at ls i) (λ references. with_checks f columns (columns_of key) (map columns_of uniques) references)))))
+    ∙ (λ i. and_then (times h.1.0 (one column_at) at ls) (λ columns at ls. and_then (one key_at at ls) (λ key at ls. and_then (times h.1.1.0 (one unique_at) at ls) (λ uniques at ls.
+    fused (map reference_of) (λ references. with_checks f columns (columns_of key) (map columns_of uniques) references) (times h.1.1.1.1 (one reference_at) at ls) i))))
 
 -- a table
 pub table_same : (at : At) (ls : List (List ℕ)) → table at ls ≡ (says table_head_of table_at >> table_read) at ls

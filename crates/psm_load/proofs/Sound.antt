@@ -11,7 +11,7 @@ use Rattle.psm_code.specs.Parts.{line_at}
 use Rattle.psm_code.specs.PlanRules.{cursor_fault, plan_faults, query_faults}
 use Rattle.psm_code.specs.RoutineRules.{are_new, code_faults, context_faults, context_there, declared_fault, first_fault, handler_fault, is_action_line, is_value_well_formed, line_faults, may_undo, parameter_fault, routine_fault, routine_faults, type_fault, value_there, values_in, values_of}
 use Rattle.psm_code.specs.Rules.{each_after, first_of, is_there, unless, where_there}
-use Rattle.psm_code.specs.TableRules.{table_faults}
+use Rattle.psm_code.specs.TableRules.{are_in_turn, table_faults}
 use Rattle.psm_code.proofs.Faults.{Clean, clean_first, clean_head, clean_of, clean_second, clean_tail, four_hold}
 use Rattle.psm_load_line.specs.Heads.{EachIs}
 
@@ -65,4 +65,7 @@ sound_routines code before (r ∷ rs) c =
     (sound_routine code before r (clean_first (routine_faults code before r) others c), sound_routines code (before ++ r ∷ []) rs (clean_second (routine_faults code before r) others c))
 
 pub sound_code : (code : RawCode) → first_fault code ≡ None → EachIs IsSound code.routines
-sound_code code e = sound_routines code [] code.routines (clean_second (each_after table_faults [] code.tables) (each_after (routine_faults code) [] code.routines) (clean_of 1 (code_faults code) e))
+sound_code code e =
+    let tables = each_after (table_faults code.keys) [] code.tables in
+    let routines = each_after (routine_faults code) [] code.routines in
+    sound_routines code [] code.routines (clean_second tables routines (clean_tail (unless (are_in_turn 0 (length code.tables) code.keys) Definition) (tables ++ routines) (clean_of 1 (code_faults code) e)))

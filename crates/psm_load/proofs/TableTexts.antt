@@ -1,13 +1,16 @@
 -- Tables with their FOREIGN KEY constraints: these are kept in one list, in the order of the tables that refer.
-use Rattle.std.proofs.Common.{◌≡◌, ◌<◌, ◌≤◌, ℕ, zero, suc, ◌+◌, Bool, true, false, ◌&&◌, nat_eq, nat_le, nat_lt, List, [], ◌∷◌, ◌++◌, cond, drop, length, map, take, Result, Ok, Err, refl, ap, ap₂, sym, ◌∙◌, append_assoc, arith, eqb-false, eqb-true, inl, inr, le-leb, leb-true, length-append, ltb-true, lt-ltb, ne_eqb}
-use Rattle.std.proofs.lemmas.Bool.{cases_lt, eq-eqb}
+use Rattle.std.proofs.Common.{◌≡◌, ◌<◌, ◌≤◌, ℕ, zero, suc, ◌+◌, Bool, true, false, ◌&&◌, nat_eq, nat_le, nat_lt, List, [], ◌∷◌, ◌++◌, cond, drop, length, map, take, Result, Ok, Err, refl, ap, ap₂, sym, ◌∙◌, append_assoc, arith, inl, inr, length-append}
+use Rattle.std.specs.List.{flat_map}
+use Rattle.std.proofs.lemmas.Bool.{cases_lt, eq-eqb, eqb-false, eqb-true, le-leb, leb-true, lt-ltb, ltb-true, ne_eqb}
 use Rattle.std.proofs.lemmas.List.{append-nil, map-append, take-append-drop}
 use Rattle.std.proofs.lemmas.List.Elements.{filter-append}
 use Rattle.psm_num.proofs.Literals.{and_first, and_second}
 use Rattle.psm_table.specs.declared.definition.ForeignKey.{ForeignKey}
 use Rattle.psm_code.specs.declared.code.CodeTable.{CodeTable}
 use Rattle.psm_code.specs.TableRules.{are_in_turn, keys_from}
+use Rattle.psm_object.specs.Expressions.{expression_lines}
 use Rattle.psm_object.specs.OwnKeys.{ascend, count_at_front}
+use Rattle.psm_object.specs.Tables.{column_line, key_line, reference_line, table_line, table_lines, tables_lines, unique_line}
 use Rattle.psm_object.proofs.OwnKeys.{others_are, own_is}
 use Rattle.psm_load_line.specs.Said.{key_from}
 use Rattle.psm_load_line.specs.declared.head.Reference.{Reference}
@@ -68,6 +71,29 @@ tables_again keys n (t ∷ ts) = ap (λ us. t ∷ us) (tables_again keys (suc n)
 pub texts_length : (keys : List ForeignKey) (n : ℕ) (ts : List CodeTable) → length (texts_of keys n ts) ≡ length ts
 texts_length keys n [] = refl
 texts_length keys n (t ∷ ts) = ap suc (texts_length keys (suc n) ts)
+
+-- ---- their lines
+
+-- which table refers is told by the place of a line
+abbrev pub text_lines : TableText → List (List ℕ)
+text_lines t = table_lines (map (key_from 0) t.references) t.table
+
+lines_same : (own : List ForeignKey) → map reference_line (map (key_from 0) (map reference_in own)) ≡ map reference_line own
+lines_same [] = refl
+lines_same (key ∷ own) = ap (λ ls. reference_line key ∷ ls) (lines_same own)
+
+count_same : (own : List ForeignKey) → length (map (key_from 0) (map reference_in own)) ≡ length own
+count_same [] = refl
+count_same (key ∷ own) = ap suc (count_same own)
+
+pub own_lines : (own : List ForeignKey) (t : CodeTable) → text_lines (record { table = t; references = map reference_in own }) ≡ table_lines own t
+own_lines own t =
+    let d = t.definition in
+    ap₂ (λ n ls. table_line n t ∷ map column_line d.columns ++ key_line d.key ∷ map unique_line d.unique ++ ls ++ flat_map expression_lines t.checks) (count_same own) (lines_same own)
+
+pub texts_lines : (keys : List ForeignKey) (n : ℕ) (ts : List CodeTable) → flat_map text_lines (texts_of keys n ts) ≡ tables_lines keys n ts
+texts_lines keys n [] = refl
+texts_lines keys n (t ∷ ts) = ap₂ (λ a b. a ++ b) (own_lines (keys_from keys n) t) (texts_lines keys (suc n) ts)
 
 -- ---- the constraints stand in turn
 

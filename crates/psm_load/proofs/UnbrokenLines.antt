@@ -32,7 +32,6 @@ use Rattle.psm_exprcode.specs.declared.op.Op.TheVariants as op
 use Rattle.psm_exprcode.specs.declared.query.Query.{Query}
 use Rattle.psm_exprcode.specs.declared.set_item.SetItem.{SetItem}
 use Rattle.psm_code.specs.declared.code.CodeCursor.{CodeCursor}
-use Rattle.psm_code.specs.declared.code.CodeTable.{CodeTable}
 use Rattle.psm_code.specs.declared.code.Parameter.{Parameter}
 use Rattle.psm_code.specs.declared.code.ParameterMode.{ParameterMode}
 use Rattle.psm_code.specs.declared.code.ParameterMode.TheVariants.{In, Out, InOut}
@@ -51,13 +50,17 @@ use Rattle.psm_object.specs.Listing.{lines_of}
 use Rattle.psm_object.specs.Plans.{plan_lines, set_lines}
 use Rattle.psm_object.specs.Queries.{aggregate_lines, cursor_line, direction_word, function_lines, function_word, item_lines, items_count, items_lines, query_line, query_lines, sensitivity_word, updatability_word}
 use Rattle.psm_object.specs.Routines.{access_lines, control_counts, data_counts, handling_lines, mode_word, parameter_line, result_word, routine_kind_word, routine_line, routine_lines, slot_line, variable_lines}
-use Rattle.psm_object.specs.Tables.{column_line, key_line, table_line, table_lines, unique_line}
+use Rattle.psm_object.specs.Tables.{column_line, key_line, reference_line, referred_words, table_line, tables_lines, unique_line}
 use Rattle.psm_object.specs.Words.{count, flag, numbers, spaced}
 use Rattle.psm_load_line.specs.Heads.{EachIs, IfThere, IsCodeLine, IsColumn, IsContext, IsContextKind, IsCursor, IsIndex, IsInstruction, IsOperation, IsParameter}
-use Rattle.psm_load.specs.Listed.{AreListed, AreListedItems, AreListedSets, IsListed, IsListedCondition, IsListedExpr, IsListedHandler, IsListedPlan, IsListedQuery, IsListedRoutine, IsListedSet, IsListedTable, IsListedTest, IsListedValue, item_count}
+use Rattle.psm_load.specs.Listed.{AreListed, AreListedItems, AreListedSets, IsListed, IsListedCondition, IsListedExpr, IsListedHandler, IsListedPlan, IsListedQuery, IsListedReference, IsListedRoutine, IsListedSet, IsListedTable, IsListedTest, IsListedValue, item_count, texts_of}
 use Rattle.psm_load.proofs.Following.{Lines}
 use Rattle.psm_load.proofs.UnbrokenWords.{IsLine, Unbroken, each_map, line_of_words, line_unbroken, number_line, stack_line, unbroken_both, unbroken_datum, unbroken_flag, unbroken_name, unbroken_number, unbroken_state, unbroken_type}
-use Rattle.psm_load.proofs.WrittenParts.{count_is}
+use Rattle.psm_load_line.specs.Said.{key_from}
+use Rattle.psm_load_line.specs.declared.head.Reference.{Reference}
+use Rattle.psm_load.specs.declared.tables.TableText.{TableText}
+use Rattle.psm_load.proofs.TableTexts.{text_lines, texts_lines}
+use Rattle.psm_load.proofs.WrittenParts.{count_is, length_map}
 
 abbrev AreLines : Lines → Type 0
 AreLines ls = EachIs IsLine ls
@@ -116,17 +119,36 @@ columns_unbroken : (ns : List ℕ) → AreListed ns → EachIs Unbroken (numbers
 columns_unbroken [] v = absurd v
 columns_unbroken (n ∷ ns) v = unbroken_numbers (n ∷ ns) v
 
-table_are_lines : (t : CodeTable) → IsListedTable t → AreLines (table_lines t)
+each_word : (a b : List (List ℕ)) → EachIs Unbroken a → EachIs Unbroken b → EachIs Unbroken (a ++ b)
+each_word [] b h k = k
+each_word (w ∷ a) b h k = (h.0, each_word a b h.1 k)
+
+reference_is_line : (r : Reference) → IsListedReference r → IsLine (reference_line (key_from 0 r))
+reference_is_line r v =
+    line_of_words (codes "REF") (numbers r.columns ++ referred_words (key_from 0 r)) refl
+    (each_word (numbers r.columns) (referred_words (key_from 0 r)) (columns_unbroken r.columns v.0) (refl, (unbroken_number r.to v.1.0, columns_unbroken r.target v.1.1)))
+
+references_are_lines : (rs : List Reference) → EachIs IsListedReference rs → AreLines (map reference_line (map (key_from 0) rs))
+references_are_lines [] v = tt
+references_are_lines (r ∷ rs) v = (reference_is_line r v.0, references_are_lines rs v.1)
+
+table_are_lines : (t : TableText) → IsListedTable t → AreLines (text_lines t)
 table_are_lines t v =
-    let d = t.definition in
-    let counts = v.0.1 in
-    let first : IsLine (table_line t) = line_of_words (codes "TABLE") (quoted d.name ∷ count d.columns ∷ count d.unique ∷ count t.checks ∷ []) refl (unbroken_name d.name v.0.0, (unbroken_number (length d.columns) counts.0, (unbroken_number (length d.unique) counts.1.0, (unbroken_number (length t.checks) counts.1.1, tt)))) in
-    let key : IsLine (key_line d.key) = line_of_words (codes "KEY") (numbers d.key) refl (columns_unbroken d.key v.2) in
-    let uniques = each_map IsLine unique_line (λ ns w. line_of_words (codes "UNI") (numbers ns) refl (columns_unbroken ns w)) d.unique v.3 in (
+    let d = t.table.definition in
+    let own = map (key_from 0) t.references in
+    let counts = v.head.1 in
+    let keys : IsIndex (length own) = subst IsIndex (sym (length_map (key_from 0) t.references)) counts.1.1.1 in
+    let first : IsLine (table_line (length own) t.table) = line_of_words (codes "TABLE") (quoted d.name ∷ count d.columns ∷ count d.unique ∷ count t.table.checks ∷ number (length own) ∷ []) refl
+    (unbroken_name d.name v.head.0, (unbroken_number (length d.columns) counts.0, (unbroken_number (length d.unique) counts.1.0, (unbroken_number (length t.table.checks) counts.1.1.0, (unbroken_number (length own) keys, tt))))) in
+    let key : IsLine (key_line d.key) = line_of_words (codes "KEY") (numbers d.key) refl (columns_unbroken d.key v.key) in
+    let uniques = each_map IsLine unique_line (λ ns w. line_of_words (codes "UNI") (numbers ns) refl (columns_unbroken ns w)) d.unique v.uniques in
+    let front = map column_line d.columns ++ key_line d.key ∷ map unique_line d.unique in (
       first,
-      each_both (map column_line d.columns ++ key_line d.key ∷ map unique_line d.unique) (flat_map expression_lines t.checks)
-          (each_both (map column_line d.columns) (key_line d.key ∷ map unique_line d.unique) (each_map IsLine column_line column_is_line d.columns v.1) (key, uniques))
-          (each_flat expression_lines expression_are_lines t.checks v.4),
+      each_both (front ++ map reference_line own) (flat_map expression_lines t.table.checks)
+          (each_both front (map reference_line own)
+          (each_both (map column_line d.columns) (key_line d.key ∷ map unique_line d.unique) (each_map IsLine column_line column_is_line d.columns v.columns) (key, uniques))
+          (references_are_lines t.references v.references))
+          (each_flat expression_lines expression_are_lines t.table.checks v.checks),
     )
 
 -- ---- queries and cursors
@@ -342,6 +364,7 @@ routine_are_lines r v =
 
 pub code_are_lines : (code : RawCode) → IsListed code → EachIs IsLine (lines_of code)
 code_are_lines code v = (
-  line_of_words (codes "PSM") (codes "2" ∷ count code.tables ∷ count code.routines ∷ []) refl (refl, (unbroken_number (length code.tables) v.counts.0, (unbroken_number (length code.routines) v.counts.1, tt))),
-  each_both (flat_map table_lines code.tables) (flat_map routine_lines code.routines) (each_flat table_lines table_are_lines code.tables v.tables) (each_flat routine_lines routine_are_lines code.routines v.routines),
+  line_of_words (codes "PSM") (codes "3" ∷ count code.tables ∷ count code.routines ∷ []) refl (refl, (unbroken_number (length code.tables) v.counts.0, (unbroken_number (length code.routines) v.counts.1, tt))),
+  each_both (tables_lines code.keys 0 code.tables) (flat_map routine_lines code.routines)
+      (subst AreLines (texts_lines code.keys 0 code.tables) (each_flat text_lines table_are_lines (texts_of code.keys 0 code.tables) v.tables)) (each_flat routine_lines routine_are_lines code.routines v.routines),
 )

@@ -12,6 +12,7 @@ use Rattle.psm_code.specs.declared.code.Plan.{Plan}
 use Rattle.psm_code.specs.declared.code.RawCode.{RawCode}
 use Rattle.psm_code.specs.declared.code.RawRoutine.{RawRoutine}
 use Rattle.psm_code.specs.RoutineRules.{declared_fault, first_fault}
+use Rattle.psm_code.specs.TableRules.{are_in_turn}
 use Rattle.psm_words.specs.Words.{FitsType}
 use Rattle.psm_object.specs.Handlers.{condition_line, context_line, handler_line}
 use Rattle.psm_object.specs.Instructions.{code_line}
@@ -19,7 +20,7 @@ use Rattle.psm_object.specs.Listing.{lines_of}
 use Rattle.psm_object.specs.Plans.{plan_lines}
 use Rattle.psm_object.specs.Queries.{cursor_line, query_lines}
 use Rattle.psm_object.specs.Routines.{access_lines, handling_lines, parameter_line, routine_line, routine_lines, slot_line, variable_lines}
-use Rattle.psm_object.specs.Tables.{table_lines}
+use Rattle.psm_object.specs.Tables.{tables_lines}
 use Rattle.psm_load_line.specs.Forms.{HandlerHead}
 use Rattle.psm_load_line.specs.Heads.{ConditionHead, EachIs, IsCodeLine, IsConditionHead, IsContext, IsCursor, IsHandlerHead, IsParameter, IsRoutineHead, condition_head_line, first_head_line, handler_head_line, routine_head_line}
 use Rattle.psm_load_line.specs.RoutineForms.{ControlCounts, DataCounts, RoutineHead}
@@ -27,13 +28,15 @@ use Rattle.psm_load_line.specs.Said.{declared_of, handler_of}
 use Rattle.psm_load_line.proofs.Forms.{AreTwo, handler_written}
 use Rattle.psm_load_line.proofs.Instructions.{code_line_written}
 use Rattle.psm_load_line.proofs.OtherForms.{condition_written, context_written, cursor_written, first_written, parameter_written, routine_written, slot_written}
-use Rattle.psm_load.specs.Listed.{IsListed, IsListedCondition, IsListedHandler, IsListedPlan, IsListedQuery, IsListedRoutine, IsListedTable, routine_head}
-use Rattle.psm_load.specs.Stated.{access_by, code, condition, handler, handling_by, routine, routine_of, variables_by}
+use Rattle.psm_load.specs.Listed.{IsListed, IsListedCondition, IsListedHandler, IsListedPlan, IsListedQuery, IsListedRoutine, IsListedTable, routine_head, texts_of}
+use Rattle.psm_load.specs.Stated.{access_by, code, condition, handler, handling_by, keys_of, routine, routine_of, tables_of, variables_by}
+use Rattle.psm_load.specs.declared.tables.TableText.{TableText}
 use Rattle.psm_load.proofs.Conditions.{condition_again, condition_fits, condition_head, condition_line_is, condition_said, handler_again, handler_fits, handler_head, handler_line_is, handler_said}
 use Rattle.psm_load.proofs.DueLines.{head_is}
 use Rattle.psm_load.proofs.Following.{Lines}
 use Rattle.psm_load.proofs.Sound.{HasValues, IsSound, sound_code}
 use Rattle.psm_load.proofs.Spelling.{Several, Spells, Valid, spells_as, spells_flat, spells_made, spells_map, spells_one, spells_then, spells_times}
+use Rattle.psm_load.proofs.TableTexts.{keys_again, tables_again, text_lines, texts_again, texts_length, texts_lines, turn_again}
 use Rattle.psm_load.proofs.WrittenParts.{length_map, spells_plan, spells_query, spells_table}
 
 -- ---- conditions and handlers, by what their lines say
@@ -224,13 +227,13 @@ abbrev pub Codes : Type 0
 Codes = (h : (c : ℕ × ℕ) × AreTwo c) × (Valid IsListedTable h.0.0 × Several Routines h.0.1)
 
 abbrev pub code_of : Codes → RawCode
-code_of t = record { tables = t.1.0.0; keys = []; routines = map routine_by_trace t.1.1.0 }
+code_of t = record { tables = tables_of t.1.0.0; keys = keys_of 0 t.1.0.0; routines = map routine_by_trace t.1.1.0 }
 
 abbrev pub code_says : Codes → Lines
-code_says t = first_head_line t.0.0 ∷ (flat_map table_lines t.1.0.0 ++ flat_map routine_says t.1.1.0)
+code_says t = first_head_line t.0.0 ∷ (flat_map text_lines t.1.0.0 ++ flat_map routine_says t.1.1.0)
 
 pub spells_code : Spells Codes code_of code_says code
-spells_code = spells_then (spells_one first_written) (λ c. spells_then (spells_flat table_lines c.0 spells_table) (λ ts. spells_made _ (spells_times routine_by_trace routine_says c.1 spells_routine)))
+spells_code = spells_then (spells_one first_written) (λ c. spells_then (spells_made (λ ts. (tables_of ts, keys_of 0 ts)) (spells_flat text_lines c.0 spells_table)) (λ ts. spells_made _ (spells_times routine_by_trace routine_says c.1 spells_routine)))
 
 routines_said : (ts : List Routines) → EachIs IsSound (map routine_by_trace ts) → (flat_map routine_says ts ≡ flat_map routine_lines (map routine_by_trace ts)) × EachIs IsListedRoutine (map routine_by_trace ts)
 routines_said [] s = (refl, tt)
@@ -249,15 +252,27 @@ routines_again (r ∷ rs) v =
 pub code_said : (t : Codes) → first_fault (code_of t) ≡ None → (code_says t ≡ lines_of (code_of t)) × IsListed (code_of t)
 code_said t e =
     let routines = routines_said t.1.1.0 (sound_code (code_of t) e) in
-    let counts : (length t.1.0.0, length (map routine_by_trace t.1.1.0)) ≡ t.0.0 = ap₂ paired t.1.0.1 (length_map routine_by_trace t.1.1.0 ∙ t.1.1.1) in (
-      ap₂ (λ h ls. first_head_line h ∷ (flat_map table_lines t.1.0.0 ++ ls)) (sym counts) routines.0,
-      record { counts = subst AreTwo (sym counts) t.0.1; tables = t.1.0.2; routines = routines.1 },
+    let texts = t.1.0.0 in
+    let long : length (tables_of texts) ≡ length texts = length_map (λ (x : TableText). x.table) texts in
+    let counts : (length (tables_of texts), length (map routine_by_trace t.1.1.0)) ≡ t.0.0 = ap₂ paired (long ∙ t.1.0.1) (length_map routine_by_trace t.1.1.0 ∙ t.1.1.1) in
+    let tables : flat_map text_lines texts ≡ tables_lines (keys_of 0 texts) 0 (tables_of texts) = ap (flat_map text_lines) (sym (texts_again 0 texts)) ∙ texts_lines (keys_of 0 texts) 0 (tables_of texts) in (
+      (λ i. first_head_line (sym counts i) ∷ (tables i ++ routines.0 i)),
+      record {
+        counts = subst AreTwo (sym counts) t.0.1;
+        in_turn = ap (λ n. are_in_turn 0 n (keys_of 0 texts)) long ∙ turn_again texts;
+        tables = subst (EachIs IsListedTable) (sym (texts_again 0 texts)) t.1.0.2;
+        routines = routines.1;
+      },
     )
 
 pub code_again : (code : RawCode) → IsListed code → (t : Codes) × (code ≡ code_of t) × (lines_of code ≡ code_says t)
 code_again code v =
-    let routines = routines_again code.routines v.routines in (
-      (((length code.tables, length code.routines), v.counts), ((code.tables, refl, v.tables), (routines.0, routines.1))),
-      ap (λ rs. record code { routines = rs }) routines.2,
-      ap (λ ls. first_head_line (length code.tables, length code.routines) ∷ (flat_map table_lines code.tables ++ ls)) routines.3,
+    let routines = routines_again code.routines v.routines in
+    let texts = texts_of code.keys 0 code.tables in
+    let tables : code.tables ≡ tables_of texts = sym (tables_again code.keys 0 code.tables) in
+    let keys : code.keys ≡ keys_of 0 texts = sym (keys_again code.keys code.tables v.in_turn) in
+    let lines : tables_lines code.keys 0 code.tables ≡ flat_map text_lines texts = sym (texts_lines code.keys 0 code.tables) in (
+      (((length code.tables, length code.routines), v.counts), ((texts, texts_length code.keys 0 code.tables, v.tables), (routines.0, routines.1))),
+      (λ i. record { tables = tables i; keys = keys i; routines = routines.2 i }),
+      ap₂ (λ ts ls. first_head_line (length code.tables, length code.routines) ∷ (ts ++ ls)) lines routines.3,
     )

@@ -12,7 +12,6 @@ use Rattle.psm_exprcode.specs.declared.op.Letter.{Letter}
 use Rattle.psm_exprcode.specs.declared.op.Line.{Line}
 use Rattle.psm_exprcode.specs.declared.query.Query.{Query}
 use Rattle.psm_exprcode.specs.declared.set_item.SetItem.{SetItem}
-use Rattle.psm_code.specs.declared.code.CodeTable.{CodeTable}
 use Rattle.psm_code.specs.declared.code.Plan.{Plan}
 use Rattle.psm_code.specs.declared.code.Plan.TheVariants as plans
 use Rattle.psm_code.specs.declared.instruction.Instruction.{Instruction}
@@ -22,18 +21,21 @@ use Rattle.psm_object.specs.Expressions.{expression_lines, operation_line, test_
 use Rattle.psm_object.specs.Instructions.{details, mnemonic}
 use Rattle.psm_object.specs.Plans.{plan_lines, set_lines}
 use Rattle.psm_object.specs.Queries.{aggregate_lines, direction_word, item_lines, items_count, items_lines, query_line, query_lines}
-use Rattle.psm_object.specs.Tables.{column_line, key_line, table_lines, unique_line}
+use Rattle.psm_object.specs.Tables.{column_line, key_line, reference_line, unique_line}
 use Rattle.psm_object.specs.Words.{flag, spaced}
-use Rattle.psm_load_line.specs.Forms.{ItemHead, PlanHead, QueryHead, TableHead, Delete, DeleteAt, Function, Insert, InsertQuery, Rows, Update, UpdateAt, Value}
-use Rattle.psm_load_line.specs.Heads.{AreColumns, EachIs, IsColumn, IsIndex, IsInstruction, IsOperation, IsPlanHead, IsQueryHead, IsTableHead, expression_head_line, item_head_line, plan_head_line, query_head_line, table_head, table_head_line}
-use Rattle.psm_load_line.specs.Said.{columns_of}
+use Rattle.psm_load_line.specs.Forms.{ItemHead, PlanHead, QueryHead, ReferenceWords, TableHead, Delete, DeleteAt, Function, Insert, InsertQuery, Rows, Update, UpdateAt, Value}
+use Rattle.psm_load_line.specs.Heads.{AreColumns, AreReferenceWords, EachIs, IsColumn, IsIndex, IsInstruction, IsOperation, IsPlanHead, IsQueryHead, IsTableHead, expression_head_line, item_head_line, plan_head_line, query_head_line, table_head, table_head_line}
+use Rattle.psm_load_line.specs.Said.{columns_of, key_from, reference_of}
+use Rattle.psm_load_line.specs.declared.head.Reference.{Reference}
 use Rattle.psm_load_line.proofs.Forms.{expression_written, plan_written, table_written}
 use Rattle.psm_load_line.proofs.Instructions.{operation_line_written}
-use Rattle.psm_load_line.proofs.OtherForms.{column_written, item_written, key_written, query_written, set_written, unique_written}
-use Rattle.psm_load.specs.Listed.{AreListed, AreListedItems, IsListedExpr, IsListedPlan, IsListedQuery, IsListedSet, IsListedTable, IsListedTest, item_count, query_head}
+use Rattle.psm_load_line.proofs.OtherForms.{column_written, item_written, key_written, query_written, reference_written, set_written, unique_written}
+use Rattle.psm_load.specs.Listed.{AreListed, AreListedItems, IsListedExpr, IsListedPlan, IsListedQuery, IsListedReference, IsListedSet, IsListedTable, IsListedTest, item_count, query_head}
 use Rattle.psm_load.specs.Parts.{if_there}
 use Rattle.psm_load.specs.Stated.{breaks_place, breaks_rows, breaks_sets, expression, items_by, items_of, more_rows, more_sets, op_of, operation, plan, plan_by, query, set_item, set_of_item, table, value_of_item}
+use Rattle.psm_load.specs.declared.tables.TableText.{TableText}
 use Rattle.psm_load.proofs.Following.{Lines}
+use Rattle.psm_load.proofs.TableTexts.{text_lines}
 use Rattle.psm_load.proofs.Spelling.{Spells, Valid, spells_as, spells_flat, spells_given, spells_line, spells_made, spells_map, spells_one, spells_then}
 
 pub length_map : {A B : Type 0} (f : A → B) (xs : List A) → length (map f xs) ≡ length xs
@@ -95,59 +97,116 @@ lists_are : (xs : List (ℕ × List ℕ)) → map (λ (x : ℕ × List ℕ). uni
 lists_are [] = refl
 lists_are (x ∷ xs) = ap (λ ls. unique_line (x.0 ∷ x.1) ∷ ls) (lists_are xs)
 
-abbrev table_with : List ℕ → List Column → List ℕ → List (List ℕ) → List (List Line) → CodeTable
-table_with name columns key unique checks = record { definition = record { name = name; columns = columns; key = key; unique = unique }; checks = checks }
+-- FOREIGN KEY constraints
+pub reference_said : (r : Reference) → IsListedReference r → (x : (x : ReferenceWords) × AreReferenceWords x) × (r ≡ reference_of x.0)
+reference_said r v =
+    let own = columns_said r.columns v.0 in
+    let target = columns_said r.target v.1.1 in
+    (((own.0.0, (r.to, target.0.0)), (own.0.1, (v.1.0, target.0.1))), ap₂ (λ (a : List ℕ) (b : List ℕ). record { columns = a; to = r.to; target = b }) own.1 target.1)
 
-abbrev head_with : List ℕ → ℕ → ℕ → ℕ → TableHead
-head_with name columns uniques checks = (name, (columns, (uniques, checks)))
+abbrev References : List Reference → Type 0
+References rs = (xs : List ReferenceWords) × (length xs ≡ length rs) × EachIs AreReferenceWords xs × (rs ≡ map reference_of xs)
 
-table_head_is : (h : TableHead) (columns uniques checks : ℕ) → columns ≡ h.1.0 → uniques ≡ h.1.1.0 → checks ≡ h.1.1.1 → head_with h.0 columns uniques checks ≡ h
-table_head_is h columns uniques checks e f g = ap (λ n. head_with h.0 n uniques checks) e ∙ ap (λ n. head_with h.0 h.1.0 n checks) f ∙ ap (λ n. head_with h.0 h.1.0 h.1.1.0 n) g
+references_said : (rs : List Reference) → EachIs IsListedReference rs → References rs
+references_said [] v = ([], refl, tt, refl)
+references_said (r ∷ rs) v =
+    let first = reference_said r v.0 in
+    let others = references_said rs v.1 in
+    (first.0.0 ∷ others.0, ap suc others.1, (first.0.1, others.2), ap₂ (λ m ms. m ∷ ms) first.1 others.3)
+
+references_listed : (xs : List ReferenceWords) → EachIs AreReferenceWords xs → EachIs IsListedReference (map reference_of xs)
+references_listed [] v = tt
+references_listed (x ∷ xs) v = (v.0, references_listed xs v.1)
+
+abbrev reference_says : ReferenceWords → List ℕ
+reference_says x = reference_line (key_from 0 (reference_of x))
+
+references_are : (xs : List ReferenceWords) → map reference_says xs ≡ map reference_line (map (key_from 0) (map reference_of xs))
+references_are [] = refl
+references_are (x ∷ xs) = ap (λ ls. reference_says x ∷ ls) (references_are xs)
+
+abbrev table_with : List ℕ → List Column → List ℕ → List (List ℕ) → List Reference → List (List Line) → TableText
+table_with name columns key unique references checks = record { table = record { definition = record { name = name; columns = columns; key = key; unique = unique }; checks = checks }; references = references }
+
+abbrev head_with : List ℕ → ℕ → ℕ → ℕ → ℕ → TableHead
+head_with name columns uniques checks keys = (name, (columns, (uniques, (checks, keys))))
+
+table_head_is : (h : TableHead) (columns uniques checks keys : ℕ) → columns ≡ h.1.0 → uniques ≡ h.1.1.0 → checks ≡ h.1.1.1.0 → keys ≡ h.1.1.1.1 → head_with h.0 columns uniques checks keys ≡ h
+table_head_is h columns uniques checks keys e f g k = λ i. head_with h.0 (e i) (f i) (g i) (k i)
 
 -- the lines of a table, where each list of columns has one
-table_lines_are : (name : List ℕ) (columns : List Column) (key : ℕ × List ℕ) (uniques : List (ℕ × List ℕ)) (checks : List (List Line))
-    → table_head_line (name, (length columns, (length (map columns_of uniques), length checks)))
-    ∷ (map column_line columns ++ (key_line (key.0 ∷ key.1) ∷ (map (λ (x : ℕ × List ℕ). unique_line (x.0 ∷ x.1)) uniques ++ flat_map expression_lines checks)))
-    ≡ table_lines (table_with name columns (columns_of key) (map columns_of uniques) checks)
-table_lines_are name columns key uniques checks =
-    let first = table_head_line (name, (length columns, (length (map columns_of uniques), length checks))) in
-    let rest = flat_map expression_lines checks in
-    ap (λ ls. first ∷ (map column_line columns ++ (key_line (key.0 ∷ key.1) ∷ (ls ++ rest)))) (lists_are uniques)
-    ∙ ap (λ ls. first ∷ ls) (sym (append_assoc (map column_line columns) (key_line (key.0 ∷ key.1) ∷ map unique_line (map columns_of uniques)) rest))
+table_lines_are : (name : List ℕ) (columns : List Column) (key : ℕ × List ℕ) (uniques : List (ℕ × List ℕ)) (references : List ReferenceWords) (checks : List (List Line))
+    → table_head_line (name, (length columns, (length (map columns_of uniques), (length checks, length (map reference_of references)))))
+    ∷ (map column_line columns ++ (key_line (key.0 ∷ key.1) ∷ (map (λ (x : ℕ × List ℕ). unique_line (x.0 ∷ x.1)) uniques ++ (map reference_says references ++ flat_map expression_lines checks))))
+    ≡ text_lines (table_with name columns (columns_of key) (map columns_of uniques) (map reference_of references) checks)
+table_lines_are name columns key uniques references checks =
+    let head : ℕ → List ℕ = λ keys. table_head_line (name, (length columns, (length (map columns_of uniques), (length checks, keys)))) in
+    let front : List (List ℕ) = map column_line columns in
+    let keys : List (List ℕ) = key_line (key.0 ∷ key.1) ∷ map unique_line (map columns_of uniques) in
+    let own : List (List ℕ) = map reference_line (map (key_from 0) (map reference_of references)) in
+    let rest : List (List ℕ) = flat_map expression_lines checks in
+    let long : length (map reference_of references) ≡ length (map (key_from 0) (map reference_of references)) = sym (length_map (key_from 0) (map reference_of references)) in
+    ap₂ (λ us rs. head (length (map reference_of references)) ∷ (front ++ (key_line (key.0 ∷ key.1) ∷ (us ++ (rs ++ rest))))) (lists_are uniques) (references_are references)
+    ∙ ap₂ (λ n ls. head n ∷ ls) long (sym (append_assoc front keys (own ++ rest)) ∙ sym (append_assoc (front ++ keys) own rest))
 
 abbrev TableTrace : Type 0
-TableTrace = (h : (h : TableHead) × IsTableHead h) × (Valid IsColumn h.0.1.0 × (((x : ℕ × List ℕ) × AreColumns x) × (Valid AreColumns h.0.1.1.0 × Valid IsListedExpr h.0.1.1.1)))
+TableTrace = (h : (h : TableHead) × IsTableHead h)
+    × (Valid IsColumn h.0.1.0 × (((x : ℕ × List ℕ) × AreColumns x) × (Valid AreColumns h.0.1.1.0 × (Valid AreReferenceWords h.0.1.1.1.1 × Valid IsListedExpr h.0.1.1.1.0))))
 
-abbrev table_of : TableTrace → CodeTable
-table_of t = table_with t.0.0.0 t.1.0.0 (columns_of t.1.1.0.0) (map columns_of t.1.1.1.0.0) t.1.1.1.1.0
+abbrev table_of : TableTrace → TableText
+table_of t = table_with t.0.0.0 t.1.0.0 (columns_of t.1.1.0.0) (map columns_of t.1.1.1.0.0) (map reference_of t.1.1.1.1.0.0) t.1.1.1.1.1.0
 
 abbrev table_said : TableHead → TableTrace → Lines
-table_said h t = table_head_line h ∷ (map column_line t.1.0.0 ++ (key_line (t.1.1.0.0.0 ∷ t.1.1.0.0.1) ∷ (map (λ (x : ℕ × List ℕ). unique_line (x.0 ∷ x.1)) t.1.1.1.0.0 ++ flat_map expression_lines t.1.1.1.1.0)))
+table_said h t =
+    table_head_line h
+    ∷ (map column_line t.1.0.0 ++ (key_line (t.1.1.0.0.0 ∷ t.1.1.0.0.1) ∷ (map (λ (x : ℕ × List ℕ). unique_line (x.0 ∷ x.1)) t.1.1.1.0.0 ++ (map reference_says t.1.1.1.1.0.0 ++ flat_map expression_lines t.1.1.1.1.1.0))))
 
-table_counts : (t : TableTrace) → table_head (table_of t) ≡ t.0.0
-table_counts t = table_head_is t.0.0 (length t.1.0.0) (length (map columns_of t.1.1.1.0.0)) (length t.1.1.1.1.0) t.1.0.1 (length_map columns_of t.1.1.1.0.0 ∙ t.1.1.1.0.1) t.1.1.1.1.1
+table_counts : (t : TableTrace) → table_head (table_of t).references (table_of t).table ≡ t.0.0
+table_counts t =
+    table_head_is t.0.0 (length t.1.0.0) (length (map columns_of t.1.1.1.0.0)) (length t.1.1.1.1.1.0) (length (map reference_of t.1.1.1.1.0.0))
+    t.1.0.1 (length_map columns_of t.1.1.1.0.0 ∙ t.1.1.1.0.1) t.1.1.1.1.1.1 (length_map reference_of t.1.1.1.1.0.0 ∙ t.1.1.1.1.0.1)
 
-table_spelled : (t : TableTrace) → table_said t.0.0 t ≡ table_lines (table_of t)
-table_spelled t = ap (λ h. table_said h t) (sym (table_counts t)) ∙ table_lines_are t.0.0.0 t.1.0.0 t.1.1.0.0 t.1.1.1.0.0 t.1.1.1.1.0
+table_spelled : (t : TableTrace) → table_said t.0.0 t ≡ text_lines (table_of t)
+table_spelled t = ap (λ h. table_said h t) (sym (table_counts t)) ∙ table_lines_are t.0.0.0 t.1.0.0 t.1.1.0.0 t.1.1.1.0.0 t.1.1.1.1.0.0 t.1.1.1.1.1.0
 
-pub spells_table : Spells ((t : CodeTable) × IsListedTable t) (λ t. t.0) (λ t. table_lines t.0) table
+pub spells_table : Spells ((t : TableText) × IsListedTable t) (λ t. t.0) (λ t. text_lines t.0) table
 spells_table = spells_as there back (
     spells_then (spells_one table_written) (λ h.
     spells_then (spells_map column_line h.1.0 (spells_one column_written)) (λ columns.
     spells_then (spells_one key_written) (λ key.
     spells_then (spells_map (λ (x : ℕ × List ℕ). unique_line (x.0 ∷ x.1)) h.1.1.0 (spells_one unique_written)) (λ uniques.
-    spells_made _ (spells_flat expression_lines h.1.1.1 spells_expression)))))) where
-      there : (t : TableTrace) → (u : (t : CodeTable) × IsListedTable t) × (table_of t ≡ u.0) × (table_said t.0.0 t ≡ table_lines u.0)
-      there t = ((table_of t, (subst IsTableHead (sym (table_counts t)) t.0.1, t.1.0.2, t.1.1.0.1, lists_listed t.1.1.1.0.0 t.1.1.1.0.2, t.1.1.1.1.2)), refl, table_spelled t)
+    spells_then (spells_map reference_says h.1.1.1.1 (spells_one reference_written)) (λ references.
+    spells_made _ (spells_flat expression_lines h.1.1.1.0 spells_expression))))))) where
+      there : (t : TableTrace) → (u : (t : TableText) × IsListedTable t) × (table_of t ≡ u.0) × (table_said t.0.0 t ≡ text_lines u.0)
+      there t = (
+        (
+          table_of t,
+          record {
+            head = subst IsTableHead (sym (table_counts t)) t.0.1;
+            columns = t.1.0.2;
+            key = t.1.1.0.1;
+            uniques = lists_listed t.1.1.1.0.0 t.1.1.1.0.2;
+            references = references_listed t.1.1.1.1.0.0 t.1.1.1.1.0.2;
+            checks = t.1.1.1.1.1.2;
+          },
+        ),
+        refl,
+        table_spelled t,
+      )
 
-      back : (u : (t : CodeTable) × IsListedTable t) → (t : TableTrace) × (u.0 ≡ table_of t) × (table_lines u.0 ≡ table_said t.0.0 t)
+      back : (u : (t : TableText) × IsListedTable t) → (t : TableTrace) × (u.0 ≡ table_of t) × (text_lines u.0 ≡ table_said t.0.0 t)
       back u =
-          let d = u.0.definition in
-          let key = columns_said d.key u.1.2 in
-          let unique = lists_said d.unique u.1.3 in
-          let t : TableTrace = ((table_head u.0, u.1.0), ((d.columns, refl, u.1.1), (key.0, ((unique.0, unique.1, unique.2), (u.0.checks, refl, u.1.4))))) in
-          let same : u.0 ≡ table_of t = ap₂ (λ k us. table_with d.name d.columns k us u.0.checks) key.1 unique.3 in
-          (t, same, ap table_lines same ∙ sym (table_spelled t))
+          let v = u.1 in
+          let d = u.0.table.definition in
+          let key = columns_said d.key v.key in
+          let unique = lists_said d.unique v.uniques in
+          let references = references_said u.0.references v.references in
+          let t : TableTrace = (
+            (table_head u.0.references u.0.table, v.head),
+            ((d.columns, refl, v.columns), (key.0, ((unique.0, unique.1, unique.2), ((references.0, references.1, references.2), (u.0.table.checks, refl, v.checks))))),
+          ) in
+          let same : u.0 ≡ table_of t = (λ i. table_with d.name d.columns (key.1 i) (unique.3 i) (references.3 i) u.0.table.checks) in
+          (t, same, ap text_lines same ∙ sym (table_spelled t))
 
 -- ---- items of queries
 

@@ -1,18 +1,23 @@
 -- A line is parted at the first place of a word: before ` TO` stand numbers, none of which has a T.
-use Rattle.std.proofs.Common.{◌≡◌, ℕ, Bool, true, false, ◌&&◌, not, List, [], ◌∷◌, ◌++◌, map, Option, Some, None, refl, sym, ap, ◌∙◌, arith}
+use Rattle.std.proofs.Common.{◌≡◌, ℕ, suc, ◌+◌, ◌-◌, ◌<◌, Bool, true, false, ◌&&◌, not, List, [], ◌∷◌, ◌++◌, drop, get_or, length, map, take, Option, Some, None, refl, sym, ap, ap₂, ◌∙◌, append_assoc, arith}
 use Rattle.std.specs.Prelude.{codes, nat_eq, if◌then◌else◌}
 use Rattle.std.specs.Char.{is_ascii_digit}
+use Rattle.std.specs.Cmp.Lexicographic.{pointwise}
 use Rattle.std.specs.List.{list_all, starts_with}
+use Rattle.std.proofs.Math.Seq.{drop-cons}
+use Rattle.std.proofs.lemmas.Grind.{take_at_read}
+use Rattle.std.proofs.lemmas.List.{append-nil, length-drop}
 use Rattle.std.proofs.lemmas.Fmt.{digits_decimal}
 use Rattle.std.proofs.lemmas.List.Folds.{list_all-append}
 use Rattle.psm_num.proofs.Digits.{own}
 use Rattle.psm_num.proofs.Literals.{and_first, and_second}
 use Rattle.psm_words.specs.Words.{number}
-use Rattle.psm_words.specs.Reading.{◌>>=◌}
+use Rattle.psm_words.specs.Reading.{◌>>=◌, after}
 use Rattle.psm_words.proofs.Several.{bind_some, some_is}
 use Rattle.psm_object.specs.Words.{further}
 use Rattle.psm_load_line.specs.Heads.{EachIs, IsIndex}
-use Rattle.psm_load_line.specs.Readers.{parted, prefixed}
+use Rattle.psm_load_line.specs.Forms.{index, referred_at}
+use Rattle.psm_load_line.specs.Readers.{on, parted, prefixed, some}
 
 abbrev pub toless : ℕ → Bool
 toless c = not (nat_eq 84 c)
@@ -47,19 +52,64 @@ goes_on c s before behind f e = ap (λ b. if b then Some ([], c ∷ s) else (par
 
 pub parted_again : (s behind : List ℕ) → list_all toless s ≡ true → parted to (s ++ (to ++ behind)) ≡ Some (s, to ++ behind)
 parted_again [] behind h = refl
-parted_again (c ∷ []) behind h = goes_on c (to ++ behind) [] (to ++ behind) (not_both (nat_eq 32 c) (nat_eq 84 32) _ refl) refl
+parted_again (c ∷ []) behind h = goes_on c (to ++ behind) [] (to ++ behind) (not_both (nat_eq 32 c) (nat_eq 84 32) false refl) refl
 parted_again (c ∷ d ∷ s) behind h =
     let rest = and_second (toless c) (toless d && list_all toless s) h in
-    goes_on c (d ∷ (s ++ (to ++ behind))) (d ∷ s) (to ++ behind) (not_both (nat_eq 32 c) (nat_eq 84 d) _ (and_first (toless d) (list_all toless s) rest)) (parted_again (d ∷ s) behind rest)
+    goes_on c (d ∷ (s ++ (to ++ behind))) (d ∷ s) (to ++ behind) (not_both (nat_eq 32 c) (nat_eq 84 d) (pointwise nat_eq (79 ∷ []) (take 1 (s ++ (to ++ behind)))) (and_first (toless d) (list_all toless s) rest)) (parted_again (d ∷ s) behind rest)
 
 pub parted_takes : (w s before behind : List ℕ) → parted w s ≡ Some (before, behind) → s ≡ before ++ behind
 parted_takes w [] before behind e = absurd cc
-parted_takes w (c ∷ s) before behind e = by (starts_with nat_eq (c ∷ s) w) e where
-  by : (b : Bool) → (if b then Some ([], c ∷ s) else (parted w s >>= prefixed c)) ≡ Some (before, behind) → c ∷ s ≡ before ++ behind
-  by true q =
+parted_takes w (c ∷ s) before behind e = by (starts_with nat_eq (c ∷ s) w) (parted_takes w s) e where
+  by : (b : Bool) → ((a r : List ℕ) → parted w s ≡ Some (a, r) → s ≡ a ++ r) → (if b then Some ([], c ∷ s) else (parted w s >>= prefixed c)) ≡ Some (before, behind) → c ∷ s ≡ before ++ behind
+  by true ih q =
       let same = some_is {A = List ℕ × List ℕ} ([], c ∷ s) (before, behind) q in
       ap (λ (x : List ℕ × List ℕ). x.0 ++ x.1) same
-  by false q =
+  by false ih q =
       let f = bind_some (parted w s) (prefixed c) (before, behind) q in
       let same = some_is {A = List ℕ × List ℕ} (c ∷ f.0.0, f.0.1) (before, behind) f.2 in
-      ap (λ t. c ∷ t) (parted_takes w s f.0.0 f.0.1 f.1) ∙ ap (λ (x : List ℕ × List ℕ). x.0 ++ x.1) same
+      ap (λ t. c ∷ t) (ih f.0.0 f.0.1 f.1) ∙ ap (λ (x : List ℕ × List ℕ). x.0 ++ x.1) same
+
+-- ---- place by place
+
+-- what stands before a place, put before what was found behind it
+abbrev pub onto : List ℕ → List ℕ × List ℕ → Option (List ℕ × List ℕ)
+onto before x = Some (before ++ x.0, x.1)
+
+-- the first place is not before that one
+abbrev pub Onward : List ℕ → List ℕ → ℕ → Type 0
+Onward w text at = parted w text ≡ (parted w (drop at text) >>= onto (take at text))
+
+here : (w s : List ℕ) → 0 < length s → starts_with nat_eq s w ≡ true → parted w s ≡ Some ([], s)
+here w [] l e = absurd (omega (arith, l))
+here w (c ∷ s) l e = ap (λ b. if b then Some ([], c ∷ s) else (parted w s >>= prefixed c)) e
+
+pub parted_here : (w text : List ℕ) (at : ℕ) → at < length text → starts_with nat_eq (drop at text) w ≡ true → Onward w text at → parted w text ≡ Some (take at text, drop at text)
+parted_here w text at l e h =
+    let long : length (drop at text) ≡ length text - at = length-drop at text in
+    let some : 0 < length (drop at text) = omega (arith, l, long) in
+    h ∙ ap (λ (o : Option (List ℕ × List ℕ)). o >>= onto (take at text)) (here w (drop at text) some e) ∙ ap (λ t. Some (t, drop at text)) (append-nil (take at text))
+
+moved : (c : ℕ) (before next : List ℕ) (o : Option (List ℕ × List ℕ)) → next ≡ before ++ c ∷ [] → ((o >>= prefixed c) >>= onto before) ≡ (o >>= onto next)
+moved c before next None e = refl
+moved c before next (Some x) e = ap (λ t. Some (t, x.1)) (sym (append_assoc before (c ∷ []) x.0)) ∙ ap (λ t. Some (t ++ x.0, x.1)) (sym e)
+
+pub parted_next : (w text : List ℕ) (at : ℕ) → at < length text → starts_with nat_eq (drop at text) w ≡ false → Onward w text at → Onward w text (at + 1)
+parted_next w text at l e h =
+    let c = get_or text at 0 in
+    let k : suc at ≡ at + 1 = omega arith in
+    let rest = drop (at + 1) text in
+    let split : drop at text ≡ c ∷ rest = drop-cons text at 0 l ∙ ap (λ m. c ∷ drop m text) k in
+    let other : starts_with nat_eq (c ∷ rest) w ≡ false = ap (λ s. starts_with nat_eq s w) (sym split) ∙ e in
+    let one : parted w (drop at text) ≡ (parted w rest >>= prefixed c) = ap (parted w) split ∙ ap (λ b. if b then Some ([], c ∷ rest) else (parted w rest >>= prefixed c)) other in
+    h ∙ ap (λ (o : Option (List ℕ × List ℕ)). o >>= onto (take at text)) one ∙ moved c (take at text) (take (at + 1) text) (parted w rest) (take_at_read text at 0 l).1
+
+-- ---- behind it
+
+abbrev joined : ℕ → ℕ × List ℕ → Option (ℕ × (ℕ × List ℕ))
+joined to x = Some (to, x)
+
+pub referred_read : (s rest behind : List ℕ) (to : ℕ) (x : ℕ × List ℕ) → after (codes " TO") s ≡ Some rest → index rest ≡ Some (to, behind) → some index behind ≡ Some x → referred_at s ≡ Some (to, x)
+referred_read s rest behind to x k e m =
+    ap (λ (o : Option (List ℕ)). o >>= on index (some index)) k
+    ∙ ap (λ (o : Option (ℕ × List ℕ)). o >>= λ a. some index a.1 >>= joined a.0) e
+    ∙ ap (λ (o : Option (ℕ × List ℕ)). o >>= joined to) m

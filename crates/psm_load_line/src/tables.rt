@@ -1,6 +1,6 @@
 //! The lines of tables.
-ghost use Rattle.std.specs.Prelude.{◌≡◌, codes, option_map};
-ghost use Rattle.psm_words.specs.Reading.{◌>>=◌, after, datum_at};
+ghost use Rattle.std.specs.Prelude.{◌≡◌, option_map};
+ghost use Rattle.psm_words.specs.Reading.{datum_at};
 ghost use Rattle.psm_load_line.specs.Forms.{column_at, index as index_word, key_at, reference_at, referred_at, table_at, unique_at};
 ghost use Rattle.psm_load_line.specs.Readers.{both, flag_at, last, word};
 ghost use Rattle.psm_load_line.specs.Said.{columns_of, reference_of, table_head_of, Reads};
@@ -110,13 +110,7 @@ pub fn reference(alloc: Global, line: &[u8]) -> Result<Reference, Unread>
 fn referred(alloc: Global, rest: &[u8]) -> Result<(u32, List<u32>), Unread>
     ensures { Builds (λ x. (x.0, columns_of x.1)) (referred_at rest.now) result }
 {
-    let (to, rest) = numbered(rest).ok_or(Unread::Misfit)?;
+    let rest = keyword(b" TO", rest).ok_or(Unread::Misfit)?;
+    let (to, rest) = index(rest).ok_or(Unread::Misfit)?;
     Ok((to, columns(alloc, rest)?))
-}
-
-/// The number of the table, and what follows it.
-fn numbered(rest: &[u8]) -> Option<(u32, &[u8])>
-    ensures { option_map (λ x. (x.0, x.1.now)) result ≡ (after (codes " TO") rest.now >>= index_word) }
-{
-    index(keyword(b" TO", rest)?)
 }
