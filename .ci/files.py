@@ -18,17 +18,17 @@ MOST = 16_777_216
 SECONDS = 300
 UNFIT = "object %d not an object text\n"
 LONG = f"O is longer than {MOST} bytes\n"
-EMPTY = b"PSM 2 0 0\n"
+EMPTY = b"PSM 3 0 0\n"
 STATUSES = {"object": 8, "module": 4, "O": 9, "M": 9, "S": 9, "cannot": 2}
 
 
 def named(name):
     """An object with a routine of that name."""
-    return b"PSM 2 0 1\nROUTINE P '" + name + b"' 0 0 0 0 0 0 0 0 1 -\n0 - - END\n"
+    return b"PSM 3 0 1\nROUTINE P '" + name + b"' 0 0 0 0 0 0 0 0 1 -\n0 - - END\n"
 
 
 def routine(lines, more=b""):
-    return b"PSM 2 0 1\nROUTINE P 'P' 0 0 0 0 0 0 0 0 %d -\n" % lines + more
+    return b"PSM 3 0 1\nROUTINE P 'P' 0 0 0 0 0 0 0 0 %d -\n" % lines + more
 
 
 def of_length(size):
@@ -46,13 +46,13 @@ def stack(size):
 
 def expression(lines):
     """A CHECK of so many lines and two."""
-    head = b"PSM 2 1 0\nTABLE 'T' 1 0 1\nCOL 'K' INTEGER 1 NULL\nKEY 0\nEXPR %d\n- COL 0\n" % (lines + 2)
+    head = b"PSM 3 1 0\nTABLE 'T' 1 0 1 0\nCOL 'K' INTEGER 1 NULL\nKEY 0\nEXPR %d\n- COL 0\n" % (lines + 2)
     return head + b"N NEG\n" * lines + b"N ISNULL\n"
 
 
 def contexts(count):
     """A routine with so many blocks, each in the one before, and an END behind them."""
-    head = b"PSM 2 0 1\nROUTINE P 'P' 0 0 0 0 0 0 %d 0 %d -\n" % (count, 2 * count + 1)
+    head = b"PSM 3 0 1\nROUTINE P 'P' 0 0 0 0 0 0 %d 0 %d -\n" % (count, 2 * count + 1)
     blocks = b"".join(b"CTX %d BLOCK 0 %d\n" % (it, 2 * count - 1 - it) for it in range(count))
     ways = b"".join(b"%d - - ENTER %d\n" % (it, it + 1) for it in range(count))
     back = b"".join(b"%d - - EXIT %d\n" % (it, it) for it in range(count, 0, -1))
@@ -68,15 +68,15 @@ CASES = [
     ("a byte order mark", lambda: b"\xef\xbb\xbf" + EMPTY, UNFIT % 1),
     ("UTF-16", lambda: EMPTY.decode().encode("utf-16-le"), UNFIT % 1),
     ("a NUL in a name", lambda: named(b"P\0Q"), UNFIT % 2),
-    ("a NUL between two words", lambda: b"PSM 2\0 0 0\n", UNFIT % 1),
+    ("a NUL between two words", lambda: b"PSM 3\0 0 0\n", UNFIT % 1),
     ("a NUL after the last line", lambda: EMPTY + b"\0", UNFIT % 2),
     ("NULs", lambda: bytes(1000), UNFIT % 1),
     ("as many blanks as a file may have", lambda: b" " * MOST, UNFIT % 1),
     ("one blank more", lambda: b" " * (MOST + 1), LONG),
     ("as many line feeds", lambda: b"\n" * MOST, UNFIT % 1),
-    ("one number", lambda: b"PSM 2 0 " + b"9" * (MOST - 9) + b"\n", UNFIT % 1),
+    ("one number", lambda: b"PSM 3 0 " + b"9" * (MOST - 9) + b"\n", UNFIT % 1),
     ("one name", lambda: named(b"P" * (MOST - len(named(b"")))), UNFIT % 2),
-    ("one text that is not closed", lambda: b"PSM 2 0 1\nROUTINE P '" + b"P" * (MOST - 21), UNFIT % 2),
+    ("one text that is not closed", lambda: b"PSM 3 0 1\nROUTINE P '" + b"P" * (MOST - 21), UNFIT % 2),
     ("the longest object", lambda: of_length(MOST), ""),
     ("the same and one byte more", lambda: of_length(MOST + 1), LONG),
     ("an object of 20 MB", lambda: of_length(20_000_000), LONG),
@@ -84,7 +84,7 @@ CASES = [
     ("a stack of 16,000,000 letters", lambda: stack(16_000_000), "object 3 F3 stack does not follow\n"),
     ("a CHECK of 2,000,000 lines", lambda: expression(2_000_000), ""),
     ("200,000 blocks in one another", lambda: contexts(200_000), ""),
-    ("more tables than lines", lambda: b"PSM 2 4294967295 0\n" + b"TABLE 'T' 1 0 0\nCOL 'K' INTEGER 1 NULL\nKEY 0\n" * 300_000, UNFIT % 900_002),
+    ("more tables than lines", lambda: b"PSM 3 4294967295 0\n" + b"TABLE 'T' 1 0 0 0\nCOL 'K' INTEGER 1 NULL\nKEY 0\n" * 300_000, UNFIT % 900_002),
 ]
 
 

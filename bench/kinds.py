@@ -416,13 +416,13 @@ def all_of(n):
 def object_of(table, plan, lines):
     """A table, and a procedure with a plan and these lines."""
     routine = f"ROUTINE P 'P' 0 0 0 0 1 0 0 0 {lines.count(chr(10)) + 1} -"
-    return Files(f"PSM 2 1 1\n{table}\n{routine}\n{plan}\n{lines}\n", "SELECT COUNT(*) FROM t;\n", "1 SELECT\nROW 0\nOK\n", "exec")
+    return Files(f"PSM 3 1 1\n{table}\n{routine}\n{plan}\n{lines}\n", "SELECT COUNT(*) FROM t;\n", "1 SELECT\nROW 0\nOK\n", "exec")
 
 
 @kind(40_000, 330_000)
 def object_columns(n):
     """an object with a table of n columns, all of which its KEY, its UNIQUE list and an INSERT name"""
-    table = f"TABLE 'T' {n} 1 0\n{columns_of(n)}\nKEY {all_of(n)}\nUNI {all_of(n)}"
+    table = f"TABLE 'T' {n} 1 0 0\n{columns_of(n)}\nKEY {all_of(n)}\nUNI {all_of(n)}"
     return object_of(table, f"PLAN INSERT 0 1 {all_of(n)}", "0 - - END")
 
 
@@ -430,14 +430,14 @@ def object_columns(n):
 def object_sets(n):
     """an object with an UPDATE that sets each of n columns of a table"""
     sets = many(n, lambda i: f"SET {i}\nEXPR 1\n- CONST N 1")
-    return object_of(f"TABLE 'T' {n} 0 0\n{columns_of(n)}\nKEY 0", f"PLAN UPDATE 0 {n} 0\n{sets}", "0 - - END")
+    return object_of(f"TABLE 'T' {n} 0 0 0\n{columns_of(n)}\nKEY 0", f"PLAN UPDATE 0 {n} 0\n{sets}", "0 - - END")
 
 
 @kind(40_000, 300_000)
 def object_inserts(n):
     """an object with n INSERTs of no row for each of n columns of a table"""
     lines = many(n, lambda i: f"0 {i + 1} - DATA 0")
-    return object_of(f"TABLE 'T' {n} 0 0\n{columns_of(n)}\nKEY 0", f"PLAN INSERT 0 0 {all_of(n)}", lines + "\n0 - - END")
+    return object_of(f"TABLE 'T' {n} 0 0 0\n{columns_of(n)}\nKEY 0", f"PLAN INSERT 0 0 {all_of(n)}", lines + "\n0 - - END")
 
 
 # Rows.
