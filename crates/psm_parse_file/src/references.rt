@@ -56,7 +56,7 @@ fn next_update_action(tokens: &mut Tokens, levels: u32) -> Result<Place, Halt>
 }
 
 /// `[next_delete_action]`
-#[tactic(auto, using(psm_tree::proofs::Reading::steps))]
+#[tactic(auto, using(psm_tree::proofs::Reading::steps, psm_tree::proofs::Firsts::first_next_delete_action))]
 fn perhaps_next_delete_action(tokens: &mut Tokens, levels: u32) -> Result<Option<Place>, Halt>
     ensures { Takes (reading levels (optional next_delete_action_part) tokens.old.rest.now) result tokens.new.rest.now }
 {
@@ -67,7 +67,7 @@ fn perhaps_next_delete_action(tokens: &mut Tokens, levels: u32) -> Result<Option
 }
 
 /// `[next_update_action]`
-#[tactic(auto, using(psm_tree::proofs::Reading::steps))]
+#[tactic(auto, using(psm_tree::proofs::Reading::steps, psm_tree::proofs::Firsts::first_next_update_action))]
 fn perhaps_next_update_action(tokens: &mut Tokens, levels: u32) -> Result<Option<Place>, Halt>
     ensures { Takes (reading levels (optional next_update_action_part) tokens.old.rest.now) result tokens.new.rest.now }
 {
@@ -78,7 +78,7 @@ fn perhaps_next_update_action(tokens: &mut Tokens, levels: u32) -> Result<Option
 }
 
 /// `DELETE NO ACTION [ON UPDATE NO ACTION] | UPDATE NO ACTION [ON DELETE NO ACTION]`
-#[tactic(auto, using(psm_tree::proofs::Reading::steps), unfolding(psm_tree::specs::FileGrammar::either_action))]
+#[tactic(auto, using(psm_tree::proofs::Reading::steps, psm_tree::proofs::Firsts::first_delete_action), unfolding(psm_tree::specs::FileGrammar::either_action, psm_tree::specs::FileGrammar::delete_action))]
 fn either_action(tokens: &mut Tokens, levels: u32) -> Result<Place, Halt>
     ensures { Takes (reading levels either_action_part tokens.old.rest.now) result tokens.new.rest.now }
 {
@@ -102,7 +102,7 @@ fn actions(tokens: &mut Tokens, levels: u32) -> Result<Place, Halt>
 }
 
 /// `[actions]`
-#[tactic(auto, using(psm_tree::proofs::Reading::steps))]
+#[tactic(auto, using(psm_tree::proofs::Reading::steps, psm_tree::proofs::Firsts::first_actions))]
 fn perhaps_actions(tokens: &mut Tokens, levels: u32) -> Result<Option<Place>, Halt>
     ensures { Takes (reading levels (optional actions_part) tokens.old.rest.now) result tokens.new.rest.now }
 {
@@ -113,7 +113,7 @@ fn perhaps_actions(tokens: &mut Tokens, levels: u32) -> Result<Option<Place>, Ha
 }
 
 /// `[names]`
-#[tactic(auto, using(psm_tree::proofs::Reading::steps))]
+#[tactic(auto, using(psm_tree::proofs::Reading::steps, psm_tree::proofs::Firsts::first_names_in_parens))]
 fn perhaps_columns(alloc: Global, tokens: &mut Tokens, levels: u32) -> Result<Option<Names>, Halt>
     ensures { Takes (reading levels (optional names_part) tokens.old.rest.now) result tokens.new.rest.now }
 {
