@@ -42,8 +42,7 @@ with_references h columns key uniques = times h.keys (says reference_of referenc
 
 table_by_same : (h : forms.TableHead) (at : At) (ls : List (List ℕ)) → table_read (table_head_of h) at ls ≡ table_by h at ls
 table_by_same h at ls =
-    let k : forms.TableHead = h in
-    let f = table_head_of k in
+    let f = table_head_of h in
     (λ i. and_then (times h.1.0 (one column_at) at ls) (λ columns at ls. fused columns_of (λ key. times h.1.1.0 (says columns_of unique_at) >> λ uniques. with_references f columns key uniques) (one key_at at ls) i))
     ∙ (λ i. and_then (times h.1.0 (one column_at) at ls) (λ columns at ls. and_then (one key_at at ls) (λ key at ls. and_then (times_says columns_of unique_at h.1.1.0 at ls i) (λ uniques. with_references f columns (columns_of key) uniques))))
     ∙ (λ i. and_then (times h.1.0 (one column_at) at ls) (λ columns at ls. and_then (one key_at at ls) (λ key at ls. fused (map columns_of) (λ uniques. with_references f columns (columns_of key) uniques) (times h.1.1.0 (one unique_at) at ls) i)))

@@ -154,18 +154,18 @@ own_from n (key ∷ keys) = by (nat_eq key.from n) refl (own_from n keys) where
   )
   by false e h = (refl, refl)
 
+above : (n m : ℕ) → n ≤ m → nat_eq m n ≡ false → suc n ≤ m
+above n m l e = elim (cases_lt n m) [ inl h ↦ omega (arith, h) | inr h ↦ absurd (eqb-false m n e (omega (arith, l, h))) ]
+
 others_turn : (n count : ℕ) (keys : List ForeignKey) → are_in_turn n count keys ≡ true → are_in_turn (suc n) count (others_of n keys) ≡ true
 others_turn n count [] h = refl
-others_turn n count (key ∷ keys) h = by (nat_eq key.from n) refl where
-  p : Turns n count key keys
-  p = turns n count key keys h
-
-  by : (b : Bool) → nat_eq key.from n ≡ b → are_in_turn (suc n) count (drop (cond b (suc (count_at_front n keys)) 0) (key ∷ keys)) ≡ true
-  by true e = others_turn n count keys (turn_from key.from n count keys p.rest p.low)
-  by false e =
-      let low : n ≤ key.from = p.low in
-      let above : suc n ≤ key.from = elim (cases_lt n key.from) [ inl l ↦ omega (arith, l) | inr l ↦ absurd (eqb-false key.from n e (omega (arith, low, l))) ] in
-      in_turn (suc n) count key keys above p.high p.rest
+others_turn n count (key ∷ keys) h =
+    let p = turns n count key keys h in
+    let low : n ≤ key.from = p.low in
+    by (nat_eq key.from n) (others_turn n count keys (turn_from key.from n count keys p.rest low)) (λ e. in_turn (suc n) count key keys (above n key.from low e) p.high p.rest) refl where
+      by : (b : Bool) → are_in_turn (suc n) count (others_of n keys) ≡ true → (nat_eq key.from n ≡ false → are_in_turn (suc n) count (key ∷ keys) ≡ true) → nat_eq key.from n ≡ b → are_in_turn (suc n) count (drop (cond b (suc (count_at_front n keys)) 0) (key ∷ keys)) ≡ true
+      by true q later e = q
+      by false q later e = later e
 
 texts_same : (n k : ℕ) (keys : List ForeignKey) (ts : List CodeTable) → n < k → texts_of (others_of n keys) k ts ≡ texts_of keys k ts
 texts_same n k keys [] l = refl

@@ -233,7 +233,7 @@ abbrev pub code_says : Codes → Lines
 code_says t = first_head_line t.0.0 ∷ (flat_map text_lines t.1.0.0 ++ flat_map routine_says t.1.1.0)
 
 pub spells_code : Spells Codes code_of code_says code
-spells_code = spells_then (spells_one first_written) (λ c. spells_then (spells_made (λ ts. (tables_of ts, keys_of 0 ts)) (spells_flat text_lines c.0 spells_table)) (λ ts. spells_made _ (spells_times routine_by_trace routine_says c.1 spells_routine)))
+spells_code = spells_then (spells_one first_written) (λ c. spells_then (spells_made _ (spells_flat text_lines c.0 spells_table)) (λ ts. spells_made _ (spells_times routine_by_trace routine_says c.1 spells_routine)))
 
 routines_said : (ts : List Routines) → EachIs IsSound (map routine_by_trace ts) → (flat_map routine_says ts ≡ flat_map routine_lines (map routine_by_trace ts)) × EachIs IsListedRoutine (map routine_by_trace ts)
 routines_said [] s = (refl, tt)
