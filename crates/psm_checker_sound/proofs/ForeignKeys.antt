@@ -13,6 +13,7 @@ use Rattle.psm_rules.specs.CheckerScope.{CheckerScope, Columns}
 use Rattle.psm_rules.specs.Faults.{first_of}
 use Rattle.psm_rules.specs.FileFaults.{Referable, Referred, alone, columns_of, element_fault, element_reference_fault, match_fault, names_of, own_reference_fault, reference_fault, reference_to, references_fault, references_faults, referred_of, rule_reference_fault, table_elements, table_fault, table_rule_fault, with_referred}
 use Rattle.psm_rules.specs.StatementFaults.{several}
+use Rattle.psm_tree.specs.Names.{Names}
 use Rattle.psm_tree.specs.declared.name.Identifier.{Identifier}
 use Rattle.psm_tree.specs.declared.file.ColumnRule.{ColumnRule}
 use Rattle.psm_tree.specs.declared.file.ColumnRuleForm.{ColumnRuleForm}
@@ -97,6 +98,20 @@ each-at P [] i x h is = absurd cc
 each-at P (y ∷ xs) zero x h is = subst P (inside y x is) h.0
 each-at P (y ∷ xs) (suc i) x h is = each-at P xs i x h.1 is
 
+-- ---- the constraint to a table whose place is known
+
+abbrev key_with : ℕ → List ℕ → ℕ → List ℕ → ForeignKey
+key_with from columns to target = record { from = from; columns = columns; to = to; target = target }
+
+key-is : (tables : List ResolvedTable) (from to : ℕ) (cs ds target : List ℕ) (names : Option Names) (o : Option (ℕ × Columns)) (columns : Columns) → o ≡ Some (to, columns) → target_of tables (Some (to, columns)) names ≡ target → cs ≡ ds
+    → key_with from cs (number_of o) (target_of tables o names) ≡ key_with from ds to target
+key-is tables from to cs ds target names o columns at there are =
+    ap (λ p. key_with from cs (number_of p) (target_of tables p names)) at ∙ ap (key_with from cs to) there ∙ ap (λ l. key_with from l to target) are
+
+as-long : (xs : List TableTree) (t : TableTree) → length (xs ++ t ∷ []) ≡ suc (length xs)
+as-long [] t = refl
+as-long (x ∷ xs) t = ap suc (as-long xs t)
+
 -- ---- the constraints of the table t, with the tables before it and those after it
 
 module _ (f : FileTree) (xs : List TableTree) (t : TableTree) (ts : List TableTree) (all : f.tables ≡ (xs ++ t ∷ []) ++ ts) (p : FileParts f) (own : IsReferable t) where
@@ -119,10 +134,6 @@ module _ (f : FileTree) (xs : List TableTree) (t : TableTree) (ts : List TableTr
   from-there = there-mapped resolve_table f.tables (length xs) t
       (ap (λ l. slice_get l (length xs)) all ∙ there-front (xs ++ t ∷ []) ts (length xs) t (at-end xs [] t (length xs) refl))
 
-  longer : (ys : List TableTree) → length (ys ++ t ∷ []) ≡ suc (length ys)
-  longer [] = refl
-  longer (y ∷ ys) = ap suc (longer ys)
-
   -- a constraint to a table that is found
   well-found : (place : Place) (ms : List Identifier) (cs : List ℕ) (r : References) (to : Referred) → IsFound 0 r.table.name (xs ++ t ∷ []) ts to → IsList columns ms → cs ≡ map (column_of columns) ms → match_fault columns place (names_of ms) to r.columns ≡ None
       → IsWell (key_to tables scope (length xs) cs r)
@@ -134,6 +145,7 @@ module _ (f : FileTree) (xs : List TableTree) (t : TableTree) (ts : List TableTr
       let meant : IsMeant tables found.place columns ms u r.columns = are-meant tables found.place columns place ms u there b r.columns (ap (λ to. match_fault columns place (names_of ms) to r.columns) (sym found.is) ∙ none) in
       let here : 0 + found.place ≡ found.place = omega arith in
       let at : table_at scope r.table.name ≡ Some (found.place, columns_of (table_elements u)) =
+<<<<<<< HEAD
       ap (index_named 0 r.table.name) (tables-placed f p.names ∙ ap (map table_pair) all) ∙ found.at ∙ ap (λ k. Some (k, columns_of (table_elements u))) here in
       let key : ForeignKey = record { from = length xs; columns = map (column_of columns) ms; to = found.place; target = map (column_of (columns_of (table_elements u))) meant.meant } in
       let is : key_to tables scope (length xs) cs r ≡ key =
@@ -151,6 +163,19 @@ module _ (f : FileTree) (xs : List TableTree) (t : TableTree) (ts : List TableTr
           fits = fits t u own b ms meant.meant l meant.list meant.matched (length xs) found.place;
         },
       )
+=======
+          ap (index_named 0 r.table.name) (tables-placed f p.names ∙ ap (map table_pair) all) ∙ found.at ∙ ap (λ k. Some (k, columns_of (table_elements u))) here in
+      let key : ForeignKey = key_with (length xs) (map (column_of columns) ms) found.place (map (column_of (columns_of (table_elements u))) meant.meant) in
+      let is : key_to tables scope (length xs) cs r ≡ key = key-is tables (length xs) found.place cs key.columns key.target r.columns (table_at scope r.table.name) (columns_of (table_elements u)) at meant.target are in
+      subst IsWell (sym is) (refl, record {
+        from = resolve_table t;
+        to = resolve_table u;
+        from_there = from-there;
+        to_there = there;
+        before = omega (arith, found.below, as-long xs t);
+        fits = fits t u own b ms meant.meant l meant.list meant.matched (length xs) found.place;
+      })
+>>>>>>> 2a6cb431b2508f53ef884ba7273d3334afadf078
 
   well-by : (place : Place) (ms : List Identifier) (cs : List ℕ) (r : References) (o : Option Referred) → named r.table.name known ≡ o → IsList columns ms → cs ≡ map (column_of columns) ms → reference_to columns place (names_of ms) r o ≡ None
       → IsWell (key_to tables scope (length xs) cs r)
@@ -197,10 +222,6 @@ module _ (f : FileTree) (xs : List TableTree) (t : TableTree) (ts : List TableTr
 abbrev AreWell : FileTree → ℕ → List TableTree → Type 0
 AreWell f n [] = Unit {0}
 AreWell f n (t ∷ ts) = Each (λ key. (key.from ≡ n) × WellFormedKey (map resolve_table f.tables) key) (references_of (map resolve_table f.tables) (in_file (known_symbols f)) n t) × AreWell f (suc n) ts
-
-as-long : (xs : List TableTree) (t : TableTree) → length (xs ++ t ∷ []) ≡ suc (length xs)
-as-long [] t = refl
-as-long (x ∷ xs) t = ap suc (as-long xs t)
 
 tables-well : (f : FileTree) → FileParts f → (seen : List Spelling) (xs ts : List TableTree) → f.tables ≡ xs ++ ts → Knows seen (map referred_pair xs) → AreNew seen (map (λ n. n.name) (map (λ t. t.name) ts)) → Each (λ t. table_fault t ≡ None) ts
     → first_of (references_faults (map referred_pair xs) ts) ≡ None → AreWell f (length xs) ts

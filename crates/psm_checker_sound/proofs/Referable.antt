@@ -1,5 +1,5 @@
 -- The lists of columns by which a row of a table without a fault can be referred to are its key and those that are UNIQUE.
-use Rattle.std.proofs.Common.{◌≡◌, ℕ, suc, ◌+◌, Bool, true, false, ◌||◌, nat_eq, List, [], ◌∷◌, ◌++◌, length, map, Option, Some, None, refl, ap, sym, ◌∙◌, subst, arith}
+use Rattle.std.proofs.Common.{◌≡◌, ℕ, suc, ◌+◌, Bool, true, false, ◌||◌, not, nat_eq, List, [], ◌∷◌, ◌++◌, length, map, Option, Some, None, refl, ap, sym, ◌∙◌, subst, arith, eqb-true}
 use Rattle.std.specs.Prelude.{if◌then◌else◌, is_some}
 use Rattle.std.specs.Cmp.Lexicographic.{pointwise}
 use Rattle.std.specs.List.{list_any}
@@ -28,6 +28,8 @@ use Rattle.psm_resolve.specs.Files.{element_key, key_among, key_of, own_key, own
 use Rattle.psm_typing.specs.TypingContext.{Each}
 use Rattle.psm_checker_sound.proofs.Columns.{columns-are, pairs-new, pairs_of}
 use Rattle.psm_checker_sound.proofs.DeclaredOnce.{each_append}
+use Rattle.psm_checker_sound.proofs.Faultless.{unbroken}
+use Rattle.psm_checker_sound.proofs.Flags.{not-false}
 use Rattle.psm_checker_sound.proofs.NewNames.{AreNew, Knows, first_in, knows-more}
 
 -- ---- the place of each column is that of its name
@@ -114,7 +116,11 @@ pub record OneKey (es : List Element) : Type 0 where
 
 only-one : (table : Identifier) (k : List Spelling) (more : List (List Spelling)) → key_fault table (k ∷ more) ≡ None → more ≡ []
 only-one table k [] none = refl
-only-one table k (l ∷ more) none = absurd cc
+only-one table k (l ∷ more) none =
+    absurd (no (length more) (eqb-true (length (k ∷ l ∷ more)) 1 (not-false (nat_eq (length (k ∷ l ∷ more)) 1) (unbroken (not (nat_eq (length (k ∷ l ∷ more)) 1)) rule.NotOnePrimaryKey table.place none))))
+  where
+    no : (n : ℕ) → suc (suc n) ≡ 1 → ⊥
+    no n h = omega (arith, h)
 
 pub one-key : (table : Identifier) (es : List Element) → key_fault table (keys_of es) ≡ None → OneKey es
 one-key table es none = by (key_among es) refl (keys-first es)

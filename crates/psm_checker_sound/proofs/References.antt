@@ -98,8 +98,8 @@ pair-up : (from to : TableDef) (own others : Columns) (m n : Identifier) → IsT
 pair-up from to own others m n a b h =
     ap (λ o. where_there o (λ c. where_there (slice_get to.columns (column_of others n)) (λ d. is_letter (letter_of c.kind) (letter_of d.kind)))) a.there
     ∙ ap (λ o. where_there o (λ d. is_letter (letter_of a.column.kind) (letter_of d.kind))) b.there
-    ∙ same-letter a.column.kind b.column.kind (ap (λ o. not (clashes (family_of_column o) (family_named others n.name))) (sym a.known)
-    ∙ ap (λ o. not (clashes (Some (family_of (typed a.column.kind).kind)) (family_of_column o))) (sym b.known) ∙ h)
+    ∙ same-letter a.column.kind b.column.kind (ap (λ o. not (clashes (Some (family_of (typed a.column.kind).kind)) (family_of_column o))) (sym b.known)
+    ∙ ap (λ o. not (clashes (family_of_column o) (family_named others n.name))) (sym a.known) ∙ h)
 
 module _ (from to : TableDef) (own others : Columns) (typed-own : HaveTypes own (kinds_of from.columns)) (typed-others : HaveTypes others (kinds_of to.columns)) where
   as-many : (ms ns : List Identifier) → are_paired own (names_of ms) others (names_of ns) ≡ true → length (map (column_of own) ms) ≡ length (map (column_of others) ns)
