@@ -145,13 +145,9 @@ module _ (f : FileTree) (xs : List TableTree) (t : TableTree) (ts : List TableTr
       let meant : IsMeant tables found.place columns ms u r.columns = are-meant tables found.place columns place ms u there b r.columns (ap (λ to. match_fault columns place (names_of ms) to r.columns) (sym found.is) ∙ none) in
       let here : 0 + found.place ≡ found.place = omega arith in
       let at : table_at scope r.table.name ≡ Some (found.place, columns_of (table_elements u)) =
-<<<<<<< HEAD
       ap (index_named 0 r.table.name) (tables-placed f p.names ∙ ap (map table_pair) all) ∙ found.at ∙ ap (λ k. Some (k, columns_of (table_elements u))) here in
-      let key : ForeignKey = record { from = length xs; columns = map (column_of columns) ms; to = found.place; target = map (column_of (columns_of (table_elements u))) meant.meant } in
-      let is : key_to tables scope (length xs) cs r ≡ key =
-      ap (λ o. record { from = length xs; columns = cs; to = number_of o; target = target_of tables o r.columns }) at
-      ∙ ap (λ l. record { from = length xs; columns = cs; to = found.place; target = l }) meant.target
-      ∙ ap (λ l. record { from = length xs; columns = l; to = found.place; target = map (column_of (columns_of (table_elements u))) meant.meant }) are in
+      let key : ForeignKey = key_with (length xs) (map (column_of columns) ms) found.place (map (column_of (columns_of (table_elements u))) meant.meant) in
+      let is : key_to tables scope (length xs) cs r ≡ key = key-is tables (length xs) found.place cs key.columns key.target r.columns (table_at scope r.table.name) (columns_of (table_elements u)) at meant.target are in
       subst IsWell (sym is) (
         refl,
         record {
@@ -159,23 +155,10 @@ module _ (f : FileTree) (xs : List TableTree) (t : TableTree) (ts : List TableTr
           to = resolve_table u;
           from_there = from-there;
           to_there = there;
-          before = omega (arith, found.below, longer xs);
+          before = omega (arith, found.below, as-long xs t);
           fits = fits t u own b ms meant.meant l meant.list meant.matched (length xs) found.place;
         },
       )
-=======
-          ap (index_named 0 r.table.name) (tables-placed f p.names ∙ ap (map table_pair) all) ∙ found.at ∙ ap (λ k. Some (k, columns_of (table_elements u))) here in
-      let key : ForeignKey = key_with (length xs) (map (column_of columns) ms) found.place (map (column_of (columns_of (table_elements u))) meant.meant) in
-      let is : key_to tables scope (length xs) cs r ≡ key = key-is tables (length xs) found.place cs key.columns key.target r.columns (table_at scope r.table.name) (columns_of (table_elements u)) at meant.target are in
-      subst IsWell (sym is) (refl, record {
-        from = resolve_table t;
-        to = resolve_table u;
-        from_there = from-there;
-        to_there = there;
-        before = omega (arith, found.below, as-long xs t);
-        fits = fits t u own b ms meant.meant l meant.list meant.matched (length xs) found.place;
-      })
->>>>>>> 2a6cb431b2508f53ef884ba7273d3334afadf078
 
   well-by : (place : Place) (ms : List Identifier) (cs : List ℕ) (r : References) (o : Option Referred) → named r.table.name known ≡ o → IsList columns ms → cs ≡ map (column_of columns) ms → reference_to columns place (names_of ms) r o ≡ None
       → IsWell (key_to tables scope (length xs) cs r)
