@@ -8,3 +8,4 @@ pub mod OtherForms
 pub mod Parted
 pub mod Spelled
 pub mod Words
+pub mod Lasts

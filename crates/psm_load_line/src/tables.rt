@@ -16,6 +16,7 @@ use psm_value::Datum;
 use std::alloc::Global;
 
 /// What a line `TABLE` says.
+#[tactic(auto, using(crate::proofs::Lasts::last_of))]
 pub fn table_head(alloc: Global, line: &[u8]) -> Result<TableHead, Unread>
     ensures { Reads (option_map table_head_of (table_at line.now)) result }
 {
