@@ -1,6 +1,7 @@
 -- Tables with their FOREIGN KEY constraints: these are kept in one list, in the order of the tables that refer.
-use Rattle.std.proofs.Common.{◌≡◌, ◌<◌, ◌≤◌, ℕ, zero, suc, ◌+◌, Bool, true, false, ◌&&◌, nat_eq, nat_le, nat_lt, List, [], ◌∷◌, ◌++◌, cond, drop, length, map, take, Result, Ok, Err, refl, ap, ap₂, sym, ◌∙◌, append_assoc, arith, inl, inr, length-append}
+use Rattle.std.proofs.Common.{◌≡◌, ◌<◌, ◌≤◌, ℕ, zero, suc, ◌+◌, Bool, true, false, ◌&&◌, nat_eq, nat_le, nat_lt, List, [], ◌∷◌, ◌++◌, cond, drop, length, map, take, Result, Ok, Err, refl, ap, ap₂, sym, subst, ◌∙◌, append_assoc, arith, inl, inr, length-append}
 use Rattle.std.specs.List.{flat_map}
+use Rattle.std.specs.Result.{IsErrAnd}
 use Rattle.std.proofs.lemmas.Bool.{cases_lt, eq-eqb, eqb-false, eqb-true, le-leb, leb-true, lt-ltb, ltb-true, ne_eqb}
 use Rattle.std.proofs.lemmas.List.{append-nil, map-append, take-append-drop}
 use Rattle.std.proofs.lemmas.List.Elements.{filter-append}
@@ -196,7 +197,7 @@ keys_more n k (y ∷ xs) x e =
     ap (λ ks. map (key_from n) y.references ++ ks) (keys_more (suc n) k xs x (omega (arith, e))) ∙ sym (append_assoc (map (key_from n) y.references) (keys_of (suc n) xs) (map (key_from k) x.references))
 
 pub tables_begin : (count n : ℕ) (old : Left) (tables : List CodeTable) (keys : List ForeignKey) → tables ≡ [] → keys ≡ [] → n ≡ count → TablesRead count old tables keys n old
-tables_begin count n old tables keys t k e = record { texts = []; tables_are = t; keys_are = k; number = e; read = turns_begin table count n old [] [] refl e }
+tables_begin count n old tables keys t k e = record { texts = []; tables_are = t; keys_are = k; number = omega (arith, e); read = turns_begin table count n old [] [] refl e }
 
 pub tables_go_on : (count n left number : ℕ) (old now next : Left) (tables : List CodeTable) (keys more : List ForeignKey) (x : TableText) → TablesRead count old tables keys n now → left + 1 ≡ n → number + n ≡ count
     → table now.at now.lines ≡ Ok (x, (next.at, next.lines)) → more ≡ keys ++ map (key_from number) x.references → TablesRead count old (tables ++ x.table ∷ []) more left next
@@ -220,5 +221,11 @@ pub tables_stop : (count n : ℕ) (old now next : Left) (tables : List CodeTable
 tables_stop count n old now next tables keys (Misfit k) r l g =
     ap (λ (o : Result (List TableText × (At × List (List ℕ))) ℕ). and_then o (λ ts. given (tables_of ts, keys_of 0 ts))) (turns_stop table count n old now next r.texts (Misfit k) r.read l g)
 tables_stop count n old now next tables keys Memory r l g = tt
+
+-- the same of a result that passes it on
+pub tables_stopped : (count n : ℕ) (old now next : Left) (tables : List CodeTable) (keys : List ForeignKey) (stop : Stop) (result : Result (List CodeTable × List ForeignKey) Stop) → IsErrAnd result (λ e. e ≡ stop)
+    → TablesRead count old tables keys n now → 1 ≤ n → Gives table now next (Err stop) → Gives (tables_by count) old next result
+tables_stopped count n old now next tables keys stop (Ok x) i r l g = absurd i
+tables_stopped count n old now next tables keys stop (Err e) i r l g = subst (λ x. Gives (tables_by count) old next (Err x)) (sym i) (tables_stop count n old now next tables keys stop r l g)
 
 pub ruleset tables = (tables_begin, tables_go_on, tables_end, tables_stop)
