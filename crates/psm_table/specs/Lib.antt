@@ -1,5 +1,6 @@
 pub mod Changing
 pub mod Cursors
+pub mod Cuts
 pub mod Definition
 pub mod Evaluator
 pub mod Held

@@ -1,5 +1,6 @@
 ghost use Rattle.std.specs.Prelude.{◌≡◌, ◌+◌, ◌≤◌, ◌<◌, ◌↔◌, [], length, None, Some, IsTrue, is_some, true, false, All, IfSome, IfNone, IfOk, if◌then◌else◌};
 ghost use Rattle.std.specs.Option.{option_copied, ForSome};
+ghost use Rattle.psm_table.specs.Cuts.{rows_between};
 ghost use Rattle.psm_table.specs.Definition.{IsDefinition, IsRow, IsKey, HasColumns};
 ghost use Rattle.psm_table.specs.Held.{entries_of};
 ghost use Rattle.psm_table.specs.Key.{values_at};
@@ -10,6 +11,7 @@ ghost use Rattle.psm_table.specs.State.{has_key, IsTidy, Inserts, Changes, Keeps
 ghost use Rattle.psm_table.specs.Table.{IsTable, empty_table, keyed, most_rows, namesake, with_row, without_row};
 ghost use Rattle.psm_table.specs.Unique.{clashes, has_null};
 
+use crate::cut::Cut;
 use crate::definition::{TableDef, copied_lists};
 use crate::fault::RowFault;
 use crate::index::{enter, has_rival, settle_entries};
@@ -352,6 +354,20 @@ impl Table {
         ensures table { IsTable self.now.contents }
     {
         RowsLeft::all(&self.rows, downward)
+    }
+
+    /// A walk over the rows between two cuts, in ascending order of their keys; downward, in descending order. Where a cut lacks,
+    /// the walk begins or ends with the table. It takes two searches, no memory, and goes on without a search.
+    pub fn rows_between(
+        &self,
+        low: Option<Cut<'_>>,
+        high: Option<Cut<'_>>,
+        downward: bool,
+    ) -> RowsLeft<'_>
+        ensures rows { result ≡ in_walk downward (rows_between self.now.contents.def.key low.entry high.entry self.now.contents.rows) }
+        ensures table { IsTable self.now.contents }
+    {
+        RowsLeft::between(&self.rows, low, high, downward)
     }
 
     /// Whether a row with another key agrees with the row in a UNIQUE list in which neither has a null
