@@ -269,7 +269,7 @@ held-settled def lists rows new live sets more h e long entered order =
       count = h.count ∙ ap length (sym same);
       keyed = subst (All (HasItsKey def.key)) (sym e) (All-filter (λ (p : Slot). is_some p.value) (HasItsKey def.key) rows.pairs h.keyed);
       unique = h.unique;
-  sets = long ∙ h.sets;
+      sets = long ∙ h.sets;
       entered = subst (λ r. AreEntered def lists r (entries_of more)) (sym same) entered;
     }
 
