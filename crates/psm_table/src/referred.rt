@@ -1,5 +1,6 @@
 //! Rows that others refer to (ISO/IEC 9075:1992, 11.8).
-ghost use Rattle.std.specs.Prelude.{◌≡◌, slice_get, All, Some, IfSome, false};
+ghost use Rattle.std.specs.Bool.{OnTrue};
+ghost use Rattle.std.specs.Prelude.{◌≡◌, length, slice_get, take, All, Some, IfSome, false};
 ghost use Rattle.psm_table.specs.Held.{live_rows, row_of, HasItsKey};
 ghost use Rattle.psm_table.specs.Index.{row_has};
 ghost use Rattle.psm_table.specs.Key.{values_at, AreColumnsOf};
@@ -16,6 +17,13 @@ use crate::probe::{Probe, order_of_prefix};
 use crate::row::Row;
 use crate::walk::RowsLeft;
 use psm_value::Datum;
+
+/// Whether a key begins with the columns, in order.
+pub(crate) fn begins(key: &[u32], columns: &[u32]) -> bool
+    ensures { OnTrue result (take (length columns.now) key.now ≡ columns.now) }
+{
+    columns.len() <= key.len() && &key[..columns.len()] == columns
+}
 
 /// The place of a UNIQUE list that has just these columns, in order.
 pub(crate) fn list_of(def: &TableDef, columns: &[u32]) -> Option<usize>
