@@ -19,14 +19,14 @@ use Rattle.psm_table.specs.Table.{Contents}
 use Rattle.psm_table.proofs.Filters.{AllPairs-rest, filter-empty}
 use Rattle.psm_table.proofs.Undo.{after_equal}
 use Rattle.psm_tablecode.specs.Asked.{key_asked, rows_from, rows_of, walk_by, walk_for}
-use Rattle.psm_tablecode.specs.Bounds.{bounds_asked, bounds_of, rows_within}
+use Rattle.psm_tablecode.specs.Bounds.{bounds_asked, bounds_of, rows_within, Bounds}
 use Rattle.psm_tablecode.specs.Codes.{over}
 use Rattle.psm_tablecode.specs.Edges.{lies_within, rows_between}
 use Rattle.psm_tablecode.specs.Tests.{are_quiet}
 use Rattle.psm_tablecode.specs.declared.walking.Edge.{Edge}
 use Rattle.psm_tablecode.specs.declared.walking.Walk.{Walk}
 use Rattle.psm_tablecode.proofs.EdgeLaws.{rows_all, rows_among}
-use Rattle.psm_tablecode.proofs.Ranges.{walked_within}
+use Rattle.psm_tablecode.proofs.Ranges.{asked_by, walked_within}
 use Rattle.psm_tablecode.proofs.Stepped.{filter-reverse}
 use Rattle.psm_tablecode.proofs.Results.{mapped-same}
 use Rattle.psm_tablecode.proofs.Sought.{asked_only, asked_quiet}
@@ -111,6 +111,18 @@ module _ {A : Type 0} (t : Contents) (vars : List Datum) (test : Option (List Li
 
   pub walked_by : (downward : Bool) (walk : Walk) → walk ≡ walk_for t downward vars test → walked (test_of (over vars) test) take (rows_of t walk) ≡ walked (test_of (over vars) test) take (in_walk downward t.rows)
   walked_by downward walk e = ap (λ (w : Walk). walked (test_of (over vars) test) take (rows_of t w)) e ∙ walked_for downward
+
+-- where a test asks for bounds and not for a key, the walk is over the rows between them
+bounded : (t : Contents) (vars : List Datum) (downward : Bool) (lines : List Line) (bounds : Bounds) → key_asked t.def.key vars (Some lines) ≡ None → bounds_asked t.def.key vars (Some lines) ≡ Some bounds
+    → bounds_of t.def.key vars lines ≡ bounds → rows_of t (walk_for t downward vars (Some lines)) ≡ rows_within t downward (Some bounds)
+bounded t vars downward lines bounds k b e =
+    (λ i. rows_of t (walk_by downward (k i) (b i))) ∙ ap (λ (x : Bounds). rows_of t (walk_by downward None (Some x))) (sym e)
+    ∙ rows_among t.def.key vars lines downward t.rows ∙ ap (λ (x : Bounds). rows_within t downward (Some x)) e
+
+pub rows_bounded : (t : Contents) (vars : List Datum) (downward : Bool) (test : Option (List Line)) (bounds : Bounds) → key_asked t.def.key vars test ≡ None → bounds_asked t.def.key vars test ≡ Some bounds
+    → rows_of t (walk_for t downward vars test) ≡ rows_within t downward (Some bounds)
+rows_bounded t vars downward None bounds k b = absurd (cc)
+rows_bounded t vars downward (Some lines) bounds k b = bounded t vars downward lines bounds k b (asked_by (are_quiet lines) (bounds_of t.def.key vars lines) bounds b).1
 
 -- no walk has more rows than the table
 found_few : (p : List Datum → Bool) (row : List Datum) (rows : List (List Datum)) (b : Bool) → length (cons_option (find p rows) []) ≤ length rows → length (cons_option (cond b (Some row) (find p rows)) []) ≤ length (row ∷ rows)

@@ -376,9 +376,10 @@ module _ (row vars : List Datum) (c : ℕ) (o a b e : Op) (os first second third
       let high : truth_value.Truth = judged_by is_le x.0 h in
       let went : Went Ahead (Truth (both low high) ∷ os) ≡ Went Ahead fourth = sym (ap (λ (q : Op). applied q third row vars) k ∙ ap (λ q. applied op.Between q row vars) z ∙ range_put x.0 l h os row vars) ∙ puts_e in
       let same : Truth (both low high) ∷ os ≡ fourth = cc in
-      let certain : (is_certain high && (is_certain low && all_true os)) ≡ true = both_certain low high (all_true os) (ap all_true same ∙ t) in
-      (ap (λ q. is_ge (data_order q l)) x.1 ∙ certain_judged is_ge x.0 l (and_first (is_certain low) (all_true os) (and_second (is_certain high) (is_certain low && all_true os) certain)),
-      ap (λ q. is_le (data_order q h)) x.1 ∙ certain_judged is_le x.0 h (and_first (is_certain high) (is_certain low && all_true os) certain))
+      let certain : (is_certain high && (is_certain low && all_true os)) ≡ true = both_certain low high (all_true os) (ap all_true same ∙ t) in (
+        ap (λ q. is_ge (data_order q l)) x.1 ∙ certain_judged is_ge x.0 l (and_first (is_certain low) (all_true os) (and_second (is_certain high) (is_certain low && all_true os) certain)),
+        ap (λ q. is_le (data_order q h)) x.1 ∙ certain_judged is_le x.0 h (and_first (is_certain high) (is_certain low && all_true os) certain),
+      )
 
   low_range : (d : End) (i j : Bool) → is_range e ≡ i → is_column c o ≡ j → (if i then (if j then end_of_two (fixed vars a) (fixed vars b) else None) else None) ≡ Some d → is_from (Some d) there ≡ true
   low_range d true true p q h =
@@ -472,7 +473,7 @@ module _ (row vars : List Datum) (lines : List Line) (quiet : are_quiet lines �
 
 -- ---- tests
 
-asked_by : (b : Bool) (x bounds : Bounds) → (if b then Some x else None) ≡ Some bounds → (b ≡ true) × (x ≡ bounds)
+pub asked_by : (b : Bool) (x bounds : Bounds) → (if b then Some x else None) ≡ Some bounds → (b ≡ true) × (x ≡ bounds)
 asked_by true x bounds e = (refl, (let same : x ≡ bounds = cc in same))
 asked_by false x bounds e = absurd (cc)
 

@@ -195,14 +195,9 @@ asked_long columns vars (Some lines) = long_if (are_quiet lines) (length columns
 pub asked_fits : (columns : List ℕ) (vars : List Datum) (test : Option (List Line)) (n : ℕ) → length columns ≡ n → IfSome (key_asked columns vars test) (λ key. length key ≡ n)
 asked_fits columns vars test n e = subst (λ m. IfSome (key_asked columns vars test) (λ key. length key ≡ m)) e (asked_long columns vars test)
 
-walk_key : (downward : Bool) (key : Option (List Datum)) (bounds : Option Bounds) → (walk_by downward key bounds).key ≡ key
-walk_key downward (Some key) bounds = refl
-walk_key downward None (Some bounds) = refl
-walk_key downward None None = refl
-
 pub walk_fits : {E : Type 0} (columns : List ℕ) (downward : Bool) (vars : List Datum) (test : Option (List Line)) (n : ℕ) → length columns ≡ n → (r : Result Walk E)
     → IfOk r (λ walk. walk ≡ walk_by downward (key_asked columns vars test) (bounds_asked columns vars test)) → IfOk r (λ walk. IfSome walk.key (λ key. length key ≡ n))
 walk_fits columns downward vars test n e (Ok walk) h =
-    subst (λ (o : Option (List Datum)). IfSome o (λ key. length key ≡ n)) (sym (ap (λ (w : Walk). w.key) h ∙ walk_key downward (key_asked columns vars test) (bounds_asked columns vars test)))
+    subst (λ (o : Option (List Datum)). IfSome o (λ key. length key ≡ n)) (sym (ap (λ (w : Walk). w.key) h))
     (asked_fits columns vars test n e)
 walk_fits columns downward vars test n e (Err f) h = tt

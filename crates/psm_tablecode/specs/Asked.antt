@@ -43,11 +43,20 @@ rows_of t walk = rows_from t walk.downward walk.key walk.low walk.high
 abbrev pub over_all : Bool → Walk
 over_all downward = record { downward = downward; key = None; low = None; high = None }
 
+-- the edges of a walk: those of bounds, where it isn't to the row of a key
+abbrev pub low_by : Option (List Datum) → Option Bounds → Option Edge
+low_by (Some key) bounds = None
+low_by None (Some bounds) = low_edge bounds.firsts bounds.low
+low_by None None = None
+
+abbrev pub high_by : Option (List Datum) → Option Bounds → Option Edge
+high_by (Some key) bounds = None
+high_by None (Some bounds) = high_edge bounds.firsts bounds.high
+high_by None None = None
+
 -- the walk to the row of a key, or else over the rows between bounds, or else over all rows
 abbrev pub walk_by : Bool → Option (List Datum) → Option Bounds → Walk
-walk_by downward (Some key) bounds = record { downward = downward; key = Some key; low = None; high = None }
-walk_by downward None (Some bounds) = record { downward = downward; key = None; low = low_edge bounds.firsts bounds.low; high = high_edge bounds.firsts bounds.high }
-walk_by downward None None = over_all downward
+walk_by downward key bounds = record { downward = downward; key = key; low = low_by key bounds; high = high_by key bounds }
 
 -- the walk of a statement with a test
 abbrev pub walk_for : Contents → Bool → List Datum → Option (List Line) → Walk

@@ -177,11 +177,7 @@ fn high_edge(
 }
 
 // The edge at some values; without values there is none.
-fn edge_at(
-    alloc: Global,
-    values: &[Datum],
-    is_behind: bool,
-) -> Result<Option<Edge>, AllocError>
+fn edge_at(alloc: Global, values: &[Datum], is_behind: bool) -> Result<Option<Edge>, AllocError>
     ensures { IfOk result (λ edge. edge ≡ edges.edge_at values.now is_behind) }
 {
     match values {
@@ -262,12 +258,7 @@ fn end_sought<'a>(
 // The first that the lines make of a column where they end with true. They are gone through from the last one on, with the
 // number of operands that needn't be true.
 #[tactic(auto, using(crate::proofs::Windows::free_end, crate::proofs::Seeking::made_end, crate::proofs::Seeking::made_back, crate::proofs::Seeking::made_start))]
-fn made<'a>(
-    aim: Aim,
-    column: u32,
-    lines: &'a RawExpr,
-    vars: &'a [Datum],
-) -> Option<Found<'a>>
+fn made<'a>(aim: Aim, column: u32, lines: &'a RawExpr, vars: &'a [Datum]) -> Option<Found<'a>>
     ensures { option_map seen result ≡ made_for aim column vars.now lines.now }
 {
     let mut found = None;
@@ -285,11 +276,7 @@ fn made<'a>(
 fn width(aim: Aim) -> usize
     ensures { result ≡ aims.width aim }
 {
-    if is_of_two(aim) {
-        4
-    } else {
-        3
-    }
+    if is_of_two(aim) { 4 } else { 3 }
 }
 
 fn is_of_two(aim: Aim) -> bool
@@ -471,11 +458,7 @@ fn side(aim: Aim, is_right: bool, op: &Op) -> Option<bool>
 fn equal_test(op: &Op) -> Option<bool>
     ensures { result ≡ aims.equal_test op.now }
 {
-    if is_equality(op) {
-        Some(true)
-    } else {
-        None
-    }
+    if is_equality(op) { Some(true) } else { None }
 }
 
 fn from_test(op: &Op) -> Option<bool>
@@ -517,11 +500,7 @@ fn made_of_four<'a>(
     }
 }
 
-fn made_of_two<'a>(
-    aim: Aim,
-    low: Option<&'a Datum>,
-    high: Option<&'a Datum>,
-) -> Option<Found<'a>>
+fn made_of_two<'a>(aim: Aim, low: Option<&'a Datum>, high: Option<&'a Datum>) -> Option<Found<'a>>
     ensures { option_map seen result ≡ of_two aim (option_copied low.entry) (option_copied high.entry) }
 {
     match aim {
