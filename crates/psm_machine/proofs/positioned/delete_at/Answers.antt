@@ -26,7 +26,7 @@ delete_at-requires-clause-keys g c =
     let b = sym c.table_at.ensures ∙ ap option_copied c.in-Some-table_at.is in
     let s = sym c.cursor_at.ensures ∙ ap option_copied c.in-Some-cursor_at.is in
     let may = may_at (λ n c. MayEraseAt code.keys old n c) code r run.running.cursors.items n c.in-Some.declared.now q c.in-Some-table_at._declared.now cursor d a b s c.requires.may in
-    subst (λ (keys : List ForeignKey). All (IsKeyOf (defs_in old)) keys) (sym c.items-keys.ensures) may.table.keys_there
+    may.table.keys_there
 
 pub returns-in_err-part_of-clause-due : goal.returns-in_err-part_of-clause-due
 returns-in_err-part_of-clause-due g c = λ at.
@@ -46,9 +46,8 @@ returns-in_err-part_of-clause-due g c = λ at.
     let b = sym c.table_at.ensures ∙ ap option_copied c.in-Some-table_at.is in
     let s = sym c.cursor_at.ensures ∙ ap option_copied c.in-Some-cursor_at.is in
     let may = may_at (λ n c. MayEraseAt code.keys old n c) code r run.running.cursors.items n x q y cursor d a b s c.requires.may in
-    let ruled = subst (λ (keys : List ForeignKey). IfSome (slice_get old q.table) (ErasesByRules keys c.in_ok-key.key old q.table new c.delete_at.result)) c.items-keys.ensures c.delete_at.ensures.answer in
     let done = erases code r n x q y cursor t c.in_ok-key.key c.in-Some-current.row.now old new at run c.delete_at.result d a b may.table c.table-table.ensures s
-    (sym c.current.ensures.row ∙ ap option_copied c.in-Some-current.is) c.in_ok-key.ensures.value ruled in
+    (sym c.current.ensures.row ∙ ap option_copied c.in-Some-current.is) c.in_ok-key.ensures.value c.delete_at.ensures.answer in
     let stopped = subst (λ p. Moves (delete_at code r n) n cursor old at run new (gone_by p)) (sym c.in_err-part_of.ensures) done in
     subst (λ p. Evaluates (delete_at code r n (machine_of old at run)) p (machine_of new at run)) (as_err c.from_residual-in_err-part_of.result c.in_err-part_of.field-0.0 c.from_residual-in_err-part_of.ensures.1) stopped
 
@@ -70,9 +69,8 @@ returns-clause-due g c = λ at.
     let b = sym c.table_at.ensures ∙ ap option_copied c.in-Some-table_at.is in
     let s = sym c.cursor_at.ensures ∙ ap option_copied c.in-Some-cursor_at.is in
     let may = may_at (λ n c. MayEraseAt code.keys old n c) code r run.running.cursors.items n x q y cursor d a b s c.requires.may in
-    let ruled = subst (λ (keys : List ForeignKey). IfSome (slice_get old q.table) (ErasesByRules keys c.in_ok-key.key old q.table new c.delete_at.result)) c.items-keys.ensures c.delete_at.ensures.answer in
     let done = erases code r n x q y cursor t c.in_ok-key.key c.in-Some-current.row.now old new at run c.delete_at.result d a b may.table c.table-table.ensures s
-    (sym c.current.ensures.row ∙ ap option_copied c.in-Some-current.is) c.in_ok-key.ensures.value ruled in
+    (sym c.current.ensures.row ∙ ap option_copied c.in-Some-current.is) c.in_ok-key.ensures.value c.delete_at.ensures.answer in
     subst (λ p. Moves (delete_at code r n) n cursor old at run new (gone_by p)) (sym c.in_ok-part_of.ensures) done
     ∙ ap (λ area. leave_row true n cursor (machine_of new at (record run { area = area }))) (sym c.set_rows.ensures)
     ∙ c.leave_row.ensures.due cursor s new at
