@@ -16,8 +16,8 @@ use Rattle.psm_machine.proofs.Asking.{of_some}
 use Rattle.psm_machine.proofs.Counting.{as_err, delete_counted, Counted}
 use Rattle.psm_machine.proofs.plans.delete_rows.Goals as goal
 
-pub delete-requires-clause-keys : goal.delete-requires-clause-keys
-delete-requires-clause-keys g c =
+pub delete-requires-clause-constraints : goal.delete-requires-clause-constraints
+delete-requires-clause-constraints g c =
     let old : List Contents = g.S.Store.tables c.args.store.now in
     let code = c.args.code.now in
     let may = MayErase code.keys old c.args.table c.args.run.now.running.variables.items (option_copied c.args.test) in

@@ -16,8 +16,8 @@ use Rattle.psm_machine.proofs.Asking.{of_some}
 use Rattle.psm_machine.proofs.Counting.{as_err, update_counted, Counted}
 use Rattle.psm_machine.proofs.plans.update_rows.Goals as goal
 
-pub update-requires-clause-keys : goal.update-requires-clause-keys
-update-requires-clause-keys g c =
+pub update-requires-clause-constraints : goal.update-requires-clause-constraints
+update-requires-clause-constraints g c =
     let old : List Contents = g.S.Store.tables c.args.store.now in
     let code = c.args.code.now in
     let may = MayChange code.keys old c.args.table c.args.run.now.running.variables.items c.args.sets.now (option_copied c.args.test) in

@@ -12,8 +12,8 @@ use Rattle.psm_machine.proofs.Counting.{as_err}
 use Rattle.psm_machine.proofs.Positions.{erases, gone_by, may_at, Moves}
 use Rattle.psm_machine.proofs.positioned.delete_at.Goals as goal
 
-pub delete_at-requires-clause-keys : goal.delete_at-requires-clause-keys
-delete_at-requires-clause-keys g c =
+pub delete_at-requires-clause-constraints : goal.delete_at-requires-clause-constraints
+delete_at-requires-clause-constraints g c =
     let old : List Contents = g.S.Store.tables c.args.store.now in
     let code = c.args.code.now in
     let r = c.args.routine.now in

@@ -16,8 +16,8 @@ use Rattle.psm_machine.proofs.Counting.{as_err}
 use Rattle.psm_machine.proofs.Positions.{may_at, moves, Moves}
 use Rattle.psm_machine.proofs.positioned.update_at.Goals as goal
 
-pub update_at-requires-clause-keys : goal.update_at-requires-clause-keys
-update_at-requires-clause-keys g c =
+pub update_at-requires-clause-constraints : goal.update_at-requires-clause-constraints
+update_at-requires-clause-constraints g c =
     let old : List Contents = g.S.Store.tables c.args.store.now in
     let code = c.args.code.now in
     let r = c.args.routine.now in
