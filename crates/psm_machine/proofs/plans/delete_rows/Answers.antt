@@ -1,10 +1,8 @@
-use Rattle.std.proofs.Common.{List, [], All, IfSome, slice_get, ap, sym, subst, ◌∙◌}
+use Rattle.std.proofs.Common.{List, [], IfSome, slice_get, ap, sym, subst, ◌∙◌}
 use Rattle.std.specs.Option.{option_copied}
 use Rattle.psm_value.specs.declared.datum.Datum.{Datum}
 use Rattle.psm_exprcode.specs.declared.op.Line.{Line}
-use Rattle.psm_table.specs.declared.definition.ForeignKey.{ForeignKey}
 use Rattle.psm_table.specs.Changing.{deleted, IsLegal}
-use Rattle.psm_table.specs.Keyed.{defs_in, IsKeyOf}
 use Rattle.psm_table.specs.Table.{Contents}
 use Rattle.psm_tablecode.specs.Codes.{over}
 use Rattle.psm_dml.specs.Ends.{keyed_schema, schema_of, Ends}

@@ -1,9 +1,6 @@
-use Rattle.std.proofs.Common.{true, List, All, IfSome, slice_get, ap, sym, subst, ◌∙◌}
+use Rattle.std.proofs.Common.{true, List, ap, sym, subst, ◌∙◌}
 use Rattle.std.specs.Option.{option_copied}
-use Rattle.psm_table.specs.declared.definition.ForeignKey.{ForeignKey}
-use Rattle.psm_table.specs.Keyed.{defs_in, IsKeyOf}
 use Rattle.psm_table.specs.Table.{Contents}
-use Rattle.psm_dml.specs.Ends.{ErasesByRules}
 use Rattle.psm_code.specs.Plans.{delete_at, leave_row}
 use Rattle.psm_unwind.specs.View.{machine_of}
 use Rattle.psm_machine.specs.Allowed.{MayEraseAt}

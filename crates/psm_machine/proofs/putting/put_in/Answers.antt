@@ -1,11 +1,9 @@
 use Rattle.std.proofs.Common.{List, slice_get, ap, sym, subst, ◌∙◌}
 use Rattle.std.specs.Option.{option_copied}
-use Rattle.psm_table.specs.declared.definition.ForeignKey.{ForeignKey}
 use Rattle.psm_table.specs.Table.{Contents}
 use Rattle.psm_code.specs.Plans.{put_in}
 use Rattle.psm_unwind.specs.View.{machine_of}
 use Rattle.psm_machine.specs.Allowed.{HasTable}
-use Rattle.psm_machine.specs.Inserting.{PutsInto}
 use Rattle.psm_machine.specs.ActResults.{Evaluates}
 use Rattle.psm_machine.proofs.Asking.{of_some}
 use Rattle.psm_machine.proofs.Counting.{as_err, nothing_more, put_counted, Counted}
