@@ -9,6 +9,9 @@ pub mod Holding
 pub mod InPlace
 pub mod Judging
 pub mod KeyTesting
+pub mod KeyValues
+pub mod Leftover
+pub mod Matching
 pub mod Moved
 pub mod Placed
 pub mod Places
