@@ -16,6 +16,7 @@ pub mod Keys
 pub mod Legal
 pub mod Lefts
 pub mod Lives
+pub mod Named
 pub mod Ordered
 pub mod Orders
 pub mod Pairs

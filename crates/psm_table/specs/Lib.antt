@@ -1,4 +1,5 @@
 pub mod Changing
+pub mod Constraints
 pub mod Cursors
 pub mod Definition
 pub mod Evaluator

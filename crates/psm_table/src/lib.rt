@@ -1,6 +1,7 @@
 //! Tables in memory: lists of rows in ascending order of their primary keys (ISO/IEC 9075:1992, 4.10).
 #![tactic(auto)]
 
+mod constraints;
 mod definition;
 mod fault;
 mod index;
@@ -15,6 +16,7 @@ mod runs;
 mod table;
 mod walk;
 
+pub use constraints::ForeignKeys;
 pub use definition::{Column, ForeignKey, TableDef};
 pub use fault::RowFault;
 pub use key::{Key, Parts};
