@@ -128,33 +128,33 @@ module _ (tables : List (List Row)) (t : ℕ) (columns : List ℕ) (left new : L
   four false b c d = refl
 
   -- all constraints
-  pub all_tested : (keys : List ForeignKey) → are_keyed keys tables ≡ true → are_keyed keys after ≡ (list_all (refers_early tables t own new) keys && list_all (holds_late t own adds after) keys)
+  pub all_tested : (constraints : List ForeignKey) → are_keyed constraints tables ≡ true → are_keyed constraints after ≡ (list_all (refers_early tables t own new) constraints && list_all (holds_late t own adds after) constraints)
   all_tested [] h = refl
-  all_tested (key ∷ keys) h =
-      ap (λ b. b && are_keyed keys after) (one_tested key (first_true (is_keyed tables key) (are_keyed keys tables) h))
-      ∙ ap (λ b. (refers_early tables t own new key && holds_late t own adds after key) && b) (all_tested keys (second_true (is_keyed tables key) (are_keyed keys tables) h))
-      ∙ four (refers_early tables t own new key) (holds_late t own adds after key) (list_all (refers_early tables t own new) keys) (list_all (holds_late t own adds after) keys)
+  all_tested (key ∷ constraints) h =
+      ap (λ b. b && are_keyed constraints after) (one_tested key (first_true (is_keyed tables key) (are_keyed constraints tables) h))
+      ∙ ap (λ b. (refers_early tables t own new key && holds_late t own adds after key) && b) (all_tested constraints (second_true (is_keyed tables key) (are_keyed constraints tables) h))
+      ∙ four (refers_early tables t own new key) (holds_late t own adds after key) (list_all (refers_early tables t own new) constraints) (list_all (holds_late t own adds after) constraints)
 
 -- none of them is tested late
-pub none_late : (t : ℕ) (own : Option (List ℕ)) (adds : Bool) (tables : List (List Row)) (keys : List ForeignKey) → list_any (is_late t own adds) keys ≡ false → list_all (holds_late t own adds tables) keys ≡ true
+pub none_late : (t : ℕ) (own : Option (List ℕ)) (adds : Bool) (tables : List (List Row)) (constraints : List ForeignKey) → list_any (is_late t own adds) constraints ≡ false → list_all (holds_late t own adds tables) constraints ≡ true
 none_late t own adds tables [] h = refl
-none_late t own adds tables (key ∷ keys) h = by (is_late t own adds key) (none_late t own adds tables keys) h where
-  by : (b : Bool) → (list_any (is_late t own adds) keys ≡ false → list_all (holds_late t own adds tables) keys ≡ true) → (b || list_any (is_late t own adds) keys) ≡ false
-      → ((if b then is_keyed tables key else true) && list_all (holds_late t own adds tables) keys) ≡ true
+none_late t own adds tables (key ∷ constraints) h = by (is_late t own adds key) (none_late t own adds tables constraints) h where
+  by : (b : Bool) → (list_any (is_late t own adds) constraints ≡ false → list_all (holds_late t own adds tables) constraints ≡ true) → (b || list_any (is_late t own adds) constraints) ≡ false
+      → ((if b then is_keyed tables key else true) && list_all (holds_late t own adds tables) constraints) ≡ true
   by true k e = cc
   by false k e = k e
 
 -- no row is new
-pub none_early : (tables : List (List Row)) (t : ℕ) (own : Option (List ℕ)) (keys : List ForeignKey) → list_all (refers_early tables t own []) keys ≡ true
+pub none_early : (tables : List (List Row)) (t : ℕ) (own : Option (List ℕ)) (constraints : List ForeignKey) → list_all (refers_early tables t own []) constraints ≡ true
 none_early tables t own [] = refl
-none_early tables t own (key ∷ keys) = both (refers_early tables t own [] key) (list_all (refers_early tables t own []) keys) (by (nat_eq key.from t && (not (nat_eq key.to t) || stays own key))) (none_early tables t own keys) where
+none_early tables t own (key ∷ constraints) = both (refers_early tables t own [] key) (list_all (refers_early tables t own []) constraints) (by (nat_eq key.from t && (not (nat_eq key.to t) || stays own key))) (none_early tables t own constraints) where
   by : (b : Bool) → (if b then true else true) ≡ true
   by true = refl
   by false = refl
 
 -- what is tested where some values stay is more than what is tested where none is known to
-pub early_alone : (tables : List (List Row)) (t : ℕ) (own : Option (List ℕ)) (new : List Row) (keys : List ForeignKey) → list_all (refers_early tables t own new) keys ≡ true → list_all (refers_early tables t None new) keys ≡ true
-early_alone tables t own new keys = all_so (refers_early tables t own new) (refers_early tables t None new) (λ key. by (nat_eq key.from t) (nat_eq key.to t) (stays own key) (list_all (is_referred key.columns key.target (rows_at tables key.to)) new)) keys where
+pub early_alone : (tables : List (List Row)) (t : ℕ) (own : Option (List ℕ)) (new : List Row) (constraints : List ForeignKey) → list_all (refers_early tables t own new) constraints ≡ true → list_all (refers_early tables t None new) constraints ≡ true
+early_alone tables t own new constraints = all_so (refers_early tables t own new) (refers_early tables t None new) (λ key. by (nat_eq key.from t) (nat_eq key.to t) (stays own key) (list_all (is_referred key.columns key.target (rows_at tables key.to)) new)) constraints where
   by : (from to st o : Bool) → (if from && (not to || st) then o else true) ≡ true → (if from && (not to || false) then o else true) ≡ true
   by true true st o e = refl
   by true false st o e = e
@@ -194,14 +194,14 @@ module _ (f : Contents → Contents) (same : (c : Contents) → (f c).def ≡ c.
   rows_after c g = ap rows_in e ∙ ap rows_in (changed_is f old t c g) ∙ rows_set old t (f c)
 
   -- what a test of the new tables tells
-  pub tested : (adds : Bool) (keys : List ForeignKey) (may : Contents → Bool) (r : Result Bool AllocError) → IfOk r (λ b. b ≡ list_all (holds_late t None adds (rows_in new)) keys) → IfSome (slice_get old t) (λ c. true ≡ may c)
-      → IfSome (slice_get old t) (λ c. IfOk r (λ b. b ≡ (may c && list_all (holds_late t None adds (slice_set (rows_in old) t (f c).rows)) keys)))
-  tested adds keys may r h g = by (slice_get old t) refl g where
-    by : (o : Option Contents) → slice_get old t ≡ o → IfSome o (λ c. true ≡ may c) → IfSome o (λ c. IfOk r (λ b. b ≡ (may c && list_all (holds_late t None adds (slice_set (rows_in old) t (f c).rows)) keys)))
+  pub tested : (adds : Bool) (constraints : List ForeignKey) (may : Contents → Bool) (r : Result Bool AllocError) → IfOk r (λ b. b ≡ list_all (holds_late t None adds (rows_in new)) constraints) → IfSome (slice_get old t) (λ c. true ≡ may c)
+      → IfSome (slice_get old t) (λ c. IfOk r (λ b. b ≡ (may c && list_all (holds_late t None adds (slice_set (rows_in old) t (f c).rows)) constraints)))
+  tested adds constraints may r h g = by (slice_get old t) refl g where
+    by : (o : Option Contents) → slice_get old t ≡ o → IfSome o (λ c. true ≡ may c) → IfSome o (λ c. IfOk r (λ b. b ≡ (may c && list_all (holds_late t None adds (slice_set (rows_in old) t (f c).rows)) constraints)))
     by None i g = tt
     by (Some c) i g =
-        subst (λ m. IfOk r (λ b. b ≡ (m && list_all (holds_late t None adds (slice_set (rows_in old) t (f c).rows)) keys))) g
-        (subst (λ l. IfOk r (λ b. b ≡ list_all (holds_late t None adds l) keys)) (rows_after c i) h)
+        subst (λ m. IfOk r (λ b. b ≡ (m && list_all (holds_late t None adds (slice_set (rows_in old) t (f c).rows)) constraints))) g
+        (subst (λ l. IfOk r (λ b. b ≡ list_all (holds_late t None adds l) constraints)) (rows_after c i) h)
 
 -- ---- statements
 
@@ -344,7 +344,7 @@ columns_there tables n columns c here h =
     let same : h.0 ≡ c.def = cc in
     subst (λ (def : TableDef). All (λ i. i < length def.columns) columns) same h.2
 
--- the rows of the table that refers have the columns
+-- the rows of the referencing table have the columns
 pub row_columns : (tables : List Contents) (t : ℕ) (key : ForeignKey) (rows : List Row) → IsKeyOf (defs_in tables) key → key.from ≡ t → IfSome (slice_get tables t) (λ c. All (IsWhole c.def) rows) → All (λ row. AreColumnsOf row key.columns) rows
 row_columns tables t key rows h e w = by (slice_get tables key.from) refl (subst (λ n. IfSome (slice_get tables n) (λ c. All (IsWhole c.def) rows)) (sym e) w) where
   by : (o : Option Contents) → slice_get tables key.from ≡ o → IfSome o (λ c. All (IsWhole c.def) rows) → All (λ row. AreColumnsOf row key.columns) rows

@@ -27,11 +27,11 @@ rows_in_order (row ∷ rows) xs c e up f =
     ∙ ap (in_order c.def.key) (append_assoc xs (row ∷ []) rows)
 
 -- what holds of all rows holds of those that are left
-all-filter : (p q : Row → Bool) (rows : List Row) → list_all p rows ≡ true → list_all p (filter q rows) ≡ true
+pub all-filter : {X : Type 0} (p q : X → Bool) (xs : List X) → list_all p xs ≡ true → list_all p (filter q xs) ≡ true
 all-filter p q [] h = refl
-all-filter p q (row ∷ rows) h = by (q row) (all-filter p q rows (second_true (p row) (list_all p rows) h)) where
-  by : (b : Bool) → list_all p (filter q rows) ≡ true → list_all p (if b then row ∷ filter q rows else filter q rows) ≡ true
-  by true k = both (p row) (list_all p (filter q rows)) (first_true (p row) (list_all p rows) h) k
+all-filter p q (x ∷ xs) h = by (q x) (all-filter p q xs (second_true (p x) (list_all p xs) h)) where
+  by : (b : Bool) → list_all p (filter q xs) ≡ true → list_all p (if b then x ∷ filter q xs else filter q xs) ≡ true
+  by true k = both (p x) (list_all p (filter q xs)) (first_true (p x) (list_all p xs) h) k
   by false k = k
 
 pub all-left : (p : Row → Bool) (columns : List ℕ) (keys : List (List Datum)) (rows : List Row) → list_all p rows ≡ true → list_all p (without_all columns keys rows) ≡ true

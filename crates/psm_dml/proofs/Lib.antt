@@ -13,6 +13,7 @@ pub mod KeyValues
 pub mod Leftover
 pub mod Matching
 pub mod Moved
+pub mod NamedConstraints
 pub mod Placed
 pub mod Places
 pub mod Planned

@@ -17,7 +17,7 @@ use crate::keying::erase_keyed;
 use psm_cond::DataFault;
 use psm_exprcode::ExprCode;
 use psm_store::{Key, Store};
-use psm_table::ForeignKey;
+use psm_table::ForeignKeys;
 use psm_tablecode::raised;
 use psm_value::Datum;
 use std::alloc::Global;
@@ -35,7 +35,7 @@ pub fn delete<S: Store>(
     alloc: Global,
     store: &mut S,
     t: u32,
-    constraints: &[ForeignKey],
+    constraints: &ForeignKeys,
     test: Option<&ExprCode>,
     vars: &[Datum],
 ) -> Result<u32, DataFault>
@@ -70,7 +70,7 @@ pub fn delete_at<S: Store>(
     alloc: Global,
     store: &mut S,
     t: u32,
-    constraints: &[ForeignKey],
+    constraints: &ForeignKeys,
     key: &Key,
 ) -> Result<(), DataFault>
     requires exists { t < length (S.tables store.old) }

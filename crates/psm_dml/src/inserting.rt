@@ -14,7 +14,7 @@ use psm_cond::DataFault;
 use psm_exprcode::ExprCode;
 use psm_sqlstate::SqlState;
 use psm_store::{Row, Store};
-use psm_table::ForeignKey;
+use psm_table::ForeignKeys;
 use psm_tablecode::raised;
 use std::alloc::Global;
 
@@ -34,7 +34,7 @@ pub fn insert<S: Store>(
     store: &mut S,
     t: u32,
     checks: &[ExprCode],
-    constraints: &[ForeignKey],
+    constraints: &ForeignKeys,
     rows: Vec<Row>,
 ) -> Result<u32, DataFault>
     requires exists { t < length (S.tables store.old) }

@@ -20,13 +20,34 @@ use crate::changing::change_rows;
 use crate::lookups::{hold_late, is_late, refer_early};
 use crate::seeking::seek;
 use psm_store::{Key, Row, Store, Table, put_back};
-use psm_table::{ForeignKey, List};
+use psm_table::{ForeignKey, ForeignKeys, List};
 use std::alloc::{AllocError, Global};
 
 /// Takes the rows of some keys out of a table and puts rows in, if these keep the rules there and all FOREIGN KEY
 /// constraints hold with them. `false` comes exactly where that isn't so. Then, and where memory runs out, the tables are
 /// as before.
 pub(crate) fn replace_keyed<S: Store>(
+    alloc: Global,
+    store: &mut S,
+    t: u32,
+    constraints: &ForeignKeys,
+    keys: &[Key],
+    rows: Vec<Row>,
+) -> Result<bool, AllocError>
+    requires takes { TakesRows (S.tables store.old) t keys.now rows.items }
+    requires constraints { All (IsKeyOf (defs_in (S.tables store.old))) constraints.now }
+    requires lawful { are_keyed constraints.now (rows_in (S.tables store.old)) ≡ true }
+    requires room { S.marks store.old < most_marks }
+    ensures answer { IfSome (slice_get (S.tables store.old) t) (λ c. IfOk result (λ b. b ≡ replaces constraints.now (S.tables store.old) t keys.now rows.items c)) }
+    ensures tables { S.tables store.new ≡ changed_if result (λ c. with_rows rows.items (without_keys keys.now c)) (S.tables store.old) t }
+    ensures marks { S.marks store.new ≡ S.marks store.old }
+    ensures keeps { Keeps AnyMark (S.holds store.old) (S.at store.old) (S.holds store.new) (S.at store.new) }
+{
+    replace_under(alloc, store, t, constraints.of(t), keys, rows)
+}
+
+// The same under some constraints that held.
+fn replace_under<S: Store>(
     alloc: Global,
     store: &mut S,
     t: u32,
@@ -113,6 +134,27 @@ pub(crate) fn erase_keyed<S: Store>(
     alloc: Global,
     store: &mut S,
     t: u32,
+    constraints: &ForeignKeys,
+    keys: &[Key],
+) -> Result<bool, AllocError>
+    requires exists { t < length (S.tables store.old) }
+    requires fit { IfSome (slice_get (S.tables store.old) t) (λ c. All (IsKey c.def) keys.now) }
+    requires constraints { All (IsKeyOf (defs_in (S.tables store.old))) constraints.now }
+    requires lawful { are_keyed constraints.now (rows_in (S.tables store.old)) ≡ true }
+    requires room { S.marks store.old < most_marks }
+    ensures answer { IfSome (slice_get (S.tables store.old) t) (λ c. IfOk result (λ b. b ≡ are_keyed_with constraints.now (rows_in (S.tables store.old)) t (without_keys keys.now c).rows)) }
+    ensures tables { S.tables store.new ≡ changed_if result (without_keys keys.now) (S.tables store.old) t }
+    ensures marks { S.marks store.new ≡ S.marks store.old }
+    ensures keeps { Keeps AnyMark (S.holds store.old) (S.at store.old) (S.holds store.new) (S.at store.new) }
+{
+    erase_under(alloc, store, t, constraints.of(t), keys)
+}
+
+// The same under some constraints that held.
+fn erase_under<S: Store>(
+    alloc: Global,
+    store: &mut S,
+    t: u32,
     constraints: &[ForeignKey],
     keys: &[Key],
 ) -> Result<bool, AllocError>
@@ -138,6 +180,28 @@ pub(crate) fn erase_keyed<S: Store>(
 /// KEY constraints hold with them. `false` comes exactly where that isn't so. Then, and where memory runs out, the tables are
 /// as before.
 pub(crate) fn change_keyed<S: Store>(
+    alloc: Global,
+    store: &mut S,
+    t: u32,
+    constraints: &ForeignKeys,
+    rows: Vec<Row>,
+) -> Result<bool, AllocError>
+    requires exists { t < length (S.tables store.old) }
+    requires places { IfSome (slice_get (S.tables store.old) t) (λ c. AreInPlace c rows.items) }
+    requires rules { IfSome (slice_get (S.tables store.old) t) (λ c. keep_rules c.def (without_keys (keys_of_rows c.def rows.items) c).rows ≡ true) }
+    requires constraints { All (IsKeyOf (defs_in (S.tables store.old))) constraints.now }
+    requires lawful { are_keyed constraints.now (rows_in (S.tables store.old)) ≡ true }
+    requires room { S.marks store.old < most_marks }
+    ensures answer { IfSome (slice_get (S.tables store.old) t) (λ c. IfOk result (λ b. b ≡ changes_all constraints.now (S.tables store.old) t rows.items c)) }
+    ensures tables { S.tables store.new ≡ changed_if result (with_rows rows.items) (S.tables store.old) t }
+    ensures marks { S.marks store.new ≡ S.marks store.old }
+    ensures keeps { Keeps AnyMark (S.holds store.old) (S.at store.old) (S.holds store.new) (S.at store.new) }
+{
+    change_under(alloc, store, t, constraints.of(t), rows)
+}
+
+// The same under some constraints that held.
+fn change_under<S: Store>(
     alloc: Global,
     store: &mut S,
     t: u32,

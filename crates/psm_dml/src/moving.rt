@@ -20,7 +20,7 @@ use crate::setting::set_row;
 use psm_cond::DataFault;
 use psm_exprcode::{ExprCode, SetItem};
 use psm_store::{Key, Row, Store, Table};
-use psm_table::ForeignKey;
+use psm_table::ForeignKeys;
 use psm_tablecode::raised;
 use psm_value::{Datum, ValueFault};
 use std::alloc::Global;
@@ -38,7 +38,7 @@ pub fn update_at<S: Store>(
     store: &mut S,
     t: u32,
     checks: &[ExprCode],
-    constraints: &[ForeignKey],
+    constraints: &ForeignKeys,
     key: &Key,
     sets: &[SetItem],
     vars: &[Datum],

@@ -15,7 +15,7 @@ use crate::planning::{Plan, changes, made_rows, split};
 use psm_cond::DataFault;
 use psm_exprcode::{ExprCode, SetItem};
 use psm_store::Store;
-use psm_table::ForeignKey;
+use psm_table::ForeignKeys;
 use psm_tablecode::raised;
 use psm_value::Datum;
 use std::alloc::Global;
@@ -36,7 +36,7 @@ pub fn update<S: Store>(
     store: &mut S,
     t: u32,
     checks: &[ExprCode],
-    constraints: &[ForeignKey],
+    constraints: &ForeignKeys,
     sets: &[SetItem],
     test: Option<&ExprCode>,
     vars: &[Datum],
@@ -67,7 +67,7 @@ fn update_in_place<S: Store>(
     store: &mut S,
     t: u32,
     checks: &[ExprCode],
-    constraints: &[ForeignKey],
+    constraints: &ForeignKeys,
     sets: &[SetItem],
     test: Option<&ExprCode>,
     vars: &[Datum],
@@ -98,7 +98,7 @@ fn update_anew<S: Store>(
     store: &mut S,
     t: u32,
     checks: &[ExprCode],
-    constraints: &[ForeignKey],
+    constraints: &ForeignKeys,
     sets: &[SetItem],
     test: Option<&ExprCode>,
     vars: &[Datum],
