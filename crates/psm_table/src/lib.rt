@@ -2,6 +2,7 @@
 #![tactic(auto)]
 
 mod constraints;
+mod cut;
 mod definition;
 mod fault;
 mod index;
@@ -17,6 +18,7 @@ mod table;
 mod walk;
 
 pub use constraints::ForeignKeys;
+pub use cut::Cut;
 pub use definition::{Column, ForeignKey, TableDef};
 pub use fault::RowFault;
 pub use key::{Key, Parts};
