@@ -1,6 +1,7 @@
 pub mod AsStored
 pub mod Deleting
 pub mod Leaving
+pub mod Beginnings
 pub mod Checks
 pub mod Counts
 pub mod Entered

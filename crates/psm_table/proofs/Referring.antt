@@ -40,11 +40,11 @@ or_false : (a b : Bool) → a ≡ false → b ≡ false → (a || b) ≡ false
 or_false false b e f = f
 or_false true b e f = cc
 
-filled_none : (values : List Datum) → All (λ (d : Datum). d ≡ Null → ⊥) values → has_null values ≡ false
+pub filled_none : (values : List Datum) → All (λ (d : Datum). d ≡ Null → ⊥) values → has_null values ≡ false
 filled_none [] h = refl
 filled_none (d ∷ ds) h = or_false (is_null d) (has_null ds) (not_null d (All-head (λ (d : Datum). d ≡ Null → ⊥) d ds h)) (filled_none ds (All-tail (λ (d : Datum). d ≡ Null → ⊥) d ds h))
 
-turned_equal : (o : Ordering) → is_eq (ordering_reverse o) ≡ is_eq o
+pub turned_equal : (o : Ordering) → is_eq (ordering_reverse o) ≡ is_eq o
 turned_equal Less = refl
 turned_equal Equal = refl
 turned_equal Greater = refl

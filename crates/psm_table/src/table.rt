@@ -1,4 +1,4 @@
-ghost use Rattle.std.specs.Prelude.{◌≡◌, ◌+◌, ◌≤◌, ◌<◌, ◌↔◌, [], length, None, Some, IsTrue, is_some, true, false, All, IfSome, IfNone, IfOk, if◌then◌else◌};
+ghost use Rattle.std.specs.Prelude.{◌≡◌, ◌+◌, ◌≤◌, ◌<◌, ◌↔◌, [], length, None, Some, IsTrue, is_some, true, false, All, IfSome, IfNone, IfOk, if◌then◌else◌, take};
 ghost use Rattle.std.specs.Option.{option_copied, ForSome};
 ghost use Rattle.psm_table.specs.Cuts.{rows_between};
 ghost use Rattle.psm_table.specs.Definition.{IsDefinition, IsRow, IsKey, HasColumns};
@@ -381,8 +381,8 @@ impl Table {
     }
 
     /// Whether a row has the values in the columns (ISO/IEC 9075:1992, 11.8). By the columns of the key that is one search, by
-    /// those of a UNIQUE list or an index one for each row with the values that the table keeps, and else a walk over the
-    /// rows. It takes no memory.
+    /// those with which the key begins two, by those of a UNIQUE list or an index one for each row with the values that the table
+    /// keeps, and else a walk over the rows. It takes no memory.
     pub fn has(&self, columns: &[u32], values: &[Datum]) -> bool
         requires columns { All (λ c. c < length self.now.contents.def.columns) columns.now }
         requires filled { has_null values.now ≡ false }
@@ -390,6 +390,9 @@ impl Table {
     {
         if columns == self.def.key.items() {
             return self.has_key_of(values);
+        }
+        if values.len() == columns.len() && begins(self.def.key.items(), columns) {
+            return self.has_beginning(columns, values);
         }
         match list_of(self.lists.as_slice(), columns) {
             Some(i) => has_entry_with(&self.def, columns, &self.rows, &self.indexes[i], values),
@@ -403,6 +406,25 @@ impl Table {
         ensures { result ≡ has_values self.now.contents.def.key values.now self.now.contents.rows }
     {
         self.rows.row_at(Probe::Of(values)).is_some()
+    }
+
+    /// Whether a row's key begins with the values.
+    fn has_beginning(&self, columns: &[u32], values: &[Datum]) -> bool
+        requires begin { take (length columns.now) self.now.contents.def.key ≡ columns.now }
+        requires long { length values.now ≡ length columns.now }
+        requires filled { has_null values.now ≡ false }
+        ensures { result ≡ has_values columns.now values.now self.now.contents.rows }
+    {
+        let low = Cut {
+            values,
+            is_behind: false,
+        };
+        let high = Cut {
+            values,
+            is_behind: true,
+        };
+        let mut found = RowsLeft::between(&self.rows, Some(low), Some(high), false);
+        found.next().is_some()
     }
 
     /// The same table in memory of its own.
