@@ -1,10 +1,10 @@
 -- Tables without rows, one of which gets an index.
-use Rattle.std.proofs.Common.{◌≡◌, ℕ, zero, suc, ◌<◌, List, [], ◌∷◌, length, get_or, set, ap, sym, subst, ◌∙◌, refl, arith}
-use Rattle.std.specs.Prelude.{All, map}
+use Rattle.std.proofs.Common.{◌≡◌, ℕ, zero, suc, ◌<◌, List, [], ◌∷◌, length, get_or, set, ap, sym, ◌∙◌, refl, arith}
+use Rattle.std.specs.Prelude.{map}
 use Rattle.std.proofs.lemmas.List.{get_or-map, length-map}
-use Rattle.std.proofs.lemmas.List.Elements.{All-cons, All-nil, All-set}
+use Rattle.std.proofs.lemmas.List.Elements.{All-cons, All-nil}
 use Rattle.psm_table.specs.declared.definition.TableDef.{TableDef}
-use Rattle.psm_table.specs.State.{IsTidy, State}
+use Rattle.psm_table.specs.State.{State}
 use Rattle.psm_table.specs.Table.{empty_table, Contents}
 use Rattle.psm_store.specs.Kept.{contents_of, AreEmpty}
 
@@ -18,9 +18,6 @@ module _ (states : List State) (t : ℕ) (x : State) (inside : t < length states
       ap (λ (y : State). y.contents.rows) at
       ∙ sym (ap (λ (c : Contents). c.rows) (get_or-map (λ (y : State). y.contents) states t x x.contents inside))
       ∙ h t x.contents (omega (arith, inside, length-map states (λ (y : State). y.contents)))
-
-  pub tidy-kept : (s : State) → (IsTidy x → IsTidy s) → All IsTidy states → All IsTidy (set states t s)
-  tidy-kept s f h = All-set IsTidy states t s (f (subst IsTidy (sym at) (h t x inside))) h
 
 -- what is in the tables stays where it stays in the one that is set
 pub contents-kept : (states : List State) (t : ℕ) (x s : State) → t < length states → x ≡ get_or states t x → s.contents ≡ x.contents → contents_of (set states t s) ≡ contents_of states
