@@ -49,7 +49,7 @@ replace_tested-requires-clause-takes g c =
     let t : Contents = c.table-table.result.now.contents in
     let rows : List (List Datum) = c.args.rows.items in
     let places = there (λ x. AreInPlace x rows) (slice_get old c.args.t) t c.table-table.ensures c.requires.places in
-    let keys : c.items.result.now ≡ keys_of_rows t.def rows = c.items.ensures ∙ c.in_ok-keys.ensures.keys ∙ ap (keys_of_rows t.def) c.as_slice-keys.ensures.value in
+    let keys : c.items.result.now ≡ keys_of_rows t.def rows = c.items.ensures ∙ c.in_ok-keys.ensures.keys ∙ ap (keys_of_rows t.def) c.as_slice-2.ensures.value in
     subst (λ (ks : List (List Datum)). TakesRows old c.args.t ks rows) (sym keys) (taken_in_place old c.args.t t c.table-table.ensures c.requires.exists rows places)
 
 pub returns-clause-answer : goal.returns-clause-answer
@@ -63,7 +63,7 @@ returns-clause-answer g c =
     let early : list_all (refers_early (rows_in old) c.args.t (Some t.def.key) rows) c.args.constraints.now ≡ true =
     ap (λ (k : List ℕ). list_all (refers_early (rows_in old) c.args.t (Some k) rows) c.args.constraints.now) (sym own)
     ∙ ap (λ (l : List (List Datum)). list_all (refers_early (rows_in old) c.args.t (Some c.items-own.result.now) l) c.args.constraints.now) (sym c.as_slice.ensures.value) ∙ sym c.in_ok-refer_early.ensures ∙ c.if-not-branch.false in
-    let keys : c.items.result.now ≡ keys_of_rows t.def rows = c.items.ensures ∙ c.in_ok-keys.ensures.keys ∙ ap (keys_of_rows t.def) c.as_slice-keys.ensures.value in
+    let keys : c.items.result.now ≡ keys_of_rows t.def rows = c.items.ensures ∙ c.in_ok-keys.ensures.keys ∙ ap (keys_of_rows t.def) c.as_slice-2.ensures.value in
     for_test (replaces_late c.args.constraints.now old c.args.t c.items.result.now rows) (changes_all c.args.constraints.now old c.args.t rows) c.replace_tested.result old c.args.t t c.table-table.ensures
     (ap (λ (ks : List (List Datum)). replaces_late c.args.constraints.now old c.args.t ks rows t) keys
     ∙ changed_anew c.args.constraints.now old c.args.t t c.table-table.ensures c.ascends.ensures c.requires.lawful rows places rules early)
@@ -75,7 +75,7 @@ returns-clause-tables g c =
     let t : Contents = c.table-table.result.now.contents in
     let rows : List (List Datum) = c.args.rows.items in
     let places = there (λ x. AreInPlace x rows) (slice_get old c.args.t) t c.table-table.ensures c.requires.places in
-    let keys : c.items.result.now ≡ keys_of_rows t.def rows = c.items.ensures ∙ c.in_ok-keys.ensures.keys ∙ ap (keys_of_rows t.def) c.as_slice-keys.ensures.value in
+    let keys : c.items.result.now ≡ keys_of_rows t.def rows = c.items.ensures ∙ c.in_ok-keys.ensures.keys ∙ ap (keys_of_rows t.def) c.as_slice-2.ensures.value in
     c.replace_tested.ensures.tables
     ∙ ap (λ (ks : List (List Datum)). changed_if c.replace_tested.result (λ x. with_rows rows (without_keys ks x)) old c.args.t) keys
     ∙ tables_in_place rows old c.args.t t c.table-table.ensures places.ascend c.replace_tested.result
