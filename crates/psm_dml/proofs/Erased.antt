@@ -1,6 +1,6 @@
 -- How DELETE from a legal table ends: what is left keeps the rules of the table, so FOREIGN KEY constraints alone can fail.
-use Rattle.std.proofs.Common.{◌≡◌, ℕ, List, [], ◌∷◌, Bool, true, false, refl, ap, sym, subst, ◌∙◌, Option, Some, Result, Ok, Err}
-use Rattle.std.specs.Prelude.{codes, slice_get, slice_set}
+use Rattle.std.proofs.Common.{◌≡◌, ℕ, List, [], Bool, true, false, refl, ap, sym, subst, ◌∙◌, Option, Some, Result, Ok, Err}
+use Rattle.std.specs.Prelude.{codes, slice_get}
 use Rattle.psm_cond.specs.Condition.{Entries}
 use Rattle.psm_cond.specs.declared.fault.DataFault.{DataFault}
 use Rattle.psm_cond.specs.declared.fault.DataFault.TheVariants as told_as
@@ -18,8 +18,7 @@ use Rattle.psm_table.proofs.Leaving.{deleted_at_legally}
 use Rattle.psm_table.proofs.Legal.{legal_alone}
 use Rattle.psm_tablecode.specs.Codes.{over}
 use Rattle.psm_store.specs.RowCalls.{changed_at}
-use Rattle.psm_dml.specs.Ends.{keyed_schema, schema_of, Bears, Ends, EndsErased, ErasesByRules, IsDue}
-use Rattle.psm_dml.specs.Rows.{changed_if, without_all, without_keys}
+use Rattle.psm_dml.specs.Ends.{keyed_schema, schema_of, Bears, ErasesByRules, IsDue}
 use Rattle.psm_dml.proofs.Effects.{changed_is}
 
 -- a condition that is due of the table

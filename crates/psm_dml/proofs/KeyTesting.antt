@@ -35,7 +35,6 @@ use Rattle.psm_dml.proofs.Finishing.{and_where, ascending-all}
 use Rattle.psm_dml.proofs.KeyValues.{all_so, keyed_by_values, keys_stay, left_or_found}
 use Rattle.psm_dml.proofs.Leftover.{all-left, rows_in_order}
 use Rattle.psm_dml.proofs.Places.{in_place, in_place_fits, in_place_may}
-use Rattle.psm_dml.proofs.Putting.{with_rows-def}
 
 abbrev Row : Type 0
 Row = List Datum

@@ -1,6 +1,6 @@
 -- FOREIGN KEY constraints that refer to a table, tested after its rows have changed by the values of those that went and came.
 use Rattle.std.proofs.Common.{◌≡◌, ◌<◌, ◌+◌, ℕ, suc, List, [], ◌∷◌, ◌++◌, Bool, true, false, not, ◌&&◌, ◌||◌, get_or, set, take, length, arith, refl, ap, sym, subst, ◌∙◌, inl, inr, Option, Some, None}
-use Rattle.std.specs.Prelude.{◌≢◌, All, IsSome, cond, filter, find, map, nat_eq, slice_get, slice_set, if◌then◌else◌}
+use Rattle.std.specs.Prelude.{◌≢◌, All, IsSome, cond, find, map, slice_set, if◌then◌else◌}
 use Rattle.std.specs.List.{cons_option, list_all, list_any}
 use Rattle.std.specs.Ordering.{is_eq, is_gt, is_lt, ordering_reverse}
 use Rattle.std.specs.declared.cmp.Ordering.{Ordering}
@@ -21,12 +21,11 @@ use Rattle.psm_table.specs.Definition.{IsRow}
 use Rattle.psm_table.specs.Rows.{row_with, rows_above, rows_below, without, IsAscending}
 use Rattle.psm_table.specs.Table.{namesake, Contents, IsTable}
 use Rattle.psm_table.specs.Unique.{equal_values, has_null, is_null}
-use Rattle.psm_table.proofs.Filters.{equal_is, find_passes, AllPairs-first, AllPairs-rest}
+use Rattle.psm_table.proofs.Filters.{equal_is, find_passes, AllPairs-rest}
 use Rattle.psm_table.proofs.KeyLaws.{key_order-total}
 use Rattle.psm_table.proofs.Keying.{any-in_order}
 use Rattle.psm_table.proofs.Rules.{all-in_order, both, first_true, second_true}
 use Rattle.psm_table.proofs.Undo.{after_equal}
-use Rattle.psm_dml.specs.declared.seeking.Sought.{Sought}
 use Rattle.psm_dml.specs.KeyTests.{by_values, found_in, is_found, is_there, values_new}
 use Rattle.psm_dml.specs.Rows.{keys_of_rows, without_all, without_keys, AreInPlace}
 use Rattle.psm_dml.proofs.Leftover.{all-left}

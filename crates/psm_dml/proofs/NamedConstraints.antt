@@ -1,6 +1,6 @@
 -- The constraints that name a table are all that a statement on it has to test: the others hold as before.
 use Rattle.std.proofs.Common.{◌≡◌, ℕ, List, [], ◌∷◌, Bool, true, false, ◌&&◌, ◌||◌, refl, ap, sym, subst, ◌∙◌, inl, inr, Option, Some, None, Result}
-use Rattle.std.specs.Prelude.{IfOk, IfSome, filter, nat_eq, slice_get, slice_set, if◌then◌else◌}
+use Rattle.std.specs.Prelude.{IfOk, IfSome, filter, nat_eq, slice_set, if◌then◌else◌}
 use Rattle.std.specs.List.{list_all}
 use Rattle.std.specs.declared.alloc.AllocError.{AllocError}
 use Rattle.std.proofs.lemmas.Bool.Decides.{eqb_tells}
