@@ -6,7 +6,7 @@ use Rattle.psm_tablecode.specs.RemainingRows.{rows_coming}
 use Rattle.psm_query.specs.Gathered.{nothing, AreUpTo}
 use Rattle.psm_tablecode.specs.Rows.{values_for}
 use Rattle.psm_query.proofs.WalkLaws.{Goes}
-use Rattle.psm_query.proofs.gathering.Gathering.of_rows.Given as goal
+use Rattle.psm_query.proofs.gathering.Gathering.of_walk.Given as goal
 
 abbrev pub invariant-loop-at : goal.invariant-loop-at
 invariant-loop-at l = record {
