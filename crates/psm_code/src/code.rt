@@ -4,7 +4,7 @@ use crate::lines::Lines;
 use psm_cond::HandlerTable;
 use psm_exprcode::{ExprCode, Query, SetItem};
 use psm_list::List;
-use psm_table::{ForeignKey, TableDef};
+use psm_table::{ForeignKeys, TableDef};
 use psm_text::Name;
 use psm_value::SqlType;
 
@@ -101,6 +101,6 @@ pub struct RawRoutine {
 pub struct RawCode {
     pub tables: List<CodeTable>,
     /// The FOREIGN KEY constraints of all tables, in the order of the tables that refer.
-    pub keys: List<ForeignKey>,
+    pub keys: ForeignKeys,
     pub routines: List<RawRoutine>,
 }

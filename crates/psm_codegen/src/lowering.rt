@@ -17,7 +17,7 @@ use psm_code::{Instruction, Parameter, ParameterMode as Mode, RawCode, RawRoutin
 use psm_cond::Declared;
 use psm_list::List;
 use psm_resolved::{ParameterMode, ResolvedFile, ResolvedParameter, ResolvedRoutine};
-use psm_table::ForeignKey;
+use psm_table::{ForeignKey, ForeignKeys};
 use psm_text::Name;
 use psm_value::SqlType;
 use std::alloc::{AllocError, Global};
@@ -40,14 +40,14 @@ pub fn lower(alloc: Global, file: &ResolvedFile) -> Result<RawCode, AllocError>
     })
 }
 
-fn keys_code(alloc: Global, keys: &[ForeignKey]) -> Result<List<ForeignKey>, AllocError>
+fn keys_code(alloc: Global, keys: &[ForeignKey]) -> Result<ForeignKeys, AllocError>
     ensures { IfOk result (λ copy. copy ≡ keys.now) }
 {
     let mut copy = Vec::new(alloc);
     for key in keys {
         copy.push(key.copy(alloc)?)?;
     }
-    Ok(List::of(copy))
+    ForeignKeys::new(alloc, List::of(copy))
 }
 
 fn routines_code(alloc: Global, file: &ResolvedFile) -> Result<List<RawRoutine>, AllocError>

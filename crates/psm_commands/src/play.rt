@@ -52,5 +52,5 @@ pub(crate) fn empty_store(alloc: Global, code: &Code) -> Result<UndoStore, Alloc
     ensures marks { IfOk result (λ s. s.marks ≡ 0) }
 {
     let defs = definitions_of(alloc, code)?;
-    UndoStore::new(alloc, defs)
+    UndoStore::new(alloc, defs, code.keys.items())
 }

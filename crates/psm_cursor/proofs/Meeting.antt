@@ -1,6 +1,7 @@
 -- The first row that meets a test, of those after a key.
-use Rattle.std.proofs.Common.{◌≡◌, Bool, true, false, List, ◌∷◌, ap, Option, Some, Result, Ok, Err}
-use Rattle.std.specs.Prelude.{IfSome, if◌then◌else◌}
+use Rattle.std.proofs.Common.{◌≡◌, Bool, true, false, List, [], ◌∷◌, ap, sym, subst, ◌∙◌, Option, Some, None, Result, Ok, Err}
+use Rattle.std.specs.Prelude.{All, if◌then◌else◌}
+use Rattle.std.proofs.lemmas.List.Elements.{All-head, All-tail}
 use Rattle.psm_sqlstate.specs.declared.state.SqlState.{SqlState}
 use Rattle.psm_value.specs.Answer.{Gives}
 use Rattle.psm_value.specs.declared.datum.Datum.{Datum}
@@ -13,12 +14,11 @@ use Rattle.psm_table.specs.Evaluator.{and_then, mapped}
 use Rattle.psm_table.specs.Queries.{is_met}
 use Rattle.psm_table.specs.Table.{Contents}
 use Rattle.psm_cursor.specs.Fetching.{Finds}
-use Rattle.psm_cursor.specs.Walking.{rows_onward}
 
--- no row before the next one meets the test
-pub record Meeting (t : Contents) (test : List Datum → Result Truth SqlState) (downward : Bool) (bound next : Option (List Datum)) : Type 0 where
-  pub same : first_met test (rows_onward t.def.key downward t.rows next) ≡ first_met test (rows_past t.def.key downward bound t.rows)
-  pub fits : IfSome next (IsRow t.def)
+-- no row before those that are left meets the test
+pub record Meeting (t : Contents) (test : List Datum → Result Truth SqlState) (downward : Bool) (bound : Option (List Datum)) (left : List (List Datum)) : Type 0 where
+  pub same : first_met test left ≡ first_met test (rows_past t.def.key downward bound t.rows)
+  pub fit : All (IsRow t.def) left
 
 module _ (test : List Datum → Result Truth SqlState) (row : List Datum) (rows : List (List Datum)) where
   found_of : (r : Result Truth SqlState) (b : Bool) → mapped is_met r ≡ Ok b → and_then r (λ met. if is_met met then Ok (Some row) else first_met test rows) ≡ (if b then Ok (Some row) else first_met test rows)
@@ -39,3 +39,30 @@ module _ (test : List Datum → Result Truth SqlState) (row : List Datum) (rows 
   pub found_fault : (fault : ValueFault) → Gives (mapped is_met (test row)) (Err fault) → Finds (first_met test (row ∷ rows)) (Err fault)
   found_fault (Condition s) e = raised (test row) s e
   found_fault Memory e = tt
+
+module _ (t : Contents) (test : List Datum → Result Truth SqlState) (downward : Bool) (bound : Option (List Datum)) (rows : List (List Datum)) (m : Meeting t test downward bound rows) where
+  abbrev due : Result (Option (List Datum)) SqlState
+  due = first_met test (rows_past t.def.key downward bound t.rows)
+
+  -- without a row no row meets it
+  pub meets_none : rows ≡ [] → due ≡ Ok None
+  meets_none e = sym m.same ∙ ap (first_met test) e
+
+  module _ (row : List Datum) (left : List (List Datum)) (here : rows ≡ row ∷ left) where
+    next : first_met test (row ∷ left) ≡ due
+    next = sym (ap (first_met test) here) ∙ m.same
+
+    fit : All (IsRow t.def) (row ∷ left)
+    fit = subst (All (IsRow t.def)) here m.fit
+
+    pub next_fits : IsRow t.def row
+    next_fits = All-head (IsRow t.def) row left fit
+
+    pub meets_next : mapped is_met (test row) ≡ Ok true → due ≡ Ok (Some row)
+    meets_next e = sym next ∙ found test row left e
+
+    pub passes_next : mapped is_met (test row) ≡ Ok false → Meeting t test downward bound left
+    passes_next e = record { same = sym (passed test row left e) ∙ next; fit = All-tail (IsRow t.def) row left fit }
+
+    pub meets_fault : (fault : ValueFault) → Gives (mapped is_met (test row)) (Err fault) → Finds due (Err fault)
+    meets_fault fault g = subst (λ (r : Result (Option (List Datum)) SqlState). Finds r (Err fault)) next (found_fault test row left fault g)

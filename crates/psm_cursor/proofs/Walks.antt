@@ -1,35 +1,95 @@
--- The rows after a key, one after another.
-use Rattle.std.proofs.Common.{◌≡◌, ℕ, ◌-◌, Bool, true, false, List, [], ◌∷◌, length, get_or, refl, ap, sym, subst, ◌∙◌, arith, Option, Some, None}
-use Rattle.std.specs.Prelude.{All, AllPairs, cond, filter, reverse, slice_get}
+-- FETCH finds between a key and the edge of a walk what it finds among all rows past the key.
+use Rattle.std.proofs.Common.{◌≡◌, ℕ, Bool, true, false, ◌&&◌, List, [], ◌∷◌, length, arith, refl, ap, sym, ◌∙◌, Option, Some, None, Result, Ok}
+use Rattle.std.specs.Prelude.{IfSome, cond, filter, not, if◌then◌else◌}
 use Rattle.std.specs.Ordering.{is_gt, is_lt, ordering_reverse}
 use Rattle.std.specs.declared.cmp.Ordering.{Ordering}
 use Rattle.std.specs.declared.cmp.Ordering.TheVariants.{Less, Equal, Greater}
-use Rattle.std.proofs.lemmas.List.{get_or-reverse, length-reverse, reverse-append, reverse-reverse}
-use Rattle.std.proofs.lemmas.List.Elements.{All-filter, All-head}
+use Rattle.std.proofs.lemmas.List.{take_all}
+use Rattle.psm_sqlstate.specs.declared.state.SqlState.{SqlState}
 use Rattle.psm_value.specs.declared.datum.Datum.{Datum}
-use Rattle.psm_table.specs.Cursors.{lies_past, rows_past}
+use Rattle.psm_value.specs.declared.truth.Truth.{Truth}
+use Rattle.psm_value.specs.declared.truth.Truth.TheVariants.{True, False, Unknown}
+use Rattle.psm_exprcode.specs.declared.op.Line.{Line}
+use Rattle.psm_table.specs.Cursors.{first_met, lies_past, rows_past}
+use Rattle.psm_table.specs.Cuts as cuts
+use Rattle.psm_table.specs.Definition.{IsKey}
+use Rattle.psm_table.specs.Evaluator.{and_then, mapped, test_of}
 use Rattle.psm_table.specs.Key.{key_order, values_at}
-use Rattle.psm_table.specs.Queries.{in_walk}
-use Rattle.psm_table.specs.Rows.{last_of, row_after, row_before, rows_above, rows_below, IsAscending}
-use Rattle.psm_table.proofs.Filters.{AllPairs-first, AllPairs-rest, filter-whole, greater_is, less_is}
+use Rattle.psm_table.specs.Map.{prefix_order}
+use Rattle.psm_table.specs.Queries.{in_walk, is_met}
+use Rattle.psm_table.specs.Table.{Contents}
 use Rattle.psm_table.proofs.KeyLaws.{key_order-total}
-use Rattle.psm_table.proofs.Searches.{less_before_less, turned_greater, turned_less}
-use Rattle.psm_table.proofs.Walks.{last-append}
+use Rattle.psm_table.proofs.RowOrders.{length-values_at}
+use Rattle.psm_tablecode.specs.Asked.{key_asked, rows_of, walk_by, walk_for}
+use Rattle.psm_tablecode.specs.Bounds.{bounds_asked, bounds_of, is_between, Bounds}
+use Rattle.psm_tablecode.specs.Codes.{over}
+use Rattle.psm_tablecode.specs.Edges.{is_begun, is_not_ended, lies_within}
+use Rattle.psm_tablecode.specs.Tests.{are_quiet}
+use Rattle.psm_tablecode.specs.declared.walking.Edge.{Edge}
+use Rattle.psm_tablecode.specs.declared.walking.Walk.{Walk}
+use Rattle.psm_tablecode.proofs.EdgeLaws.{bounds_reach, lies_between}
+use Rattle.psm_tablecode.proofs.Ranges.{bounds_only, bounds_quiet}
 use Rattle.psm_tablecode.proofs.Stepped.{filter-reverse}
-use Rattle.psm_cursor.specs.Walking.{rows_onward}
+use Rattle.psm_cursor.specs.Walking.{high_edge_past, low_edge_past, walk_past}
+use Rattle.psm_cursor.proofs.Meeting.{passed}
 
--- ---- the first row after a key
+abbrev Test : Type 0
+Test = List Datum → Result Truth SqlState
 
-filter-same : {X : Type 0} (p q : X → Bool) → ((x : X) → p x ≡ q x) → (xs : List X) → filter p xs ≡ filter q xs
-filter-same p q h [] = refl
-filter-same p q h (x ∷ xs) = ap (λ b. cond b (x ∷ filter p xs) (filter p xs)) (h x) ∙ ap (λ l. cond (q x) (x ∷ l) l) (filter-same p q h xs)
+-- ---- rows that don't meet a test
 
-last-reverse : {X : Type 0} (xs : List X) → last_of (reverse xs) ≡ slice_get xs 0
-last-reverse [] = refl
-last-reverse (x ∷ xs) = ap last_of (reverse-append (x ∷ []) xs) ∙ last-append (reverse xs) x
+module _ (test : Test) (p q : List Datum → Bool) (within : (row : List Datum) → q row ≡ true → p row ≡ true)
+    (unmet : (row : List Datum) → p row ≡ true → q row ≡ false → mapped is_met (test row) ≡ Ok false) where
+  kept_first : (row : List Datum) (rows : List (List Datum)) (b c : Bool) → p row ≡ b → q row ≡ c → first_met test (filter q rows) ≡ first_met test (filter p rows)
+      → first_met test (cond c (row ∷ filter q rows) (filter q rows)) ≡ first_met test (cond b (row ∷ filter p rows) (filter p rows))
+  kept_first row rows true true e f h = ap (λ (r : Result (Option (List Datum)) SqlState). and_then (test row) (λ met. if is_met met then Ok (Some row) else r)) h
+  kept_first row rows true false e f h = h ∙ sym (passed test row (filter p rows) (unmet row e f))
+  kept_first row rows false true e f h = let here : p row ≡ true = within row f in cc
+  kept_first row rows false false e f h = h
 
-first-reverse : {X : Type 0} (xs : List X) → slice_get (reverse xs) 0 ≡ last_of xs
-first-reverse xs = sym (last-reverse (reverse xs)) ∙ ap last_of (reverse-reverse xs)
+  -- fewer rows are enough, where those that are left out don't meet the test
+  met-kept : (rows : List (List Datum)) → first_met test (filter q rows) ≡ first_met test (filter p rows)
+  met-kept [] = refl
+  met-kept (row ∷ rows) = kept_first row rows (p row) (q row) refl refl (met-kept rows)
+
+filter-walk : (p : List Datum → Bool) (downward : Bool) (rows : List (List Datum)) → in_walk downward (filter p rows) ≡ filter p (in_walk downward rows)
+filter-walk p true rows = filter-reverse p rows
+filter-walk p false rows = refl
+
+-- ---- rows outside the edges of a walk
+
+unmet_by : (test : Test) (row : List Datum) (b : Bool) (truth : Truth) → test row ≡ Ok truth → (test row ≡ Ok True → b ≡ true) → b ≡ false → mapped is_met (test row) ≡ Ok false
+unmet_by test row b True e only f = let h : b ≡ true = only e in cc
+unmet_by test row b False e only f = ap (mapped is_met) e
+unmet_by test row b Unknown e only f = ap (mapped is_met) e
+
+module _ (t : Contents) (vars : List Datum) (row : List Datum) where
+  abbrev its_key : List Datum
+  its_key = values_at t.def.key row
+
+  abbrev Within : Walk → Bool
+  Within walk = lies_within walk.low walk.high its_key
+
+  outside_bounds : (downward : Bool) (lines : List Line) (b : Bool) → are_quiet lines ≡ b → Within (walk_by downward None (if b then Some (bounds_of t.def.key vars lines) else None)) ≡ false
+      → mapped is_met (test_of (over vars) (Some lines) row) ≡ Ok false
+  outside_bounds downward lines false e f = cc
+  outside_bounds downward lines true e f =
+      let bounds : Bounds = bounds_of t.def.key vars lines in
+      let asks : bounds_asked t.def.key vars (Some lines) ≡ Some bounds = ap (λ (b : Bool). if b then Some (bounds_of t.def.key vars lines) else None) e in
+      let out : is_between t.def.key bounds row ≡ false = sym (lies_between bounds.firsts bounds.low bounds.high its_key (bounds_reach t.def.key vars row lines)) ∙ f in
+      let quiet = bounds_quiet vars t.def.key lines bounds asks row in
+      unmet_by (test_of (over vars) (Some lines)) row (is_between t.def.key bounds row) quiet.0 quiet.1 (bounds_only vars t.def.key lines bounds asks row) out
+
+  outside_of : (walk : Walk) (downward : Bool) (lines : List Line) (o : Option (List Datum)) → walk ≡ walk_by downward o (bounds_asked t.def.key vars (Some lines)) → walk.key ≡ None → Within walk ≡ false
+      → mapped is_met (test_of (over vars) (Some lines) row) ≡ Ok false
+  outside_of walk downward lines None w k e = outside_bounds downward lines (are_quiet lines) refl (sym (ap (λ (x : Walk). Within x) w) ∙ e)
+  outside_of walk downward lines (Some asked) w k e = let none : Some asked ≡ None = sym (ap (λ (x : Walk). x.key) w) ∙ k in cc
+
+  outside : (walk : Walk) (downward : Bool) (test : Option (List Line)) → walk ≡ walk_for t downward vars test → walk.key ≡ None → Within walk ≡ false → mapped is_met (test_of (over vars) test row) ≡ Ok false
+  outside walk downward None w k e = let all : true ≡ false = sym (ap (λ (x : Walk). Within x) w) ∙ e in cc
+  outside walk downward (Some lines) w k e = outside_of walk downward lines (key_asked t.def.key vars (Some lines)) w k e
+
+-- ---- the cut at a key
 
 less-turned : (o : Ordering) → is_lt o ≡ is_gt (ordering_reverse o)
 less-turned Less = refl
@@ -41,110 +101,72 @@ greater-turned Less = refl
 greater-turned Equal = refl
 greater-turned Greater = refl
 
-module _ (key : List ℕ) where
-  past-above : (bound : List Datum) (rows : List (List Datum)) → rows_past key false (Some bound) rows ≡ rows_above key bound rows
-  past-above bound rows =
-      filter-same (λ row. is_lt (key_order bound (values_at key row))) (λ row. is_gt (key_order (values_at key row) bound))
-      (λ row. less-turned (key_order bound (values_at key row)) ∙ sym (ap is_gt (key_order-total.antisymm (values_at key row) bound))) rows
+not-not : (b : Bool) → not (not b) ≡ b
+not-not true = refl
+not-not false = refl
 
-  past-below : (bound : List Datum) (rows : List (List Datum)) → rows_past key true (Some bound) rows ≡ reverse (rows_below key bound rows)
-  past-below bound rows =
-      sym (filter-reverse (λ row. is_gt (key_order bound (values_at key row))) rows)
-      ∙ ap (λ (l : List (List Datum)). reverse l)
-      (filter-same (λ row. is_gt (key_order bound (values_at key row))) (λ row. is_lt (key_order (values_at key row) bound))
-      (λ row. greater-turned (key_order bound (values_at key row)) ∙ sym (ap is_lt (key_order-total.antisymm (values_at key row) bound))) rows)
+module _ (bound key : List Datum) (long : length key ≡ length bound) where
+  whole_order : prefix_order bound key ≡ ordering_reverse (key_order bound key)
+  whole_order = ap (λ (k : List Datum). key_order k bound) (take_all (length bound) key (omega (arith, long))) ∙ key_order-total.antisymm key bound
 
-  past-all : (downward : Bool) (rows : List (List Datum)) → rows_past key downward None rows ≡ in_walk downward rows
-  past-all downward rows = filter-whole (λ (row : List Datum). true) (in_walk downward rows) (λ k d l. refl)
+  -- behind it lie the greater keys, and before it the lesser ones
+  behind_key : cuts.is_past bound true key ≡ is_lt (key_order bound key)
+  behind_key = ap is_gt whole_order ∙ sym (less-turned (key_order bound key))
 
-  first_upward : (bound : Option (List Datum)) (rows : List (List Datum)) → slice_get (rows_past key false bound rows) 0 ≡ row_after key bound rows
-  first_upward None rows = ap (λ (l : List (List Datum)). slice_get l 0) (past-all false rows)
-  first_upward (Some bound) rows = ap (λ (l : List (List Datum)). slice_get l 0) (past-above bound rows)
+  before_key : not (cuts.is_past bound false key) ≡ is_gt (key_order bound key)
+  before_key = not-not (is_lt (prefix_order bound key)) ∙ ap is_lt whole_order ∙ sym (greater-turned (key_order bound key))
 
-  first_downward : (bound : Option (List Datum)) (rows : List (List Datum)) → slice_get (rows_past key true bound rows) 0 ≡ row_before key bound rows
-  first_downward None rows = ap (λ (l : List (List Datum)). slice_get l 0) (past-all true rows) ∙ first-reverse rows
-  first_downward (Some bound) rows = ap (λ (l : List (List Datum)). slice_get l 0) (past-below bound rows) ∙ first-reverse (rows_below key bound rows)
+first_of_both : (a b : Bool) → (a && b) ≡ true → a ≡ true
+first_of_both true b e = refl
+first_of_both false b e = e
 
--- ---- the rows after it
+second_of_both : (a b : Bool) → (a && b) ≡ true → b ≡ true
+second_of_both true b e = e
+second_of_both false b e = cc
 
-module _ (key : List ℕ) (downward : Bool) where
-  -- b lies after a
-  abbrev After : List Datum → List Datum → Type 0
-  After a b = lies_past key downward (Some (values_at key a)) b ≡ true
+-- where two aren't both true and one is, the other isn't, nor with a third
+first_of_none : (a b c : Bool) → b ≡ true → (a && b) ≡ false → (a && c) ≡ false
+first_of_none true b c h e = cc
+first_of_none false b c h e = refl
 
-not_ahead : (key : List ℕ) (downward : Bool) (a b : List Datum) → After key downward a b → lies_past key downward (Some (values_at key b)) a ≡ false
-not_ahead key true a b h =
-    ap is_gt (turned_less (values_at key a) (values_at key b) (greater_is (key_order (values_at key a) (values_at key b)) h))
-not_ahead key false a b h =
-    ap is_lt (turned_greater (values_at key b) (values_at key a) (less_is (key_order (values_at key a) (values_at key b)) h))
+second_of_none : (a b c : Bool) → a ≡ true → (a && b) ≡ false → (c && b) ≡ false
+second_of_none true true c h e = cc
+second_of_none true false true h e = refl
+second_of_none true false false h e = refl
+second_of_none false b c h e = cc
 
-not_itself : (key : List ℕ) (downward : Bool) (a : List Datum) (b : Bool) → lies_past key downward (Some (values_at key a)) a ≡ b → lies_past key downward (Some (values_at key a)) a ≡ false
-not_itself key downward a true e = not_ahead key downward a a e
-not_itself key downward a false e = e
+module _ (columns : List ℕ) (low high : Option Edge) (row : List Datum) where
+  abbrev there : List Datum
+  there = values_at columns row
 
-further : (key : List ℕ) (downward : Bool) (bound : Option (List Datum)) (a b : List Datum) → lies_past key downward bound a ≡ true → After key downward a b → lies_past key downward bound b ≡ true
-further key downward None a b h g = refl
-further key true (Some k) a b h g =
-    let x : key_order (values_at key a) k ≡ Less = turned_less k (values_at key a) (greater_is (key_order k (values_at key a)) h) in
-    let y : key_order (values_at key b) (values_at key a) ≡ Less = turned_less (values_at key a) (values_at key b) (greater_is (key_order (values_at key a) (values_at key b)) g) in
-    ap is_gt (turned_greater k (values_at key b) (less_before_less (values_at key b) (values_at key a) k y x))
-further key false (Some k) a b h g =
-    ap is_lt (less_before_less k (values_at key a) (values_at key b) (less_is (key_order k (values_at key a)) h) (less_is (key_order (values_at key a) (values_at key b)) g))
+  abbrev Past : Bool → Option (List Datum) → Bool
+  Past downward bound = lies_within (low_edge_past downward low bound) (high_edge_past downward high bound) there
 
--- each row of a walk lies after those before it
-walk_rises : (key : List ℕ) (downward : Bool) (rows : List (List Datum)) → IsAscending key rows → AllPairs (After key downward) (in_walk downward rows)
-walk_rises key false rows up = λ i j d l m. ap is_lt (up i j d l m)
-walk_rises key true rows up = λ i j d l m.
-    let n : length (reverse rows) ≡ length rows = length-reverse rows in
-    let a : get_or (reverse rows) i d ≡ get_or rows (length rows - 1 - i) d = get_or-reverse rows i d (omega (arith, n, l, m)) in
-    let b : get_or (reverse rows) j d ≡ get_or rows (length rows - 1 - j) d = get_or-reverse rows j d (omega (arith, n, m)) in
-    let e = up (length rows - 1 - j) (length rows - 1 - i) d (omega (arith, n, l, m)) (omega (arith, n, l, m)) in
-    let g = turned_greater (values_at key (get_or rows (length rows - 1 - i) d)) (values_at key (get_or rows (length rows - 1 - j) d)) e in
-    ap (λ (row : List Datum). lies_past key true (Some (values_at key row)) (get_or (reverse rows) j d)) a
-    ∙ ap (λ (row : List Datum). lies_past key true (Some (values_at key (get_or rows (length rows - 1 - i) d))) row) b
-    ∙ ap is_gt g
+  long : (bound : List Datum) → length bound ≡ length columns → length there ≡ length bound
+  long bound h = length-values_at columns row ∙ sym h
 
-module _ (key : List ℕ) (downward : Bool) (bound : Option (List Datum)) (x : List Datum) (r : List (List Datum)) where
-  abbrev Past : List Datum → Bool
-  Past row = lies_past key downward bound row
+  -- a row of the walk that begins at a key lies past the key
+  is_past : (downward : Bool) (bound : Option (List Datum)) → IfSome bound (λ k. length k ≡ length columns) → Past downward bound ≡ true → lies_past columns downward bound row ≡ true
+  is_past downward None h e = refl
+  is_past true (Some k) h e = sym (before_key k there (long k h)) ∙ second_of_both (is_begun low there) (not (cuts.is_past k false there)) e
+  is_past false (Some k) h e = sym (behind_key k there (long k h)) ∙ first_of_both (cuts.is_past k true there) (is_not_ended high there) e
 
-  abbrev PastX : List Datum → Bool
-  PastX row = lies_past key downward (Some (values_at key x)) row
+  -- a row past the key that isn't of that walk isn't between the edges
+  is_outside : (downward : Bool) (bound : Option (List Datum)) → IfSome bound (λ k. length k ≡ length columns) → lies_past columns downward bound row ≡ true → Past downward bound ≡ false
+      → lies_within low high there ≡ false
+  is_outside downward None h p e = e
+  is_outside true (Some k) h p e = first_of_none (is_begun low there) (not (cuts.is_past k false there)) (is_not_ended high there) (before_key k there (long k h) ∙ p) e
+  is_outside false (Some k) h p e = second_of_none (cuts.is_past k true there) (is_not_ended high there) (is_begun low there) (behind_key k there (long k h) ∙ p) e
 
-  step_first : (row : List Datum) (rows : List (List Datum)) (b : Bool) → AllPairs (After key downward) (row ∷ rows) → Past row ≡ b
-      → (filter Past rows ≡ x ∷ r → filter PastX rows ≡ r) → cond b (row ∷ filter Past rows) (filter Past rows) ≡ x ∷ r → filter PastX (row ∷ rows) ≡ r
-  step_first row rows true up e h f =
-      let whole : filter Past rows ≡ rows = filter-whole Past rows (λ k d l. further key downward bound row (get_or rows k d) e (AllPairs-first (After key downward) row rows up k d l)) in
-      let same : row ≡ x = cc in
-      let rest : filter Past rows ≡ r = cc in
-      let itself : lies_past key downward (Some (values_at key row)) row ≡ false = not_itself key downward row (lies_past key downward (Some (values_at key row)) row) refl in
-      let all : filter (lies_past key downward (Some (values_at key row))) rows ≡ rows = filter-whole (lies_past key downward (Some (values_at key row))) rows (AllPairs-first (After key downward) row rows up) in
-      subst (λ z. filter (lies_past key downward (Some (values_at key z))) (row ∷ rows) ≡ r) same
-      (ap (λ c. cond c (row ∷ filter (lies_past key downward (Some (values_at key row))) rows) (filter (lies_past key downward (Some (values_at key row))) rows)) itself
-      ∙ all ∙ sym whole ∙ rest)
-  step_first row rows false up e h f =
-      let later : All (After key downward row) (x ∷ r) = subst (All (After key downward row)) f (All-filter Past (After key downward row) rows (AllPairs-first (After key downward) row rows up)) in
-      let following : After key downward row x = All-head (After key downward row) x r later in
-      ap (λ c. cond c (row ∷ filter PastX rows) (filter PastX rows)) (not_ahead key downward row x following) ∙ h f
+-- ---- FETCH
 
-  step : (rows : List (List Datum)) → AllPairs (After key downward) rows → filter Past rows ≡ x ∷ r → filter PastX rows ≡ r
-  step [] up e = cc
-  step (row ∷ rows) up e = step_first row rows (Past row) up refl (step rows (AllPairs-rest (After key downward) row rows up)) e
-
-onward_list : (key : List ℕ) (downward : Bool) (bound : Option (List Datum)) (rows l : List (List Datum)) → IsAscending key rows → rows_past key downward bound rows ≡ l
-    → rows_onward key downward rows (slice_get l 0) ≡ l
-onward_list key downward bound rows [] up e = refl
-onward_list key downward bound rows (x ∷ r) up e = ap (λ rest. x ∷ rest) (step key downward bound x r (in_walk downward rows) (walk_rises key downward rows up) e)
-
--- the first row after a key and those after it are all that are after the key
-pub onward_upward : (key : List ℕ) (downward : Bool) (bound o : Option (List Datum)) (rows : List (List Datum)) → downward ≡ false → IsAscending key rows → o ≡ row_after key bound rows
-    → rows_onward key downward rows o ≡ rows_past key downward bound rows
-onward_upward key true bound o rows e up h = cc
-onward_upward key false bound o rows e up h =
-    ap (rows_onward key false rows) (h ∙ sym (first_upward key bound rows)) ∙ onward_list key false bound rows (rows_past key false bound rows) up refl
-
-pub onward_downward : (key : List ℕ) (downward : Bool) (bound o : Option (List Datum)) (rows : List (List Datum)) → downward ≡ true → IsAscending key rows → o ≡ row_before key bound rows
-    → rows_onward key downward rows o ≡ rows_past key downward bound rows
-onward_downward key false bound o rows e up h = cc
-onward_downward key true bound o rows e up h =
-    ap (rows_onward key true rows) (h ∙ sym (first_downward key bound rows)) ∙ onward_list key true bound rows (rows_past key true bound rows) up refl
+-- the first row that meets the test is found in the walk from the key on
+pub met_past : (t : Contents) (vars : List Datum) (test : Option (List Line)) (downward : Bool) (walk : Walk) (bound : Option (List Datum)) → walk ≡ walk_for t downward vars test → walk.key ≡ None → IfSome bound (IsKey t.def)
+    → first_met (test_of (over vars) test) (rows_of t (walk_past walk bound)) ≡ first_met (test_of (over vars) test) (rows_past t.def.key downward bound t.rows)
+met_past t vars test downward walk bound w k h =
+    let same : walk.downward ≡ downward = ap (λ (x : Walk). x.downward) w in
+    ap (first_met (test_of (over vars) test)) (filter-walk (λ row. Past t.def.key walk.low walk.high row walk.downward bound) walk.downward t.rows)
+    ∙ met-kept (test_of (over vars) test) (lies_past t.def.key walk.downward bound) (λ row. Past t.def.key walk.low walk.high row walk.downward bound)
+    (λ row e. is_past t.def.key walk.low walk.high row walk.downward bound h e)
+    (λ row p e. outside t vars row walk downward test w k (is_outside t.def.key walk.low walk.high row walk.downward bound h p e)) (in_walk walk.downward t.rows)
+    ∙ ap (λ (d : Bool). first_met (test_of (over vars) test) (rows_past t.def.key d bound t.rows)) same

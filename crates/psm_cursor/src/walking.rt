@@ -1,25 +1,25 @@
 //! The rows of a table after a key. No row before it is looked at.
-ghost use Rattle.std.specs.Prelude.{◌≡◌, Some, IfOk, IfSome};
-ghost use Rattle.std.specs.Option.{option_copied, ForSome};
+ghost use Rattle.std.specs.Prelude.{◌≡◌, All, None, Some, IfOk, IfSome};
+ghost use Rattle.std.specs.Option.{option_copied, option_map, ForSome};
 ghost use Rattle.psm_table.specs.Cursors.{first_met, rows_past};
 ghost use Rattle.psm_table.specs.Definition.{IsKey, IsRow};
 ghost use Rattle.psm_table.specs.Evaluator.{test_of};
-ghost use Rattle.psm_table.specs.Key.{values_at};
 ghost use Rattle.psm_table.specs.Table.{IsTable};
-ghost use Rattle.psm_tablecode.specs.Asked.{key_asked};
+ghost use Rattle.psm_tablecode.specs.Asked.{key_asked, rows_of, walk_for};
 ghost use Rattle.psm_tablecode.specs.Codes.{over};
+ghost use Rattle.psm_tablecode.specs.RemainingRows.{cut_edge};
 ghost use Rattle.psm_tablecode.specs.TypeChecks.{TypeChecksTable};
 ghost use Rattle.psm_cursor.specs.Fetching.{Finds};
-ghost use Rattle.psm_cursor.specs.Walking.{is_past, rows_onward};
+ghost use Rattle.psm_cursor.specs.Walking.{high_edge_past, is_past, low_edge_past, walk_past};
 
 use psm_exprcode::Query;
-use psm_table::{Key, Row, Table};
-use psm_tablecode::{meets, walk_of};
+use psm_table::{Cut, Key, Row, RowsLeft, Table};
+use psm_tablecode::{Edge, Walk, meets, walk_of};
 use psm_value::{Datum, ValueFault};
 use std::alloc::Global;
 
 /// The first row after a key that meets the test of a query, in the order of its walk; without a key, of all rows. Where
-/// the test asks for a key of its own, no other row is looked at.
+/// the test asks for a key of its own, no other row is looked at; where it asks for bounds, no row outside them.
 pub(crate) fn next_met<'a>(
     alloc: Global,
     table: &'a Table,
@@ -35,7 +35,7 @@ pub(crate) fn next_met<'a>(
     let walk = walk_of(alloc, table, query.downward, query.test.as_ref(), vars)?;
     match &walk.key {
         Some(asked) => met_at_key(alloc, table, query, vars, key, asked),
-        None => met_after(alloc, table, query, vars, key),
+        None => met_past(alloc, table, query, vars, &walk, key),
     }
 }
 
@@ -81,57 +81,78 @@ fn is_after(downward: bool, key: Option<&Key>, asked: &Key) -> bool
     }
 }
 
-// The same over the rows after the key, one after another.
-fn met_after<'a>(
+// The same where the test asks for no key of its own: the first of the rows between the other key and the edges of the walk
+// that meets the test, as no row outside the edges does. It takes two searches, and goes on without a search.
+fn met_past<'a>(
     alloc: Global,
     table: &'a Table,
     query: &Query,
     vars: &[Datum],
+    walk: &Walk,
     key: Option<&Key>,
 ) -> Result<Option<&'a Row>, ValueFault>
     requires type_checks { TypeChecksTable query.now vars.now table.now.contents.def }
     requires key { ForSome key (λ k. IsKey table.now.contents.def k.now) }
+    requires walk { walk.now ≡ walk_for table.now.contents query.now.downward vars.now query.now.test }
+    requires edges { walk.now.key ≡ None }
     ensures row { Finds (first_met (test_of (over vars.now) query.now.test) (rows_past table.now.contents.def.key query.now.downward (option_copied key.entry) table.now.contents.rows)) result }
     ensures fits { IfOk result (λ o. IfSome o (λ row. IsRow table.now.contents.def row.now)) }
 {
     let mut stack = Vec::new(alloc);
-    let mut next = first_past(table, query.downward, key);
-    while let Some(row) = next {
+    let mut rows = rows_from(table, walk, key);
+    'rows: while let Some(row) = rows.next() {
         if meets(alloc, &mut stack, &query.test, row.values(), vars)? {
             return Ok(Some(row));
         }
-        next = first_after(table, query.downward, row);
     }
     Ok(None)
 }
 
-// The first row after a key; without a key the first of all.
-#[tactic(auto, using(crate::proofs::Walks::onward_upward, crate::proofs::Walks::onward_downward))]
-fn first_past<'a>(table: &'a Table, downward: bool, key: Option<&Key>) -> Option<&'a Row>
-    requires { ForSome key (λ k. IsKey table.now.contents.def k.now) }
-    ensures rows { rows_onward table.now.contents.def.key downward table.now.contents.rows (option_copied result) ≡ rows_past table.now.contents.def.key downward (option_copied key.entry) table.now.contents.rows }
-    ensures fits { IfSome result (λ row. IsRow table.now.contents.def row.now) }
+// The rows of a walk that are past a key.
+#[tactic(auto, using(crate::proofs::Pasts::past_rows))]
+fn rows_from<'a>(table: &'a Table, walk: &Walk, key: Option<&Key>) -> RowsLeft<'a>
+    ensures rows { result ≡ rows_of table.now.contents (walk_past walk.now (option_copied key.entry)) }
+    ensures fit { All (IsRow table.now.contents.def) result }
 {
-    ascends(table);
-    if downward {
-        table.prev_before(key)
-    } else {
-        table.next_after(key)
+    table.rows_between(low_past(walk, key), high_past(walk, key), walk.downward)
+}
+
+// The cut where they begin.
+fn low_past<'a>(walk: &'a Walk, key: Option<&'a Key>) -> Option<Cut<'a>>
+    ensures { option_map cut_edge result ≡ low_edge_past walk.now.downward walk.now.low (option_copied key.entry) }
+{
+    match key {
+        Some(key) if !walk.downward => Some(Cut {
+            values: key.values(),
+            is_behind: true,
+        }),
+        Some(_) | None => cut_at(&walk.low),
     }
 }
 
-// The first row after a row.
-#[tactic(auto, using(crate::proofs::Walks::onward_upward, crate::proofs::Walks::onward_downward))]
-fn first_after<'a>(table: &'a Table, downward: bool, row: &Row) -> Option<&'a Row>
-    requires { IsRow table.now.contents.def row.now }
-    ensures rows { rows_onward table.now.contents.def.key downward table.now.contents.rows (option_copied result) ≡ rows_past table.now.contents.def.key downward (Some (values_at table.now.contents.def.key row.now)) table.now.contents.rows }
-    ensures fits { IfSome result (λ row. IsRow table.now.contents.def row.now) }
+// The cut where they end.
+fn high_past<'a>(walk: &'a Walk, key: Option<&'a Key>) -> Option<Cut<'a>>
+    ensures { option_map cut_edge result ≡ high_edge_past walk.now.downward walk.now.high (option_copied key.entry) }
 {
-    ascends(table);
-    if downward {
-        table.row_before_row(row)
-    } else {
-        table.row_following(row)
+    match key {
+        Some(key) if walk.downward => Some(Cut {
+            values: key.values(),
+            is_behind: false,
+        }),
+        Some(_) | None => cut_at(&walk.high),
+    }
+}
+
+// The cut of an edge.
+fn cut_at(edge: &Option<Edge>) -> Option<Cut<'_>>
+    ensures { option_map cut_edge result ≡ edge.now }
+{
+    match edge {
+        Some(edge) => Some(Cut {
+            values: edge.values.values(),
+            is_behind: edge.is_behind,
+        }),
+        None => None,
     }
 }
 

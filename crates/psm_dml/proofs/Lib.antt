@@ -9,7 +9,11 @@ pub mod Holding
 pub mod InPlace
 pub mod Judging
 pub mod KeyTesting
+pub mod KeyValues
+pub mod Leftover
+pub mod Matching
 pub mod Moved
+pub mod NamedConstraints
 pub mod Placed
 pub mod Places
 pub mod Planned

@@ -1,5 +1,5 @@
 -- UPDATE of the row that has a key.
-use Rattle.std.proofs.Common.{◌≡◌, ℕ, ◌+◌, ◌≤◌, List, [], ◌∷◌, ◌++◌, length, Bool, true, false, refl, ap, sym, subst, ◌∙◌, Option, Some, None, Result, Ok, Err}
+use Rattle.std.proofs.Common.{◌≡◌, ℕ, ◌+◌, ◌≤◌, List, [], ◌∷◌, ◌++◌, length, Bool, false, refl, ap, sym, subst, ◌∙◌, Option, Some, None, Result, Ok, Err}
 use Rattle.std.specs.Prelude.{All, IfSome, cond, map, slice_get, if◌then◌else◌}
 use Rattle.std.specs.List.{cons_option}
 use Rattle.std.specs.Ordering.{is_eq}
@@ -20,8 +20,8 @@ use Rattle.psm_table.specs.Evaluator.{and_then, mapped, test_of, Evaluator}
 use Rattle.psm_table.specs.Key.{key_order, row_order, values_at}
 use Rattle.psm_table.specs.Queries.{is_met, walked}
 use Rattle.psm_table.specs.Rows.{row_with, IsAscending}
-use Rattle.psm_table.specs.Table.{keyed, most_rows, without_row, Contents, IsTable}
-use Rattle.psm_table.proofs.Filters.{equal_is, find_passes, AllPairs-rest}
+use Rattle.psm_table.specs.Table.{keyed, most_rows, Contents, IsTable}
+use Rattle.psm_table.proofs.Filters.{AllPairs-rest}
 use Rattle.psm_table.proofs.Undo.{after_equal}
 use Rattle.psm_tablecode.specs.Codes.{over}
 use Rattle.psm_dml.specs.Changes.{changing, row_set, set_of}
@@ -33,8 +33,6 @@ use Rattle.psm_value.specs.declared.fault.ValueFault.{ValueFault}
 use Rattle.psm_value.specs.declared.fault.ValueFault.TheVariants.{Condition, Memory}
 use Rattle.psm_tablecode.specs.Faults.{Tells}
 use Rattle.psm_dml.proofs.Answering.{gives_err}
-use Rattle.psm_dml.proofs.Effects.{absent}
-use Rattle.psm_dml.proofs.InPlace.{others}
 use Rattle.psm_dml.proofs.Finished.{said, there as there_is}
 use Rattle.psm_dml.proofs.Updated.{changed_few, changed_keys, changed_legal, changed_whole, row_set_whole}
 

@@ -35,7 +35,7 @@ schema_of = schema_with (λ rows. true)
 
 -- the same of table t, among tables for which these constraints are asked
 abbrev pub keyed_schema : List ForeignKey → List Contents → ℕ → TableDef → List (List Line) → Schema (List Line)
-keyed_schema keys tables t = schema_with (are_keyed_with keys (rows_in tables) t)
+keyed_schema constraints tables t = schema_with (are_keyed_with constraints (rows_in tables) t)
 
 -- the fault bears the SQLSTATE and the name of the table, unless memory runs out
 abbrev pub Bears : List ℕ → TableDef → DataFault → Type 0
@@ -82,4 +82,4 @@ EndsErased c due old t new (Err fault.Memory) = new ≡ old
 
 -- for all CHECKs for which the table is legal, DELETE of a row that has the key ends as is due
 abbrev pub ErasesByRules : List ForeignKey → List Datum → List Contents → ℕ → List Contents → Result (Unit {0}) DataFault → Contents → Type 0
-ErasesByRules keys key old t new result c = (row : List Datum) → key ≡ values_at c.def.key row → (checks : List (List Line)) → IsLegal (over []) (schema_of c.def checks) c.rows → EndsErased c (deleted_at (over []) (keyed_schema keys old t c.def checks) row c.rows) old t new result
+ErasesByRules constraints key old t new result c = (row : List Datum) → key ≡ values_at c.def.key row → (checks : List (List Line)) → IsLegal (over []) (schema_of c.def checks) c.rows → EndsErased c (deleted_at (over []) (keyed_schema constraints old t c.def checks) row c.rows) old t new result

@@ -63,8 +63,8 @@ pub(crate) fn change_rows<S: Store>(
     Ok(true)
 }
 
-/// Whether no row has a null in a column that refuses it.
-pub(crate) fn are_filled(def: &TableDef, rows: &[Row]) -> bool
+// Whether no row has a null in a column that refuses it.
+fn are_filled(def: &TableDef, rows: &[Row]) -> bool
     ensures { result ≡ list_all (is_row_filled def.now) rows.now }
 {
     rows.iter().all(|row| is_filled(def, row.values()))
@@ -116,9 +116,8 @@ fn change_one<S: Store>(alloc: Global, store: &mut S, t: u32, row: Row) -> Resul
     change_row(alloc, store, t, row)
 }
 
-/// Puts each of some rows in the place of the one that has its key, without a mark: where memory runs out, the rows before are in
-/// their places.
-pub(crate) fn change_each<S: Store>(
+// The same without a mark: where memory runs out, the rows before are in their places.
+fn change_each<S: Store>(
     alloc: Global,
     store: &mut S,
     t: u32,

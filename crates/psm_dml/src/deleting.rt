@@ -17,7 +17,7 @@ use crate::keying::erase_keyed;
 use psm_cond::DataFault;
 use psm_exprcode::ExprCode;
 use psm_store::{Key, Store};
-use psm_table::ForeignKey;
+use psm_table::ForeignKeys;
 use psm_tablecode::raised;
 use psm_value::Datum;
 use std::alloc::Global;
@@ -30,22 +30,21 @@ use std::slice;
 /// With each condition, and where memory runs out, the tables are as before.
 ///
 /// The table has to be there, and the test has to fit its columns and the variables. The FOREIGN KEY constraints have to be of
-/// the store's tables, and to hold. `vars` are the values of the
-/// variables. Marks stay as they are; fewer than 2^100 have to be open.
+/// the store's tables, and to hold. `vars` are the values of the variables. Marks stay as they are; fewer than 2^100 have to be open.
 pub fn delete<S: Store>(
     alloc: Global,
     store: &mut S,
     t: u32,
-    keys: &[ForeignKey],
+    constraints: &ForeignKeys,
     test: Option<&ExprCode>,
     vars: &[Datum],
 ) -> Result<u32, DataFault>
     requires exists { t < length (S.tables store.old) }
     requires type_checks { IfSome (slice_get (S.tables store.old) t) (λ c. TypeChecksTest (option_copied test) vars.now c.def) }
-    requires keys { All (IsKeyOf (defs_in (S.tables store.old))) keys.now }
-    requires lawful { are_keyed keys.now (rows_in (S.tables store.old)) ≡ true }
+    requires constraints { All (IsKeyOf (defs_in (S.tables store.old))) constraints.now }
+    requires lawful { are_keyed constraints.now (rows_in (S.tables store.old)) ≡ true }
     requires room { S.marks store.old < most_marks }
-    ensures answer { IfSome (slice_get (S.tables store.old) t) (λ c. (checks : List (List Line)) → IsLegal (over []) (schema_of c.def checks) c.rows → Ends c (deleted (over vars.now) (over []) (keyed_schema keys.now (S.tables store.old) t c.def checks) (option_copied test.entry) c.rows) (S.tables store.old) t (S.tables store.new) result) }
+    ensures answer { IfSome (slice_get (S.tables store.old) t) (λ c. (checks : List (List Line)) → IsLegal (over []) (schema_of c.def checks) c.rows → Ends c (deleted (over vars.now) (over []) (keyed_schema constraints.now (S.tables store.old) t c.def checks) (option_copied test.entry) c.rows) (S.tables store.old) t (S.tables store.new) result) }
     ensures marks { S.marks store.new ≡ S.marks store.old }
     ensures keeps { Keeps AnyMark (S.holds store.old) (S.at store.old) (S.holds store.new) (S.at store.new) }
 {
@@ -53,7 +52,7 @@ pub fn delete<S: Store>(
         Ok(gone) => gone,
         Err(fault) => return Err(raised(alloc, &fault)),
     };
-    if erase_keyed(alloc, store, t, keys, gone.items())? {
+    if erase_keyed(alloc, store, t, constraints, gone.items())? {
         Ok(gone.items().len() as u32)
     } else {
         Err(violated(alloc, store.table(t)))
@@ -71,21 +70,21 @@ pub fn delete_at<S: Store>(
     alloc: Global,
     store: &mut S,
     t: u32,
-    keys: &[ForeignKey],
+    constraints: &ForeignKeys,
     key: &Key,
 ) -> Result<(), DataFault>
     requires exists { t < length (S.tables store.old) }
     requires fits { IfSome (slice_get (S.tables store.old) t) (λ c. IsKey c.def key.now) }
-    requires keys { All (IsKeyOf (defs_in (S.tables store.old))) keys.now }
-    requires lawful { are_keyed keys.now (rows_in (S.tables store.old)) ≡ true }
+    requires constraints { All (IsKeyOf (defs_in (S.tables store.old))) constraints.now }
+    requires lawful { are_keyed constraints.now (rows_in (S.tables store.old)) ≡ true }
     requires room { S.marks store.old < most_marks }
-    ensures answer { IfSome (slice_get (S.tables store.old) t) (ErasesByRules keys.now key.now (S.tables store.old) t (S.tables store.new) result) }
+    ensures answer { IfSome (slice_get (S.tables store.old) t) (ErasesByRules constraints.now key.now (S.tables store.old) t (S.tables store.new) result) }
     ensures err { OnErr result (S.tables store.new ≡ S.tables store.old) }
     ensures marks { S.marks store.new ≡ S.marks store.old }
     ensures keeps { Keeps AnyMark (S.holds store.old) (S.at store.old) (S.holds store.new) (S.at store.new) }
 {
     ascends(store.table(t));
-    if erase_keyed(alloc, store, t, keys, slice::from_ref(key))? {
+    if erase_keyed(alloc, store, t, constraints, slice::from_ref(key))? {
         Ok(())
     } else {
         Err(violated(alloc, store.table(t)))

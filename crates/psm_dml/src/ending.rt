@@ -15,7 +15,7 @@ use psm_cond::{Condition, DataFault};
 use psm_exprcode::ExprCode;
 use psm_sqlstate::SqlState;
 use psm_store::{Key, Row, Store, Table};
-use psm_table::ForeignKey;
+use psm_table::ForeignKeys;
 use psm_tablecode::raised;
 use std::alloc::Global;
 
@@ -26,7 +26,7 @@ pub(crate) fn finish<S: Store>(
     store: &mut S,
     t: u32,
     checks: &[ExprCode],
-    constraints: &[ForeignKey],
+    constraints: &ForeignKeys,
     keys: &[Key],
     rows: Vec<Row>,
 ) -> Result<u32, DataFault>
@@ -58,7 +58,7 @@ pub(crate) fn finish_in_place<S: Store>(
     store: &mut S,
     t: u32,
     checks: &[ExprCode],
-    constraints: &[ForeignKey],
+    constraints: &ForeignKeys,
     made: Vec<Row>,
 ) -> Result<u32, DataFault>
     requires exists { t < length (S.tables store.old) }

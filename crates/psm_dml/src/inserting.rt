@@ -14,7 +14,7 @@ use psm_cond::DataFault;
 use psm_exprcode::ExprCode;
 use psm_sqlstate::SqlState;
 use psm_store::{Row, Store};
-use psm_table::ForeignKey;
+use psm_table::ForeignKeys;
 use psm_tablecode::raised;
 use std::alloc::Global;
 
@@ -28,24 +28,23 @@ const MOST_ROWS: u32 = 200_000;
 /// 23000 bear the table's name. With each condition, and where memory runs out, the tables are as before.
 ///
 /// The table has to be there and to be legal for the CHECKs, and these have to fit its columns. The FOREIGN KEY constraints
-/// have to be of the store's tables, and to hold. A row has a value for each
-/// column, which isn't stored yet. Marks stay as they are; fewer than 2^100 have to be open.
+/// have to be of the store's tables, and to hold. A row has a value for each column, which isn't stored yet. Marks stay as they are; fewer than 2^100 have to be open.
 pub fn insert<S: Store>(
     alloc: Global,
     store: &mut S,
     t: u32,
     checks: &[ExprCode],
-    keys: &[ForeignKey],
+    constraints: &ForeignKeys,
     rows: Vec<Row>,
 ) -> Result<u32, DataFault>
     requires exists { t < length (S.tables store.old) }
     requires type_checks { IfSome (slice_get (S.tables store.old) t) (λ c. ChecksTypeCheck checks.now c.def) }
     requires legal { IfSome (slice_get (S.tables store.old) t) (λ c. IsLegal (over []) (schema_of c.def checks.now) c.rows) }
     requires rows { IfSome (slice_get (S.tables store.old) t) (λ c. All (HasColumns c.def) rows.items) }
-    requires keys { All (IsKeyOf (defs_in (S.tables store.old))) keys.now }
-    requires lawful { are_keyed keys.now (rows_in (S.tables store.old)) ≡ true }
+    requires constraints { All (IsKeyOf (defs_in (S.tables store.old))) constraints.now }
+    requires lawful { are_keyed constraints.now (rows_in (S.tables store.old)) ≡ true }
     requires room { S.marks store.old < most_marks }
-    ensures answer { IfSome (slice_get (S.tables store.old) t) (λ c. Ends c (inserted (over []) (keyed_schema keys.now (S.tables store.old) t c.def checks.now) rows.items c.rows) (S.tables store.old) t (S.tables store.new) result) }
+    ensures answer { IfSome (slice_get (S.tables store.old) t) (λ c. Ends c (inserted (over []) (keyed_schema constraints.now (S.tables store.old) t c.def checks.now) rows.items c.rows) (S.tables store.old) t (S.tables store.new) result) }
     ensures marks { S.marks store.new ≡ S.marks store.old }
     ensures keeps { Keeps AnyMark (S.holds store.old) (S.at store.old) (S.holds store.new) (S.at store.new) }
 {
@@ -57,5 +56,5 @@ pub fn insert<S: Store>(
     if rows.len() > (MOST_ROWS - table.len()) as usize {
         return Err(at_table(alloc, SqlState::TABLE_FULL, table));
     }
-    finish(alloc, store, t, checks, keys, &[], rows)
+    finish(alloc, store, t, checks, constraints, &[], rows)
 }

@@ -14,6 +14,7 @@ mod keying;
 mod lookups;
 mod moving;
 mod planning;
+mod seeking;
 mod setting;
 mod storing;
 mod typing;

@@ -20,7 +20,7 @@ use crate::setting::set_row;
 use psm_cond::DataFault;
 use psm_exprcode::{ExprCode, SetItem};
 use psm_store::{Key, Row, Store, Table};
-use psm_table::ForeignKey;
+use psm_table::ForeignKeys;
 use psm_tablecode::raised;
 use psm_value::{Datum, ValueFault};
 use std::alloc::Global;
@@ -31,14 +31,14 @@ use std::alloc::Global;
 /// where memory runs out, the tables are as before.
 ///
 /// The table has to be there and to be legal for the CHECKs, and CHECKs and assignments have to fit its columns, the
-/// latter the variables too. The FOREIGN KEY constraints have to be of the store's tables, and to hold. `vars` are the values of the variables. Marks stay as they are; fewer than 2^100 have to be
-/// open.
+/// latter the variables too. The FOREIGN KEY constraints have to be of the store's tables, and to hold. `vars` are the values of
+/// the variables. Marks stay as they are; fewer than 2^100 have to be open.
 pub fn update_at<S: Store>(
     alloc: Global,
     store: &mut S,
     t: u32,
     checks: &[ExprCode],
-    keys: &[ForeignKey],
+    constraints: &ForeignKeys,
     key: &Key,
     sets: &[SetItem],
     vars: &[Datum],
@@ -48,10 +48,10 @@ pub fn update_at<S: Store>(
     requires fits { IfSome (slice_get (S.tables store.old) t) (λ c. IsKey c.def key.now) }
     requires sets { IfSome (slice_get (S.tables store.old) t) (λ c. SetsTypeCheck sets.now vars.now c.def) }
     requires legal { IfSome (slice_get (S.tables store.old) t) (λ c. IsLegal (over []) (schema_of c.def checks.now) c.rows) }
-    requires keys { All (IsKeyOf (defs_in (S.tables store.old))) keys.now }
-    requires lawful { are_keyed keys.now (rows_in (S.tables store.old)) ≡ true }
+    requires constraints { All (IsKeyOf (defs_in (S.tables store.old))) constraints.now }
+    requires lawful { are_keyed constraints.now (rows_in (S.tables store.old)) ≡ true }
     requires room { S.marks store.old < most_marks }
-    ensures answer { IfSome (slice_get (S.tables store.old) t) (λ c. EndsAtRow c (λ row. updated_at (over vars.now) (over []) (keyed_schema keys.now (S.tables store.old) t c.def checks.now) (map set_of sets.now) row c.rows) (keyed c key.now) (S.tables store.old) t (S.tables store.new) result) }
+    ensures answer { IfSome (slice_get (S.tables store.old) t) (λ c. EndsAtRow c (λ row. updated_at (over vars.now) (over []) (keyed_schema constraints.now (S.tables store.old) t c.def checks.now) (map set_of sets.now) row c.rows) (keyed c key.now) (S.tables store.old) t (S.tables store.new) result) }
     ensures marks { S.marks store.new ≡ S.marks store.old }
     ensures keeps { Keeps AnyMark (S.holds store.old) (S.at store.old) (S.holds store.new) (S.at store.new) }
 {
@@ -65,7 +65,7 @@ pub fn update_at<S: Store>(
     };
     let moved = has_moved(table.def().key.items(), row, &change.made);
     let Plan { keys: gone, rows } = split(alloc, vec![in alloc; change]?)?;
-    finish(alloc, store, t, checks, keys, gone.as_slice(), rows)?;
+    finish(alloc, store, t, checks, constraints, gone.as_slice(), rows)?;
     Ok(moved)
 }
 

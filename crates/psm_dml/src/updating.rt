@@ -15,7 +15,7 @@ use crate::planning::{Plan, changes, made_rows, split};
 use psm_cond::DataFault;
 use psm_exprcode::{ExprCode, SetItem};
 use psm_store::Store;
-use psm_table::ForeignKey;
+use psm_table::ForeignKeys;
 use psm_tablecode::raised;
 use psm_value::Datum;
 use std::alloc::Global;
@@ -29,14 +29,14 @@ use std::alloc::Global;
 /// table's name. With each condition, and where memory runs out, the tables are as before.
 ///
 /// The table has to be there and to be legal for the CHECKs, and CHECKs, test and assignments have to fit its columns, the
-/// latter two the variables too. The FOREIGN KEY constraints have to be of the store's tables, and to hold. `vars` are the values of the variables. Marks stay as they are; fewer than 2^100 have to
-/// be open.
+/// latter two the variables too. The FOREIGN KEY constraints have to be of the store's tables, and to hold. `vars` are the values
+/// of the variables. Marks stay as they are; fewer than 2^100 have to be open.
 pub fn update<S: Store>(
     alloc: Global,
     store: &mut S,
     t: u32,
     checks: &[ExprCode],
-    keys: &[ForeignKey],
+    constraints: &ForeignKeys,
     sets: &[SetItem],
     test: Option<&ExprCode>,
     vars: &[Datum],
@@ -46,17 +46,17 @@ pub fn update<S: Store>(
     requires sets { IfSome (slice_get (S.tables store.old) t) (λ c. SetsTypeCheck sets.now vars.now c.def) }
     requires test { IfSome (slice_get (S.tables store.old) t) (λ c. TypeChecksTest (option_copied test) vars.now c.def) }
     requires legal { IfSome (slice_get (S.tables store.old) t) (λ c. IsLegal (over []) (schema_of c.def checks.now) c.rows) }
-    requires keys { All (IsKeyOf (defs_in (S.tables store.old))) keys.now }
-    requires lawful { are_keyed keys.now (rows_in (S.tables store.old)) ≡ true }
+    requires constraints { All (IsKeyOf (defs_in (S.tables store.old))) constraints.now }
+    requires lawful { are_keyed constraints.now (rows_in (S.tables store.old)) ≡ true }
     requires room { S.marks store.old < most_marks }
-    ensures answer { IfSome (slice_get (S.tables store.old) t) (λ c. Ends c (updated (over vars.now) (over []) (keyed_schema keys.now (S.tables store.old) t c.def checks.now) (map set_of sets.now) (option_copied test.entry) c.rows) (S.tables store.old) t (S.tables store.new) result) }
+    ensures answer { IfSome (slice_get (S.tables store.old) t) (λ c. Ends c (updated (over vars.now) (over []) (keyed_schema constraints.now (S.tables store.old) t c.def checks.now) (map set_of sets.now) (option_copied test.entry) c.rows) (S.tables store.old) t (S.tables store.new) result) }
     ensures marks { S.marks store.new ≡ S.marks store.old }
     ensures keeps { Keeps AnyMark (S.holds store.old) (S.at store.old) (S.holds store.new) (S.at store.new) }
 {
     if keep_places(store.table(t).def(), sets) {
-        update_in_place(alloc, store, t, checks, keys, sets, test, vars)
+        update_in_place(alloc, store, t, checks, constraints, sets, test, vars)
     } else {
-        update_anew(alloc, store, t, checks, keys, sets, test, vars)
+        update_anew(alloc, store, t, checks, constraints, sets, test, vars)
     }
 }
 
@@ -67,7 +67,7 @@ fn update_in_place<S: Store>(
     store: &mut S,
     t: u32,
     checks: &[ExprCode],
-    keys: &[ForeignKey],
+    constraints: &ForeignKeys,
     sets: &[SetItem],
     test: Option<&ExprCode>,
     vars: &[Datum],
@@ -78,10 +78,10 @@ fn update_in_place<S: Store>(
     requires test { IfSome (slice_get (S.tables store.old) t) (λ c. TypeChecksTest (option_copied test) vars.now c.def) }
     requires legal { IfSome (slice_get (S.tables store.old) t) (λ c. IsLegal (over []) (schema_of c.def checks.now) c.rows) }
     requires places { IfSome (slice_get (S.tables store.old) t) (λ c. places_kept c.def sets.now ≡ true) }
-    requires keys { All (IsKeyOf (defs_in (S.tables store.old))) keys.now }
-    requires lawful { are_keyed keys.now (rows_in (S.tables store.old)) ≡ true }
+    requires constraints { All (IsKeyOf (defs_in (S.tables store.old))) constraints.now }
+    requires lawful { are_keyed constraints.now (rows_in (S.tables store.old)) ≡ true }
     requires room { S.marks store.old < most_marks }
-    ensures answer { IfSome (slice_get (S.tables store.old) t) (λ c. Ends c (updated (over vars.now) (over []) (keyed_schema keys.now (S.tables store.old) t c.def checks.now) (map set_of sets.now) (option_copied test.entry) c.rows) (S.tables store.old) t (S.tables store.new) result) }
+    ensures answer { IfSome (slice_get (S.tables store.old) t) (λ c. Ends c (updated (over vars.now) (over []) (keyed_schema constraints.now (S.tables store.old) t c.def checks.now) (map set_of sets.now) (option_copied test.entry) c.rows) (S.tables store.old) t (S.tables store.new) result) }
     ensures marks { S.marks store.new ≡ S.marks store.old }
     ensures keeps { Keeps AnyMark (S.holds store.old) (S.at store.old) (S.holds store.new) (S.at store.new) }
 {
@@ -89,7 +89,7 @@ fn update_in_place<S: Store>(
         Ok(rows) => rows.into_vec(),
         Err(fault) => return Err(raised(alloc, &fault)),
     };
-    finish_in_place(alloc, store, t, checks, keys, rows)
+    finish_in_place(alloc, store, t, checks, constraints, rows)
 }
 
 // The same in general: all old rows are taken out before the first new one is put in.
@@ -98,7 +98,7 @@ fn update_anew<S: Store>(
     store: &mut S,
     t: u32,
     checks: &[ExprCode],
-    keys: &[ForeignKey],
+    constraints: &ForeignKeys,
     sets: &[SetItem],
     test: Option<&ExprCode>,
     vars: &[Datum],
@@ -108,10 +108,10 @@ fn update_anew<S: Store>(
     requires sets { IfSome (slice_get (S.tables store.old) t) (λ c. SetsTypeCheck sets.now vars.now c.def) }
     requires test { IfSome (slice_get (S.tables store.old) t) (λ c. TypeChecksTest (option_copied test) vars.now c.def) }
     requires legal { IfSome (slice_get (S.tables store.old) t) (λ c. IsLegal (over []) (schema_of c.def checks.now) c.rows) }
-    requires keys { All (IsKeyOf (defs_in (S.tables store.old))) keys.now }
-    requires lawful { are_keyed keys.now (rows_in (S.tables store.old)) ≡ true }
+    requires constraints { All (IsKeyOf (defs_in (S.tables store.old))) constraints.now }
+    requires lawful { are_keyed constraints.now (rows_in (S.tables store.old)) ≡ true }
     requires room { S.marks store.old < most_marks }
-    ensures answer { IfSome (slice_get (S.tables store.old) t) (λ c. Ends c (updated (over vars.now) (over []) (keyed_schema keys.now (S.tables store.old) t c.def checks.now) (map set_of sets.now) (option_copied test.entry) c.rows) (S.tables store.old) t (S.tables store.new) result) }
+    ensures answer { IfSome (slice_get (S.tables store.old) t) (λ c. Ends c (updated (over vars.now) (over []) (keyed_schema constraints.now (S.tables store.old) t c.def checks.now) (map set_of sets.now) (option_copied test.entry) c.rows) (S.tables store.old) t (S.tables store.new) result) }
     ensures marks { S.marks store.new ≡ S.marks store.old }
     ensures keeps { Keeps AnyMark (S.holds store.old) (S.at store.old) (S.holds store.new) (S.at store.new) }
 {
@@ -119,5 +119,5 @@ fn update_anew<S: Store>(
         Ok(changes) => split(alloc, changes.into_vec())?,
         Err(fault) => return Err(raised(alloc, &fault)),
     };
-    finish(alloc, store, t, checks, keys, gone.as_slice(), rows)
+    finish(alloc, store, t, checks, constraints, gone.as_slice(), rows)
 }

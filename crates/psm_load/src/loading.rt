@@ -18,6 +18,7 @@ use crate::tables::tables;
 use psm_code::{CodeRule, RawCode};
 use psm_load_line::first_head;
 use psm_object::rules_count_the_lines_of_a_listing;
+use psm_table::ForeignKeys;
 use psm_verify::{CodeFault, verified};
 use std::alloc::Global;
 
@@ -77,6 +78,7 @@ fn code(alloc: Global, lines: &mut LinesLeft<'_>) -> Result<RawCode, Stop>
     let counts = counts(lines)?;
     let (tables, keys) = tables(alloc, counts.0, lines)?;
     let routines = several(alloc, counts.1, lines)?;
+    let keys = ForeignKeys::new(alloc, keys)?;
     Ok(RawCode {
         tables,
         keys,

@@ -126,7 +126,7 @@ fn update_rows<S: Store>(
     let Some(declared) = table_at(code, table) else {
         return Err(Stop::Stuck);
     };
-    let keys = code.keys.items();
+    let keys = &code.keys;
     let vars = run.running.variables.as_slice();
     let count = part_of(update(
         alloc,
@@ -160,7 +160,7 @@ fn delete_rows<S: Store>(
     let Some(_declared) = table_at(code, table) else {
         return Err(Stop::Stuck);
     };
-    let keys = code.keys.items();
+    let keys = &code.keys;
     let vars = run.running.variables.as_slice();
     let count = part_of(delete(alloc, store, table, keys, test, vars))?;
     run.area.set_rows(count);

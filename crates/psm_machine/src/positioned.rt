@@ -57,7 +57,7 @@ pub(crate) fn update_at<S: Store>(
     let Some(key) = key_on(cursor, store.table(query.table)) else {
         return Err(wrong_state(alloc, declared));
     };
-    let keys = code.keys.items();
+    let keys = &code.keys;
     let moved = part_of(psm_dml::update_at(
         alloc,
         store,
@@ -126,7 +126,7 @@ pub(crate) fn delete_at<S: Store>(
         return Err(wrong_state(alloc, declared));
     };
     let key = table.key_of(alloc, row)?;
-    let keys = code.keys.items();
+    let keys = &code.keys;
     part_of(psm_dml::delete_at(alloc, store, query.table, keys, &key))?;
     run.area.set_rows(1);
     leave_row(run, true, number);

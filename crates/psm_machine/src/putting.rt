@@ -21,7 +21,7 @@ use psm_dml::insert;
 use psm_list::List;
 use psm_sqlstate::SqlState;
 use psm_store::{Row, Store};
-use psm_table::{ForeignKey, TableDef};
+use psm_table::{ForeignKeys, TableDef};
 use psm_unwind::Run;
 use psm_value::Datum;
 use std::alloc::{AllocError, Global};
@@ -98,7 +98,7 @@ fn put_in<S: Store>(
     let Some(declared) = table_at(code, table) else {
         return Err(Stop::Stuck);
     };
-    let keys = code.keys.items();
+    let keys = &code.keys;
     let count = part_of(put_into(alloc, keys, declared, store, table, columns, rows))?;
     run.area.set_rows(count);
     Ok(())
@@ -123,7 +123,7 @@ pub fn put_rows<S: Store>(
     ensures marks { S.marks store.new ≡ S.marks store.old }
     ensures keeps { Keeps AnyMark (S.holds store.old) (S.at store.old) (S.holds store.new) (S.at store.new) }
 {
-    let keys = code.keys.items();
+    let keys = &code.keys;
     let tables = code.tables.items();
     put_into(
         alloc,
@@ -139,7 +139,7 @@ pub fn put_rows<S: Store>(
 // Puts rows into the table that is declared so.
 fn put_into<S: Store>(
     alloc: Global,
-    keys: &[ForeignKey],
+    keys: &ForeignKeys,
     declared: &CodeTable,
     store: &mut S,
     table: u32,

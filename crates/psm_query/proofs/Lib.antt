@@ -1,4 +1,5 @@
 pub mod Added
+pub mod EndLaws
 pub mod Finished
 pub mod WalkLaws
 pub mod Means

@@ -7,12 +7,14 @@ ghost use Rattle.psm_table.specs.Queries.{in_walk, walked};
 ghost use Rattle.psm_table.specs.Table.{most_rows};
 ghost use Rattle.psm_table.specs.Unique.{is_null as is_null_value};
 ghost use Rattle.psm_tablecode.specs.Codes.{over, set_function};
+ghost use Rattle.psm_query.specs.Ends.{gathered_told, IsFirst};
 ghost use Rattle.psm_query.specs.Gathered.{finished, nothing, with_rows, with_taken, AreUpTo};
 ghost use Rattle.psm_tablecode.specs.Rows.{values_for};
 ghost use Rattle.psm_tablecode.specs.TypeChecks.{TypeChecksTable};
 ghost use Rattle.psm_query.specs.Tallies.{added, count_of, empty, finish as finish_of};
 
 use crate::answer::Answer;
+use crate::ends::{tallies_told, told_column};
 use crate::tally::{Tally, is_null};
 use psm_exprcode::{Aggregate, Items, Query};
 use psm_table::{Row, Table};
@@ -38,8 +40,46 @@ impl Model for Gathering {
 }
 
 impl Gathering {
-    /// All rows of the table, or the one of the key for which the test asks.
+    /// All rows of the table. Where its length and its ends tell what the query asks for, no other row is looked at.
     pub(crate) fn of_rows(
+        alloc: Global,
+        table: &Table,
+        query: &Query,
+        vars: &[Datum],
+    ) -> Result<Gathering, ValueFault>
+        requires { TypeChecksTable query.now vars.now table.now.contents.def }
+        ensures { Gives (mapped (with_rows query.now.items (nothing query.now.items)) (walked (test_of (over vars.now) query.now.test) (values_for vars.now query.now.items) (in_walk query.now.downward table.now.contents.rows))) result }
+    {
+        match (&query.items, told_column(query, table.def().key.items())) {
+            (Items::Sets(sets), Some(column)) => Ok(Gathering::told(
+                alloc,
+                table,
+                column,
+                sets.items(),
+            )?),
+            _ => Gathering::of_walk(alloc, table, query, vars),
+        }
+    }
+
+    /// What the length of the table and its ends tell of set functions.
+    fn told(
+        alloc: Global,
+        table: &Table,
+        column: u32,
+        sets: &[Aggregate],
+    ) -> Result<Gathering, AllocError>
+        requires { IsFirst column table.now.contents.def.key }
+        ensures { IfOk result (λ g. g ≡ gathered_told column table.now.contents.rows sets.now) }
+    {
+        Ok(Gathering {
+            rows: Vec::new(alloc),
+            tallies: tallies_told(alloc, table, column, sets)?,
+            skipped: false,
+        })
+    }
+
+    /// The rows of the walk for the test.
+    fn of_walk(
         alloc: Global,
         table: &Table,
         query: &Query,

@@ -3,6 +3,7 @@
 
 mod answer;
 mod answering;
+mod ends;
 mod gathering;
 mod tally;
 mod total;

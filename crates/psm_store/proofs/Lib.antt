@@ -1,4 +1,5 @@
 pub mod Changes
+pub mod Indexed
 pub mod Marked
 pub mod Runs
 pub mod Seen

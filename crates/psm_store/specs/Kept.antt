@@ -1,5 +1,5 @@
 -- A store that keeps copies of its tables.
-use Rattle.std.specs.Prelude.{◌≡◌, ℕ, ◌<◌, ◌≤◌, List, ◌++◌, length, map, All, slice_index_or, replicate}
+use Rattle.std.specs.Prelude.{◌≡◌, ℕ, ◌<◌, ◌≤◌, List, [], ◌++◌, length, map, All, slice_index_or, replicate}
 use Rattle.psm_table.specs.State.{State}
 use Rattle.psm_table.specs.Table.{Contents}
 use Rattle.psm_store.specs.declared.store.Mark.{Mark}
@@ -13,6 +13,10 @@ pub record Kept : Type 0 where
 -- what is in the tables, whatever else they keep
 abbrev pub contents_of : List State → List Contents
 contents_of states = map (λ s. s.contents) states
+
+-- each table has no rows
+abbrev pub AreEmpty : List Contents → Type 0
+AreEmpty tables = All (λ c. c.rows ≡ []) tables
 
 -- tables with copies for some marks, and after those n marks that stand for the tables of now
 abbrev pub kept_of : List Contents → List (List Contents) → ℕ → Kept

@@ -7,7 +7,7 @@ ghost use Rattle.psm_store.specs.Kept.{IsOpen, stands_for};
 use crate::copies::Copies;
 use crate::store::{Mark, Store};
 use crate::tables::Tables;
-use psm_table::{Key, Row, RowFault, Steps, Table, TableDef};
+use psm_table::{ForeignKey, Key, Row, RowFault, Steps, Table, TableDef};
 use std::alloc::{AllocError, Global};
 use std::marker::Model;
 use std::sync::ledger::Ledger;
@@ -35,14 +35,19 @@ impl Model for CopyStore {
 }
 
 impl CopyStore {
-    /// A store of empty tables, with no mark open.
-    pub fn new(alloc: Global, defs: Vec<TableDef>) -> Result<CopyStore, AllocError>
+    /// A store of empty tables, with no mark open. The columns of each constraint are indexed in the table that refers, if it
+    /// is there.
+    pub fn new(
+        alloc: Global,
+        defs: Vec<TableDef>,
+        keys: &[ForeignKey],
+    ) -> Result<CopyStore, AllocError>
         requires { All IsDefinition defs.items }
         ensures tables { IfOk result (λ s. s.tables ≡ map empty_table defs.items) }
         ensures marks { IfOk result (λ s. s.marks ≡ []) }
     {
         Ok(CopyStore {
-            tables: Tables::new(alloc, defs)?,
+            tables: Tables::new(alloc, defs, keys)?,
             copies: Copies::new(alloc),
             uncopied: 0,
         })

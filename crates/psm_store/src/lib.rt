@@ -4,10 +4,12 @@
 mod back;
 mod copies;
 mod copy_store;
+mod indexes;
 mod store;
 mod tables;
 
 pub use back::{go_back, put_back};
 pub use copy_store::CopyStore;
-pub use psm_table::{Key, List, Row, RowFault, Steps, Table, TableDef};
+pub use indexes::index_keys;
+pub use psm_table::{ForeignKey, Key, List, Row, RowFault, Steps, Table, TableDef};
 pub use store::{Mark, Store};

@@ -6,7 +6,8 @@ ghost use Rattle.psm_store.specs.RowCalls.{AnswersFound, AnswersInsert, after, r
 ghost use Rattle.psm_table.specs.Definition.{IsDefinition, IsRow, IsKey};
 ghost use Rattle.psm_table.specs.Table.{empty_table, keyed, namesake, with_row, without_row};
 
-use psm_table::{Key, Row, RowFault, Steps, Table, TableDef};
+use crate::indexes::index_keys;
+use psm_table::{ForeignKey, Key, Row, RowFault, Steps, Table, TableDef};
 use std::alloc::{AllocError, Global};
 use std::marker::{Brand, Model};
 use std::sync::ledger::{Blank, Ledger};
@@ -28,8 +29,12 @@ impl Model for Tables {
 }
 
 impl Tables {
-    /// Empty tables.
-    pub(crate) fn new(alloc: Global, defs: Vec<TableDef>) -> Result<Tables, AllocError>
+    /// Empty tables, with an index on the columns of each constraint in the table that refers.
+    pub(crate) fn new(
+        alloc: Global,
+        defs: Vec<TableDef>,
+        keys: &[ForeignKey],
+    ) -> Result<Tables, AllocError>
         requires { All IsDefinition defs.items }
         ensures { IfOk result (λ t. t ≡ map empty_table defs.items) }
     {
@@ -37,6 +42,7 @@ impl Tables {
         for def in defs {
             tables.push(Table::new(alloc, def)?)?;
         }
+        index_keys(&mut tables, keys)?;
         Ok(Tables { tables })
     }
 

@@ -121,14 +121,18 @@ few-set n (x ∷ xs) zero m l few h (suc k) d b = absurd (omega (arith, b))
 few-set n (x ∷ xs) (suc i) m l few h zero d b = h 0 d (omega arith)
 few-set n (x ∷ xs) (suc i) m l few h (suc k) d b = few-set n xs i m (omega (arith, l)) few (λ j c g. h (suc j) c (omega (arith, g))) k d (omega (arith, b))
 
+-- one empty set more
+pub few-pushed : (n : ℕ) (sets : Sets) (m : Mapped (Unit {0})) → m.pairs ≡ [] → All (λ es. length es ≤ n) (entries_of sets) → All (λ es. length es ≤ n) (entries_of (sets ++ m ∷ []))
+few-pushed n sets m e h =
+    subst (All (λ (es : List Key). length es ≤ n)) (sym (map-append (λ (x : Mapped (Unit {0})). keys_of x.pairs) sets (m ∷ [])))
+    (All-push (λ (es : List Key). length es ≤ n) (entries_of sets) (keys_of m.pairs) h (omega (arith, ap (λ (ps : List (Pair (Unit {0}))). length (keys_of ps)) e)))
+
 -- empty sets
 pub empty-pushed : (sets : Sets) (m : Mapped (Unit {0})) → m.pairs ≡ [] → All (λ es. length es ≤ 0) (entries_of sets) → All (λ es. length es ≤ 0) (entries_of (sets ++ m ∷ []))
-empty-pushed sets m e h =
-    subst (All (λ (es : List Key). length es ≤ 0)) (sym (map-append (λ (x : Mapped (Unit {0})). keys_of x.pairs) sets (m ∷ [])))
-    (All-push (λ (es : List Key). length es ≤ 0) (entries_of sets) (keys_of m.pairs) h (omega (arith, ap (λ (ps : List (Pair (Unit {0}))). length (keys_of ps)) e)))
+empty-pushed sets m e h = few-pushed 0 sets m e h
 
-pub counted-new : (def : TableDef) (rows : Mapped (Option (List Datum))) (sets : Sets) → rows.pairs ≡ [] → All (λ es. length es ≤ 0) (entries_of sets) → AreCounted (state_of def rows sets) 0
-counted-new def rows sets e none l = record {
+pub counted-new : (def : TableDef) (lists : List (List ℕ)) (rows : Mapped (Option (List Datum))) (sets : Sets) → rows.pairs ≡ [] → All (λ es. length es ≤ 0) (entries_of sets) → AreCounted (state_of def lists rows sets) 0
+counted-new def lists rows sets e none l = record {
   places = omega (arith, ap (λ (ps : List Slot). length (keys_of ps)) e);
   entries = λ k d m. omega (arith, none k d m);
 }
@@ -164,9 +168,9 @@ settled-count : (pairs : List Slot) → length (filter (λ p. is_some p.value) p
 settled-count [] = refl
 settled-count (p ∷ ps) = settled-count_step p p.value ps (filter (λ q. is_some q.value) ps) (settled-count ps)
 
-pub settled-within : (def : TableDef) (rows new : Mapped (Option (List Datum))) (sets : Sets) → new.pairs ≡ filter (λ p. is_some p.value) rows.pairs → All (λ es. length es ≤ length (live_rows rows.pairs)) (entries_of sets)
-    → KeepsAtMost (length (live_rows rows.pairs)) (state_of def new sets)
-settled-within def rows new sets e few = record {
+pub settled-within : (def : TableDef) (lists : List (List ℕ)) (rows new : Mapped (Option (List Datum))) (sets : Sets) → new.pairs ≡ filter (λ p. is_some p.value) rows.pairs → All (λ es. length es ≤ length (live_rows rows.pairs)) (entries_of sets)
+    → KeepsAtMost (length (live_rows rows.pairs)) (state_of def lists new sets)
+settled-within def lists rows new sets e few = record {
   places = omega (arith, length-map new.pairs (λ (p : Slot). p.key), ap length e, settled-count rows.pairs);
   entries = few;
 }
@@ -188,8 +192,8 @@ tidy-grown old new more p long grow h = record {
 pub tidy-same : (old new : State) → new ≡ old → IsTidy old → IsTidy new
 tidy-same old new e h = subst IsTidy (sym e) h
 
-pub tidy-new : (def : TableDef) (rows : Mapped (Option (List Datum))) (sets : Sets) → rows.pairs ≡ [] → All (λ es. length es ≤ 0) (entries_of sets) → IsTidy (state_of def rows sets)
-tidy-new def rows sets e none = record {
+pub tidy-new : (def : TableDef) (lists : List (List ℕ)) (rows : Mapped (Option (List Datum))) (sets : Sets) → rows.pairs ≡ [] → All (λ es. length es ≤ 0) (entries_of sets) → IsTidy (state_of def lists rows sets)
+tidy-new def lists rows sets e none = record {
   places = omega (arith, ap (λ (ps : List Slot). length (keys_of ps)) e);
   entries = λ k d m. omega (arith, none k d m);
 }

@@ -1,5 +1,5 @@
 -- The entries of a row in the sets of UNIQUE lists.
-use Rattle.std.proofs.Common.{◌≡◌, ℕ, zero, suc, ◌+◌, ◌<◌, List, [], ◌∷◌, ◌++◌, length, length-append, below_more, get_or, set, take, false, refl, ap, sym, subst, ◌∙◌, add-one, arith, Some, None}
+use Rattle.std.proofs.Common.{◌≡◌, ℕ, zero, suc, ◌+◌, ◌<◌, ◌≤◌, List, [], ◌∷◌, ◌++◌, length, length-append, below_more, get_or, set, take, false, refl, ap, sym, subst, ◌∙◌, add-one, arith, Some, None}
 use Rattle.std.specs.Prelude.{is_some, Option}
 use Rattle.std.specs.List.{AllZip}
 use Rattle.std.proofs.lemmas.List.{map-append, length-map, get_or_append_left, get_or-map, get_or_default, get_or-take}
@@ -85,12 +85,44 @@ all_zip-at R (x ∷ xs) [] k d e h l = absurd h
 all_zip-at R (x ∷ xs) (y ∷ ys) zero d e h l = h.0
 all_zip-at R (x ∷ xs) (y ∷ ys) (suc k) d e h l = all_zip-at R xs ys k d e h.1 (omega arith)
 
+-- the first of two lists
+all_zip-take : {A B : Type 0} (R : A → B → Type 0) (n : ℕ) (xs : List A) (ys : List B) → AllZip R xs ys → AllZip R (take n xs) (take n ys)
+all_zip-take R zero xs ys h = tt
+all_zip-take R (suc n) [] [] h = tt
+all_zip-take R (suc n) [] (y ∷ ys) h = absurd h
+all_zip-take R (suc n) (x ∷ xs) [] h = absurd h
+all_zip-take R (suc n) (x ∷ xs) (y ∷ ys) h = (h.0, all_zip-take R n xs ys h.1)
+
+entries-take : (n : ℕ) (sets : Sets) → entries_of (take n sets) ≡ take n (entries_of sets)
+entries-take zero sets = refl
+entries-take (suc n) [] = refl
+entries-take (suc n) (m ∷ ms) = ap (λ (es : List (List (List Datum))). keys_of m.pairs ∷ es) (entries-take n ms)
+
+-- a list is no longer than one of which it is the first part
+pub take-within : {X : Type 0} (n : ℕ) (xs ys : List X) → take n xs ≡ ys → length ys ≤ length xs
+take-within zero xs ys e = omega (arith, ap length e)
+take-within (suc n) [] ys e = omega (arith, ap length e)
+take-within (suc n) (x ∷ xs) ys e = omega (arith, ap length e, take-within n xs (take n xs) refl)
+
+-- what follows doesn't count
+pub take-longer : {X : Type 0} (n : ℕ) (xs ys : List X) → n ≤ length xs → take n (xs ++ ys) ≡ take n xs
+take-longer zero xs ys l = refl
+take-longer (suc n) [] ys l = absurd (omega (arith, l))
+take-longer (suc n) (x ∷ xs) ys l = ap (λ zs. x ∷ zs) (take-longer n xs ys (omega (arith, l)))
+
+-- a row that is entered in all lists is in the first
+pub entered-first : (def : TableDef) (lists first : List (List ℕ)) (sets : Sets) (row : List Datum) → take (length first) lists ≡ first → IsEntered def lists (entries_of sets) row → IsEntered def first (entries_of (take (length first) sets)) row
+entered-first def lists first sets row e h =
+    subst (λ (ls : List (List ℕ)). AllZip (HasEntry def row) ls (entries_of (take (length first) sets))) e
+    (subst (λ (es : List (List (List Datum))). AllZip (HasEntry def row) (take (length first) lists) es) (sym (entries-take (length first) sets))
+    (all_zip-take (HasEntry def row) (length first) lists (entries_of sets) h))
+
 -- no entry of a row is lost where the sets grow
-pub entered-grow : (def : TableDef) (row : List Datum) (old new : List (List (List Datum))) → length new ≡ length old → Grow old new → IsEntered def old row → IsEntered def new row
-entered-grow def row old new long g h =
-    let lists : length def.unique ≡ length old = length_all_zip (HasEntry def row) def.unique old h in
-    all_zip-from (HasEntry def row) def.unique new (omega (arith, lists, long))
-    (λ k d e l n. g k e e (entry_of def (get_or def.unique k d) row) (omega (arith, l, long)) (all_zip-at (HasEntry def row) def.unique old k d e h (omega (arith, l, long)) n))
+pub entered-grow : (def : TableDef) (lists : List (List ℕ)) (row : List Datum) (old new : List (List (List Datum))) → length new ≡ length old → Grow old new → IsEntered def lists old row → IsEntered def lists new row
+entered-grow def lists row old new long g h =
+    let count : length lists ≡ length old = length_all_zip (HasEntry def row) lists old h in
+    all_zip-from (HasEntry def row) lists new (omega (arith, count, long))
+    (λ k d e l n. g k e e (entry_of def (get_or lists k d) row) (omega (arith, l, long)) (all_zip-at (HasEntry def row) lists old k d e h (omega (arith, l, long)) n))
 
 -- what holds at a place of three lists
 module _ {A B C : Type 0} (R : A → B → C → Type 0) where
@@ -143,17 +175,17 @@ has-put def row columns m new None p h null = h.grown (entry_of def columns row)
 has-put def row columns m new (Some e) p h null = ap (λ (k : List Datum). has_key (keys_of new.pairs) k) (sym p.0) ∙ h.there
 
 -- sets that were prepared for a row, and then have its entries
-module _ (def : TableDef) (row : List Datum) (sets : Sets) (entries : List (Option (List Datum))) (prepared : ArePrepared def row sets entries) where
+module _ (def : TableDef) (lists : List (List ℕ)) (row : List Datum) (sets : Sets) (entries : List (Option (List Datum))) (prepared : ArePrepared def lists row sets entries) where
   pub room-for : HaveRoom sets entries
-  room-for k m o l = prepared-room (get_or def.unique k []) def.key row (get_or sets k m) (get_or entries k o) (prepared.each k [] m o l)
+  room-for k m o l = prepared-room (get_or lists k []) def.key row (get_or sets k m) (get_or entries k o) (prepared.each k [] m o l)
 
-  pub entered-put : (new : Sets) → length sets ≡ length def.unique → length new ≡ length sets → ArePut sets new entries → IsEntered def (entries_of new) row
-  entered-put new lists long put =
-      all_zip-from (HasEntry def row) def.unique (entries_of new) (omega (arith, lists, long, length-entries new)) (λ k d e l.
+  pub entered-put : (new : Sets) → length sets ≡ length lists → length new ≡ length sets → ArePut sets new entries → IsEntered def lists (entries_of new) row
+  entered-put new count long put =
+      all_zip-from (HasEntry def row) lists (entries_of new) (omega (arith, count, long, length-entries new)) (λ k d e l.
       let inside : k < length new = omega (arith, l, length-entries new) in
       let within : k < length sets = omega (arith, inside, long) in
-      subst (λ (s : List (List Datum)). HasEntry def row (get_or def.unique k d) s) (sym (get-entries new k no_set e inside))
-      (has-put def row (get_or def.unique k d) (get_or sets k no_set) (get_or new k no_set) (get_or entries k None) (prepared.each k d no_set None within) (put k no_set None within)))
+      subst (λ (s : List (List Datum)). HasEntry def row (get_or lists k d) s) (sym (get-entries new k no_set e inside))
+      (has-put def row (get_or lists k d) (get_or sets k no_set) (get_or new k no_set) (get_or entries k None) (prepared.each k d no_set None within) (put k no_set None within)))
 
 module _ (old sets new : Sets) (entries : List (Option (List Datum))) (same : entries_of sets ≡ entries_of old) (long : length new ≡ length sets) (put : ArePut sets new entries) where
   was : (k : ℕ) (d : List (List Datum)) → k < length sets → keys_of (get_or sets k no_set).pairs ≡ get_or (entries_of old) k d

@@ -1,5 +1,5 @@
 -- Filters, and lists in which each two elements are related.
-use Rattle.std.proofs.Common.{◌≡◌, Bor, nat_lt, inl, inr, ℕ, zero, suc, ◌<◌, ◌≤◌, List, [], ◌∷◌, ◌++◌, length, get_or, drop, Bool, true, false, refl, ap, sym, subst, ◌∙◌, arith, Some, None}
+use Rattle.std.proofs.Common.{◌≡◌, Bor, nat_lt, inl, inr, ℕ, zero, suc, ◌<◌, ◌≤◌, List, [], ◌∷◌, ◌++◌, length, get_or, take, drop, not, Bool, true, false, refl, ap, sym, subst, ◌∙◌, arith, Some, None}
 use Rattle.std.specs.Prelude.{All, AllPairs, Option, cond, filter, find, slice_get, is_some, IfSome, IsSome}
 use Rattle.std.specs.Option.{option_copied}
 use Rattle.std.proofs.lemmas.Bool.{cases_lt, lt-ltb, ltb-true}
@@ -61,6 +61,20 @@ filter-drop p (x ∷ xs) (suc i) l f g =
     let e : p x ≡ false = f 0 x (omega arith) in
     let t = filter-drop p xs i (omega arith) (λ k d b. f (suc k) d (omega arith)) (λ k d b m. g (suc k) d (omega arith) (omega arith)) in
     rw e t
+
+-- and where those before place i don't pass
+pub filter-take : {X : Type 0} (p : X → Bool) (xs : List X) (i : ℕ) → i ≤ length xs → ((k : ℕ) (d : X) → k < i → p (get_or xs k d) ≡ false)
+    → ((k : ℕ) (d : X) → i ≤ k → k < length xs → p (get_or xs k d) ≡ true) → filter (λ x. not (p x)) xs ≡ take i xs
+filter-take p [] zero l f g = refl
+filter-take p [] (suc i) l f g = absurd (omega arith)
+filter-take p (x ∷ xs) zero l f g =
+    let e : p x ≡ true = g 0 x (omega arith) (omega arith) in
+    let t = filter-take p xs zero (omega arith) (λ k d b. absurd (omega arith)) (λ k d b m. g (suc k) d (omega arith) (omega arith)) in
+    rw e t
+filter-take p (x ∷ xs) (suc i) l f g =
+    let e : p x ≡ false = f 0 x (omega arith) in
+    let t = filter-take p xs i (omega arith) (λ k d b. f (suc k) d (omega arith)) (λ k d b m. g (suc k) d (omega arith) (omega arith)) in
+    rw e (ap (λ rest. x ∷ rest) t)
 
 pub slice_get-drop : {X : Type 0} (xs : List X) (i : ℕ) → slice_get (drop i xs) 0 ≡ slice_get xs i
 slice_get-drop xs zero = refl

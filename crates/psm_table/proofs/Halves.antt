@@ -1,11 +1,11 @@
 -- Searches for the first pair that passes a test, which each greater one passes too.
-use Rattle.std.proofs.Common.{◌≡◌, ℕ, ◌+◌, ◌<◌, ◌≤◌, List, length, get_or, Bool, true, false, ap, sym, ◌∙◌, inl, inr, arith, refl}
+use Rattle.std.proofs.Common.{◌≡◌, ℕ, ◌+◌, ◌<◌, ◌≤◌, List, length, get_or, take, drop, not, Bool, true, false, ap, sym, ◌∙◌, inl, inr, arith, refl}
 use Rattle.std.specs.Prelude.{filter, slice_get}
 use Rattle.std.proofs.lemmas.Bool.{cases_lt}
 use Rattle.std.proofs.lemmas.List.{get_or_default}
 use Rattle.psm_table.specs.declared.map.Pair.{Pair}
 use Rattle.psm_table.specs.Map.{AreAscending}
-use Rattle.psm_table.proofs.Filters.{filter-drop, slice_get-drop}
+use Rattle.psm_table.proofs.Filters.{filter-drop, filter-take, slice_get-drop}
 use Rattle.psm_table.proofs.Walks.{Up}
 
 module _ {V : Type 0} (t : Pair V → Bool) where
@@ -47,6 +47,16 @@ module _ {V : Type 0} (t : Pair V → Bool) where
     }
 
   -- nothing is left between low and high
-  pub parted_end : (pairs : List (Pair V)) (low high : ℕ) → Parted pairs low high → high ≤ low → slice_get (filter t pairs) 0 ≡ slice_get pairs low
-  parted_end pairs low high h l =
-      ap (λ xs. slice_get xs 0) (filter-drop t pairs low (omega (arith, h.bound, h.order)) h.fail (λ k d b n. h.pass k d (omega arith) n)) ∙ slice_get-drop pairs low
+  module _ (pairs : List (Pair V)) (low high : ℕ) (h : Parted pairs low high) (l : high ≤ low) where
+    pub parted_inside : low ≤ length pairs
+    parted_inside = omega (arith, h.bound, h.order)
+
+    pub parted_drop : drop low pairs ≡ filter t pairs
+    parted_drop = sym (filter-drop t pairs low parted_inside h.fail (λ k d b n. h.pass k d (omega arith) n))
+
+    pub parted_take : take low pairs ≡ filter (λ p. not (t p)) pairs
+    parted_take = sym (filter-take t pairs low parted_inside h.fail (λ k d b n. h.pass k d (omega arith) n))
+
+-- the first of what is left of a list
+pub first_left : {X : Type 0} (xs rest : List X) (i : ℕ) → drop i xs ≡ rest → slice_get xs i ≡ slice_get rest 0
+first_left xs rest i e = sym (slice_get-drop xs i) ∙ ap (λ ys. slice_get ys 0) e

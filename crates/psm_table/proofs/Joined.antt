@@ -1,5 +1,5 @@
 -- Pairs in runs: a run between those before it and those after it.
-use Rattle.std.proofs.Common.{◌≡◌, ℕ, zero, suc, ◌+◌, ◌-◌, ◌<◌, ◌≤◌, List, [], ◌∷◌, ◌++◌, length, get_or, set, take, drop, Bool, true, false, refl, ap, sym, subst, ◌∙◌, add-one, arith, inl, inr, Some, None}
+use Rattle.std.proofs.Common.{◌≡◌, ℕ, zero, suc, ◌+◌, ◌-◌, ◌<◌, ◌≤◌, List, [], ◌∷◌, ◌++◌, length, get_or, set, take, drop, Bool, true, false, not, refl, ap, sym, subst, ◌∙◌, add-one, arith, inl, inr, Some, None}
 use Rattle.std.specs.Prelude.{All, cond, filter, insert, option_map, slice_get}
 use Rattle.std.proofs.lemmas.Bool.{cases_eq}
 use Rattle.std.proofs.lemmas.List.Elements.{All-nil, All-cons, All-append, All-drop, All-tail, All-take, All-head, filter-append}
@@ -277,7 +277,7 @@ module _ {V : Type 0} (key : List Datum) (runs : List (List (Pair V))) (i : ℕ)
 
 -- the first pair that passes, in the run in which they begin to, or in the next one
 module _ {V : Type 0} (t : Pair V → Bool) (runs : List (List (Pair V))) (i : ℕ) (d : List (Pair V)) (h : IsTurn t runs i) where
-  passed : filter t (joined runs) ≡ filter t (get_or runs i d) ++ joined (drop (suc i) runs)
+  pub passed : filter t (joined runs) ≡ filter t (get_or runs i d) ++ joined (drop (suc i) runs)
   passed =
       let later : All (λ p. t p ≡ true) (joined (drop (suc i) runs)) = rw add-one at h.pass in
       ap (filter t) (joined-split runs i d h.inside)
@@ -285,6 +285,17 @@ module _ {V : Type 0} (t : Pair V → Bool) (runs : List (List (Pair V))) (i : �
       ∙ ap (λ l. l ++ filter t (get_or runs i d ++ joined (drop (suc i) runs))) (filter-empty t (joined (take i runs)) h.fail)
       ∙ filter-append t (get_or runs i d) (joined (drop (suc i) runs))
       ∙ ap (λ l. filter t (get_or runs i d) ++ l) (filter-whole t (joined (drop (suc i) runs)) later)
+
+  pub unpassed : filter (λ p. not (t p)) (joined runs) ≡ joined (take i runs) ++ filter (λ p. not (t p)) (get_or runs i d)
+  unpassed =
+      let later : All (λ p. not (t p) ≡ false) (joined (drop (suc i) runs)) = λ k e l. ap not ((rw add-one at h.pass) k e l) in
+      ap (filter (λ p. not (t p))) (joined-split runs i d h.inside)
+      ∙ filter-append (λ p. not (t p)) (joined (take i runs)) (get_or runs i d ++ joined (drop (suc i) runs))
+      ∙ ap (λ l. l ++ filter (λ p. not (t p)) (get_or runs i d ++ joined (drop (suc i) runs)))
+      (filter-whole (λ p. not (t p)) (joined (take i runs)) (λ k e l. ap not (h.fail k e l)))
+      ∙ ap (λ l. joined (take i runs) ++ l) (filter-append (λ p. not (t p)) (get_or runs i d) (joined (drop (suc i) runs))
+      ∙ ap (λ l. filter (λ p. not (t p)) (get_or runs i d) ++ l) (filter-empty (λ p. not (t p)) (joined (drop (suc i) runs)) later)
+      ∙ append-nil (filter (λ p. not (t p)) (get_or runs i d)))
 
   pub from_there : (p : Pair V) → Some p ≡ slice_get (filter t (get_or runs i d)) 0 → Some p ≡ slice_get (filter t (joined runs)) 0
   from_there p e = first_there (filter t (get_or runs i d)) (joined (drop (suc i) runs)) p e ∙ ap (λ l. slice_get l 0) (sym passed)

@@ -1,15 +1,26 @@
--- A walk over pairs in runs, from one side or from the other.
-use Rattle.std.proofs.Common.{◌≡◌, Bool, true, false, List, [], ◌∷◌, ◌++◌, refl, ap, sym, ◌∙◌, Some, None}
-use Rattle.std.specs.Prelude.{map, reverse, Option}
+-- A walk over pairs in runs, from one side or from the other, and between two cuts.
+use Rattle.std.proofs.Common.{◌≡◌, ℕ, suc, ◌+◌, ◌-◌, arith, Bool, true, false, not, List, [], ◌∷◌, ◌++◌, drop, get_or, length, take, refl, ap, sym, ◌∙◌, Some, None}
+use Rattle.std.specs.Prelude.{All, ◌&&◌, cond, filter, if◌then◌else◌, map, reverse, IfSome, Option}
 use Rattle.std.specs.List.{cons_option}
-use Rattle.std.proofs.lemmas.List.{append-nil, append_assoc, map-append, reverse-append}
-use Rattle.std.proofs.lemmas.List.Elements.{filter_map-append}
+use Rattle.std.specs.declared.cmp.Ordering.TheVariants.{Equal}
+use Rattle.std.specs.Ordering.{is_lt, is_gt}
+use Rattle.std.proofs.lemmas.List.{append-nil, append_assoc, length-drop, map-append, reverse-append}
+use Rattle.std.proofs.lemmas.List.Elements.{All-head, All-tail, filter-append, filter_map-append}
+use Rattle.std.proofs.lemmas.List.Kept.{AllPairs-filter}
 use Rattle.psm_value.specs.declared.datum.Datum.{Datum}
-use Rattle.psm_table.specs.Held.{live_rows}
-use Rattle.psm_table.specs.Left.{pairs_left, turned}
+use Rattle.psm_table.specs.Cuts.{between, is_from, is_past, is_up_to, lies_behind, rows_between}
+use Rattle.psm_table.specs.declared.cut.Cut.{Cut}
+use Rattle.psm_table.specs.Held.{live_rows, HasItsKey}
+use Rattle.psm_table.specs.Key.{key_order, row_order, values_at}
+use Rattle.psm_table.specs.Left.{pairs_between, pairs_left, turned}
+use Rattle.psm_table.specs.Map.{AreAscending}
 use Rattle.psm_table.specs.Queries.{in_walk}
-use Rattle.psm_table.specs.Runs.{joined}
-use Rattle.psm_table.proofs.Lives.{Slot}
+use Rattle.psm_table.specs.Runs.{joined, IsTurn}
+use Rattle.psm_table.proofs.Filters.{filter-whole}
+use Rattle.psm_table.proofs.Joined.{passed, take-all, unpassed}
+use Rattle.psm_table.proofs.Lives.{Row, Slot}
+use Rattle.psm_table.proofs.Pairs.{Rises}
+use Rattle.psm_table.proofs.Prefixes.{prefix-equal}
 
 -- ---- the outermost item
 
@@ -23,20 +34,33 @@ turned_none false xs e = e
 -- ---- the pairs that are left
 
 module _ (downward : Bool) where
-  pub left_next : (pairs others : List Slot) (runs : List (List Slot)) (p : Slot) → turned downward pairs ≡ p ∷ turned downward others
-      → pairs_left downward pairs runs ≡ p ∷ pairs_left downward others runs
-  left_next pairs others runs p e = ap (λ l. l ++ joined (map (turned downward) (turned downward runs))) e
+  -- what follows the pairs of the run
+  abbrev rest_left : List (List Slot) → List Slot → List Slot
+  rest_left runs last = joined (map (turned downward) (turned downward runs)) ++ turned downward last
 
-  pub left_run : (pairs : List Slot) (runs others : List (List Slot)) (run : List Slot) → pairs ≡ [] → turned downward runs ≡ run ∷ turned downward others
-      → pairs_left downward pairs runs ≡ pairs_left downward run others
-  left_run pairs runs others run n e =
-      ap (λ l. l ++ joined (map (turned downward) (turned downward runs))) (turned_none downward pairs n)
-      ∙ ap (λ l. joined (map (turned downward) l)) e
+  pub left_next : (pairs others : List Slot) (runs : List (List Slot)) (last : List Slot) (p : Slot) → turned downward pairs ≡ p ∷ turned downward others
+      → pairs_left downward pairs runs last ≡ p ∷ pairs_left downward others runs last
+  left_next pairs others runs last p e = ap (λ l. l ++ rest_left runs last) e
 
-  pub left_none : (pairs : List Slot) (runs : List (List Slot)) → pairs ≡ [] → runs ≡ [] → pairs_left downward pairs runs ≡ []
-  left_none pairs runs n m =
-      ap (λ l. l ++ joined (map (turned downward) (turned downward runs))) (turned_none downward pairs n)
-      ∙ ap (λ l. joined (map (turned downward) l)) (turned_none downward runs m)
+  pub left_run : (pairs : List Slot) (runs others : List (List Slot)) (last run : List Slot) → pairs ≡ [] → turned downward runs ≡ run ∷ turned downward others
+      → pairs_left downward pairs runs last ≡ pairs_left downward run others last
+  left_run pairs runs others last run n e =
+      ap (λ l. l ++ rest_left runs last) (turned_none downward pairs n)
+      ∙ ap (λ l. joined (map (turned downward) l) ++ turned downward last) e
+      ∙ append_assoc (turned downward run) (joined (map (turned downward) (turned downward others))) (turned downward last)
+
+  pub left_last : (pairs : List Slot) (runs : List (List Slot)) (last : List Slot) → pairs ≡ [] → runs ≡ []
+      → pairs_left downward pairs runs last ≡ pairs_left downward last runs []
+  left_last pairs runs last n m =
+      ap (λ l. l ++ rest_left runs last) (turned_none downward pairs n)
+      ∙ ap (λ l. joined (map (turned downward) l) ++ turned downward last) (turned_none downward runs m)
+      ∙ sym (append-nil (turned downward last))
+      ∙ ap (λ l. turned downward last ++ l) (sym (ap (λ l. joined (map (turned downward) l) ++ turned downward []) (turned_none downward runs m) ∙ turned_none downward [] refl))
+
+  pub left_none : (pairs : List Slot) (runs : List (List Slot)) (last : List Slot) → pairs ≡ [] → runs ≡ [] → last ≡ [] → pairs_left downward pairs runs last ≡ []
+  left_none pairs runs last n m o =
+      ap (λ l. l ++ rest_left runs last) (turned_none downward pairs n)
+      ∙ ap (λ l. joined (map (turned downward) l) ++ turned downward last) (turned_none downward runs m) ∙ turned_none downward last o
 
 -- ---- all rows
 
@@ -70,8 +94,118 @@ live-turned (p ∷ ps) =
     ∙ ap (λ l. l ++ cons_option p.value []) (live-turned ps)
     ∙ sym (one_turned p.value (live_rows ps))
 
-pub rows_all : (downward : Bool) (pairs : List Slot) (runs : List (List Slot)) (all : List Slot) → pairs ≡ [] → joined runs ≡ all
-    → live_rows (pairs_left downward pairs runs) ≡ in_walk downward (live_rows all)
-rows_all true pairs runs all n e =
-    ap (λ l. live_rows (reverse l ++ joined (map (turned true) (reverse runs)))) n ∙ ap live_rows (joined-turned runs ∙ ap reverse e) ∙ live-turned all
-rows_all false pairs runs all n e = ap (λ l. live_rows (l ++ joined (map (turned false) runs))) n ∙ ap live_rows (joined-same runs ∙ e)
+-- the pairs of a run's end, of runs and of a run's beginning, from one side
+pub left_down : (downward : Bool) (first : List Slot) (runs : List (List Slot)) (last : List Slot) → downward ≡ true
+    → pairs_left downward last runs first ≡ turned downward (first ++ (joined runs ++ last))
+left_down true first runs last e =
+    ap (λ l. reverse last ++ (l ++ reverse first)) (joined-turned runs)
+    ∙ sym (append_assoc (reverse last) (reverse (joined runs)) (reverse first))
+    ∙ ap (λ l. l ++ reverse first) (sym (reverse-append (joined runs) last))
+    ∙ sym (reverse-append first (joined runs ++ last))
+left_down false first runs last e = cc
+
+pub left_up : (downward : Bool) (first : List Slot) (runs : List (List Slot)) (last : List Slot) → downward ≡ false
+    → pairs_left downward first runs last ≡ turned downward (first ++ (joined runs ++ last))
+left_up true first runs last e = cc
+left_up false first runs last e = ap (λ l. first ++ (l ++ last)) (joined-same runs)
+
+pub live_walk : (downward : Bool) (all : List Slot) → live_rows (turned downward all) ≡ in_walk downward (live_rows all)
+live_walk true all = live-turned all
+live_walk false all = refl
+
+-- ---- rows between two cuts
+
+module _ (columns : List ℕ) (t : List Datum → Bool) (same : (a b : List Datum) → key_order a b ≡ Equal → t a ≡ t b) where
+  kept_first : (p : Slot) (o : Option Row) (rows : List Row) (b : Bool) → IfSome o (λ row. row_order columns p.key row ≡ Equal) → t p.key ≡ b
+      → filter (λ row. t (values_at columns row)) (cons_option o rows) ≡ cond b (cons_option o (filter (λ row. t (values_at columns row)) rows)) (filter (λ row. t (values_at columns row)) rows)
+  kept_first p None rows true h e = refl
+  kept_first p None rows false h e = refl
+  kept_first p (Some row) rows b h e =
+      ap (λ c. cond c (row ∷ filter (λ r. t (values_at columns r)) rows) (filter (λ r. t (values_at columns r)) rows)) (same (values_at columns row) p.key h ∙ e)
+
+  kept_pairs : (p : Slot) (xs : List Slot) (b : Bool) → cond b (cons_option p.value (live_rows xs)) (live_rows xs) ≡ live_rows (cond b (p ∷ xs) xs)
+  kept_pairs p xs true = refl
+  kept_pairs p xs false = refl
+
+  -- a test that tells equal keys not apart keeps the rows of the pairs that it keeps
+  pub rows-kept : (pairs : List Slot) → All (HasItsKey columns) pairs → filter (λ row. t (values_at columns row)) (live_rows pairs) ≡ live_rows (filter (λ p. t p.key) pairs)
+  rows-kept [] h = refl
+  rows-kept (p ∷ ps) h =
+      kept_first p p.value (live_rows ps) (t p.key) (All-head (HasItsKey columns) p ps h) refl
+      ∙ ap (λ l. cond (t p.key) (cons_option p.value l) l) (rows-kept ps (All-tail (HasItsKey columns) p ps h))
+      ∙ kept_pairs p (filter (λ q. t q.key) ps) (t p.key)
+
+past_same : (values : List Datum) (is_behind : Bool) (a b : List Datum) → key_order a b ≡ Equal → is_past values is_behind a ≡ is_past values is_behind b
+past_same values is_behind a b e = ap (λ o. if is_behind then is_gt o else not (is_lt o)) (prefix-equal values a b e)
+
+from_same : (low : Option Cut) (a b : List Datum) → key_order a b ≡ Equal → is_from low a ≡ is_from low b
+from_same None a b e = refl
+from_same (Some c) a b e = past_same c.values.now c.is_behind a b e
+
+up_to_same : (high : Option Cut) (a b : List Datum) → key_order a b ≡ Equal → is_up_to high a ≡ is_up_to high b
+up_to_same None a b e = refl
+up_to_same (Some c) a b e = ap not (past_same c.values.now c.is_behind a b e)
+
+between_same : (low high : Option Cut) (a b : List Datum) → key_order a b ≡ Equal → between low high a ≡ between low high b
+between_same low high a b e = ap (λ x. x && is_up_to high a) (from_same low a b e) ∙ ap (λ x. is_from low b && x) (up_to_same high a b e)
+
+pub rows-between : (columns : List ℕ) (low high : Option Cut) (pairs : List Slot) → All (HasItsKey columns) pairs → rows_between columns low high (live_rows pairs) ≡ live_rows (pairs_between low high pairs)
+rows-between columns low high pairs h = rows-kept columns (between low high) (between_same low high) pairs h
+
+-- ---- pairs between two cuts
+
+both_first : (u v : Slot → Bool) (p : Slot) (l : List Slot) (a b : Bool) → u p ≡ a → v p ≡ b
+    → filter v (cond a (p ∷ l) l) ≡ cond (a && b) (p ∷ filter v l) (filter v l)
+both_first u v p l true b e f = ap (λ c. cond c (p ∷ filter v l) (filter v l)) f
+both_first u v p l false b e f = refl
+
+pub filter_both : (u v : Slot → Bool) (xs : List Slot) → filter v (filter u xs) ≡ filter (λ p. u p && v p) xs
+filter_both u v [] = refl
+filter_both u v (p ∷ xs) =
+    both_first u v p (filter u xs) (u p) (v p) refl refl
+    ∙ ap (λ l. cond (u p && v p) (p ∷ l) l) (filter_both u v xs)
+
+-- the parts of a walk: those from the low cut on, and of these those up to the high one
+pub parts_between : (low high : Option Cut) (first later near last all : List Slot) (rest : List Slot) → first ++ later ≡ filter (λ p. is_from low p.key) all
+    → rest ++ last ≡ filter (λ p. is_up_to high p.key) later → near ≡ filter (λ p. is_up_to high p.key) first → near ++ (rest ++ last) ≡ pairs_between low high all
+parts_between low high first later near last all rest a b c =
+    ap (λ l. l ++ (rest ++ last)) c ∙ ap (λ l. filter (λ (p : Slot). is_up_to high p.key) first ++ l) b
+    ∙ sym (filter-append (λ (p : Slot). is_up_to high p.key) first later)
+    ∙ ap (filter (λ p. is_up_to high p.key)) a
+    ∙ filter_both (λ p. is_from low p.key) (λ p. is_up_to high p.key) all
+
+-- what is kept of ascending pairs ascends
+pub ascending-filter : (t : Slot → Bool) (xs : List Slot) → AreAscending xs → AreAscending (filter t xs)
+ascending-filter t xs up = AllPairs-filter Rises t xs up
+
+-- without a cut nothing is left out
+pub from_none : (low : Option Cut) (xs : List Slot) → low ≡ None → xs ≡ filter (λ p. is_from low p.key) xs
+from_none None xs e = sym (filter-whole (λ (p : Slot). is_from None p.key) xs (λ k d l. refl))
+from_none (Some c) xs e = cc
+
+pub up_to_none : (high : Option Cut) (xs : List Slot) → high ≡ None → xs ≡ filter (λ p. is_up_to high p.key) xs
+up_to_none None xs e = sym (filter-whole (λ (p : Slot). is_up_to None p.key) xs (λ k d l. refl))
+up_to_none (Some c) xs e = cc
+
+rest_of : {X : Type 0} (xs : List X) (k : ℕ) → take (length xs - k) (drop k xs) ≡ drop k xs
+rest_of xs k = take-all (drop k xs) (length xs - k) (omega (arith, length-drop k xs))
+
+module _ (cut : Option Cut) (c : Cut) (runs : List (List Slot)) (i : ℕ) (d r : List Slot) (k : ℕ) (is : cut ≡ Some c) (h : IsTurn (λ (p : Slot). lies_behind c p.key) runs i) (e : r ≡ get_or runs i d) where
+  abbrev Behind : Slot → Bool
+  Behind p = lies_behind c p.key
+
+  -- what is left of runs from a cut on, and up to one
+  pub parts_from : drop k r ≡ filter (λ p. lies_behind c p.key) r
+      → take (length r - k) (drop k r) ++ joined (take (length runs - (i + 1)) (drop (i + 1) runs)) ≡ filter (λ p. is_from cut p.key) (joined runs)
+  parts_from f =
+      let one : i + 1 ≡ suc i = omega arith in
+      ap (λ l. l ++ joined (take (length runs - (i + 1)) (drop (i + 1) runs))) (rest_of r k ∙ f ∙ ap (filter Behind) e)
+      ∙ ap (λ l. filter Behind (get_or runs i d) ++ joined l) (rest_of runs (i + 1) ∙ ap (λ j. drop j runs) one)
+      ∙ sym (passed Behind runs i d h)
+      ∙ ap (λ o. filter (λ (p : Slot). is_from o p.key) (joined runs)) (sym is)
+
+  pub parts_up_to : take k r ≡ filter (λ p. not (lies_behind c p.key)) r → joined (take i runs) ++ take k r ≡ filter (λ p. is_up_to cut p.key) (joined runs)
+  parts_up_to f =
+      ap (λ l. joined (take i runs) ++ l) (f ∙ ap (filter (λ p. not (Behind p))) e)
+      ∙ sym (unpassed Behind runs i d h)
+      ∙ ap (λ o. filter (λ (p : Slot). is_up_to o p.key) (joined runs)) (sym is)

@@ -1,6 +1,7 @@
 pub mod AsStored
 pub mod Deleting
 pub mod Leaving
+pub mod Beginnings
 pub mod Checks
 pub mod Counts
 pub mod Entered
@@ -16,6 +17,7 @@ pub mod Keys
 pub mod Legal
 pub mod Lefts
 pub mod Lives
+pub mod Named
 pub mod Ordered
 pub mod Orders
 pub mod Pairs

@@ -50,3 +50,18 @@ prefix-greater (v ∷ k) [] b l e = cc
 prefix-greater (v ∷ k) (x ∷ a) [] l e = cc
 prefix-greater (v ∷ k) (x ∷ a) (y ∷ b) l e =
     more_step x y v (key_order a b) (prefix_order k a) (prefix_order k b) (data_order x y) (data_order x v) refl refl l e (prefix-greater k a b)
+
+equal_step : (x y v : Datum) (r s t : Ordering) (o : Ordering) → data_order x y ≡ o → ordering_then o r ≡ Equal → (r ≡ Equal → s ≡ t)
+    → ordering_then (data_order x v) s ≡ ordering_then (data_order y v) t
+equal_step x y v r s t Less e a h = cc
+equal_step x y v r s t Equal e a h = ap (λ o. ordering_then o s) (data_order-total.congr x y v e) ∙ ap (ordering_then (data_order y v)) (h a)
+equal_step x y v r s t Greater e a h = cc
+
+-- equal keys begin alike
+pub prefix-equal : (k a b : List Datum) → key_order a b ≡ Equal → prefix_order k a ≡ prefix_order k b
+prefix-equal [] a b e = refl
+prefix-equal (v ∷ k) [] [] e = refl
+prefix-equal (v ∷ k) [] (y ∷ b) e = cc
+prefix-equal (v ∷ k) (x ∷ a) [] e = cc
+prefix-equal (v ∷ k) (x ∷ a) (y ∷ b) e =
+    equal_step x y v (key_order a b) (prefix_order k a) (prefix_order k b) (data_order x y) refl e (prefix-equal k a b)

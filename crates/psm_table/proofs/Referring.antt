@@ -40,11 +40,11 @@ or_false : (a b : Bool) → a ≡ false → b ≡ false → (a || b) ≡ false
 or_false false b e f = f
 or_false true b e f = cc
 
-filled_none : (values : List Datum) → All (λ (d : Datum). d ≡ Null → ⊥) values → has_null values ≡ false
+pub filled_none : (values : List Datum) → All (λ (d : Datum). d ≡ Null → ⊥) values → has_null values ≡ false
 filled_none [] h = refl
 filled_none (d ∷ ds) h = or_false (is_null d) (has_null ds) (not_null d (All-head (λ (d : Datum). d ≡ Null → ⊥) d ds h)) (filled_none ds (All-tail (λ (d : Datum). d ≡ Null → ⊥) d ds h))
 
-turned_equal : (o : Ordering) → is_eq (ordering_reverse o) ≡ is_eq o
+pub turned_equal : (o : Ordering) → is_eq (ordering_reverse o) ≡ is_eq o
 turned_equal Less = refl
 turned_equal Equal = refl
 turned_equal Greater = refl
@@ -101,16 +101,16 @@ module _ (columns : List ℕ) (rows : List Row) (row : Row) (left : List Row) (i
   pub passed_over : (values : List Datum) → equal_values values (values_at columns row) ≡ false → has_values columns values rows ≡ has_values columns values left
   passed_over values e = ap (has_values columns values) is ∙ ap (λ b. b || has_values columns values left) e
 
--- ---- by the entries of a UNIQUE list
+-- ---- by the entries of a list
 
 -- each row has its entry in the set of the list
-pub entered_in : (def : TableDef) (sets : List (Mapped (Unit {0}))) (rows : List Row) (k : ℕ) (columns : List ℕ) (m : Mapped (Unit {0})) → slice_get def.unique k ≡ Some columns → m ≡ get_or sets k m → length sets ≡ length def.unique
-    → All (IsEntered def (entries_of sets)) rows → All (λ row. HasEntry def row columns (keys_of m.pairs)) rows
-entered_in def sets rows k columns m is at long h i d l =
-    let inside : k < length sets = omega (arith, slice_get_within def.unique k columns is, long) in
+pub entered_in : (def : TableDef) (lists : List (List ℕ)) (sets : List (Mapped (Unit {0}))) (rows : List Row) (k : ℕ) (columns : List ℕ) (m : Mapped (Unit {0})) → slice_get lists k ≡ Some columns → m ≡ get_or sets k m → length sets ≡ length lists
+    → All (IsEntered def lists (entries_of sets)) rows → All (λ row. HasEntry def row columns (keys_of m.pairs)) rows
+entered_in def lists sets rows k columns m is at long h i d l =
+    let inside : k < length sets = omega (arith, slice_get_within lists k columns is, long) in
     subst (λ es. HasEntry def (get_or rows i d) columns es) (get-entries sets k m [] inside ∙ ap (λ (n : Mapped (Unit {0})). keys_of n.pairs) (sym at))
-    (subst (λ cs. HasEntry def (get_or rows i d) cs (get_or (entries_of sets) k [])) (get_or_from_slice_get def.unique k columns columns is)
-    (all_zip-at (HasEntry def (get_or rows i d)) def.unique (entries_of sets) k columns [] (h i d l) (omega (arith, inside, length-entries sets))))
+    (subst (λ cs. HasEntry def (get_or rows i d) cs (get_or (entries_of sets) k [])) (get_or_from_slice_get lists k columns columns is)
+    (all_zip-at (HasEntry def (get_or rows i d)) lists (entries_of sets) k columns [] (h i d l) (omega (arith, inside, length-entries sets))))
 
 module _ (columns : List ℕ) (values : List Datum) (pairs : List (Pair (Option Row))) where
   -- whether the row of an entry has the values

@@ -184,7 +184,7 @@ module _ (def : TableDef) (row : Row) where
     rival_none true e h = h ((and_true (is_ne (row_order def.key (values_at def.key row) it)) (conflict def it row) e).1)
 
     -- no rival: each list in which the row has no null has harmless entries
-    pub no_rival : (sets : Sets) → IsEntered def (entries_of sets) it
+    pub no_rival : (sets : Sets) → IsEntered def def.unique (entries_of sets) it
         → ((k : ℕ) (c : List ℕ) (m : Mapped (Unit {0})) → k < length sets → has_null (values_at (get_or def.unique k c) row) ≡ false → All (Harmless (get_or def.unique k c) pairs) (get_or sets k m).pairs)
         → is_rival def row it ≡ false
     no_rival sets has harmless = rival_none (is_rival def row it) refl (λ e.
@@ -217,25 +217,25 @@ module _ (def : TableDef) (row : Row) where
         (λ p e. current-entry columns p.key null e) entries (has null)
 
     -- and so its entries are kept in all sets
-    pub survives-set : (sets : Sets) (n : ℕ) (columns : List ℕ) (m new : Mapped (Unit {0})) → n < length sets → m ≡ get_or sets n m → columns ≡ get_or def.unique n columns
-        → new.pairs ≡ filter (λ p. is_current def.key columns p.key (row_of (drop (length columns) p.key) pairs)) m.pairs → IsEntered def (entries_of sets) it → IsEntered def (entries_of (set sets n new)) it
-    survives-set sets n columns m new inside at list e h =
-        let long : length def.unique ≡ length (entries_of sets) = length_all_zip (HasEntry def it) def.unique (entries_of sets) h in
-        all_zip-from (HasEntry def it) def.unique (entries_of (set sets n new)) (omega (arith, long, length-entries sets, length-entries (set sets n new), length-set sets n new))
+    pub survives-set : (lists : List (List ℕ)) (sets : Sets) (n : ℕ) (columns : List ℕ) (m new : Mapped (Unit {0})) → n < length sets → m ≡ get_or sets n m → columns ≡ get_or lists n columns
+        → new.pairs ≡ filter (λ p. is_current def.key columns p.key (row_of (drop (length columns) p.key) pairs)) m.pairs → IsEntered def lists (entries_of sets) it → IsEntered def lists (entries_of (set sets n new)) it
+    survives-set lists sets n columns m new inside at list e h =
+        let long : length lists ≡ length (entries_of sets) = length_all_zip (HasEntry def it) lists (entries_of sets) h in
+        all_zip-from (HasEntry def it) lists (entries_of (set sets n new)) (omega (arith, long, length-entries sets, length-entries (set sets n new), length-set sets n new))
         (λ k d x l.
         let within : k < length sets = omega (arith, l, length-entries (set sets n new), length-set sets n new) in
-        let before = all_zip-at (HasEntry def it) def.unique (entries_of sets) k d x h (omega (arith, within, length-entries sets)) in
+        let before = all_zip-at (HasEntry def it) lists (entries_of sets) k d x h (omega (arith, within, length-entries sets)) in
         elim (cases_eq k n) [
           | inl is ↦
-              let same : get_or def.unique k d ≡ columns = ap (λ j. get_or def.unique j d) is ∙ get_or_default def.unique n d columns (omega (arith, inside, long, length-entries sets)) ∙ sym list in
+              let same : get_or lists k d ≡ columns = ap (λ j. get_or lists j d) is ∙ get_or_default lists n d columns (omega (arith, inside, long, length-entries sets)) ∙ sym list in
               let old : get_or (entries_of sets) k x ≡ keys_of m.pairs = ap (λ j. get_or (entries_of sets) j x) is ∙ get-entries sets n m x inside ∙ ap (λ (y : Mapped (Unit {0})). keys_of y.pairs) (sym at) in
               let now : get_or (entries_of (set sets n new)) k x ≡ keys_of new.pairs =
               ap (λ j. get_or (entries_of (set sets n new)) j x) is ∙ get-entries (set sets n new) n m x (omega (arith, inside, length-set sets n new)) ∙ ap (λ (y : Mapped (Unit {0})). keys_of y.pairs) (get-set sets n new m inside) in
-              let here : HasEntry def it columns (keys_of m.pairs) = subst (λ c. HasEntry def it c (keys_of m.pairs)) same (subst (λ es. HasEntry def it (get_or def.unique k d) es) old before) in
+              let here : HasEntry def it columns (keys_of m.pairs) = subst (λ c. HasEntry def it c (keys_of m.pairs)) same (subst (λ es. HasEntry def it (get_or lists k d) es) old before) in
               let kept : HasEntry def it columns (keys_of new.pairs) = subst (λ (ps : List Entry). HasEntry def it columns (keys_of ps)) (sym e) (survives columns m.pairs here) in
-              subst (λ es. HasEntry def it (get_or def.unique k d) es) (sym now) (subst (λ c. HasEntry def it c (keys_of new.pairs)) (sym same) kept)
+              subst (λ es. HasEntry def it (get_or lists k d) es) (sym now) (subst (λ c. HasEntry def it c (keys_of new.pairs)) (sym same) kept)
           | inr other ↦
               let unmoved : get_or (entries_of (set sets n new)) k x ≡ get_or (entries_of sets) k x =
               get-entries (set sets n new) k m x (omega (arith, within, length-set sets n new)) ∙ ap (λ (y : Mapped (Unit {0})). keys_of y.pairs) (get-set_other sets n k new m (λ f. other (sym f))) ∙ sym (get-entries sets k m x within) in
-              subst (λ es. HasEntry def it (get_or def.unique k d) es) (sym unmoved) before
+              subst (λ es. HasEntry def it (get_or lists k d) es) (sym unmoved) before
         ])

@@ -216,56 +216,58 @@ pub have_places : (columns : List ℕ) (pairs : List Slot) → All (HasItsKey co
 have_places columns pairs h = places-more columns (keys_of pairs) (keys_of pairs) pairs (λ k g. g) refl h
 
 -- a row of the table is kept
-pub row_kept : (def : TableDef) (rows : Slots) (sets : Sets) (row : List Datum) → has_key (keys_of rows.pairs) (values_at def.key row) ≡ true → IsEntered def (entries_of sets) row → KeepsRow (state_of def rows sets) row
-row_kept def rows sets row place entered = record { place = place; entries = entered }
+pub row_kept : (def : TableDef) (lists : List (List ℕ)) (rows : Slots) (sets : Sets) (row : List Datum) → has_key (keys_of rows.pairs) (values_at def.key row) ≡ true → IsEntered def lists (entries_of sets) row → KeepsRow (state_of def lists rows sets) row
+row_kept def lists rows sets row place entered = record { place = place; entries = entered }
 
-pub keeps-grow : (def : TableDef) (rows new : Slots) (sets more : Sets) → ((key : List Datum) → has_key (keys_of rows.pairs) key ≡ true → has_key (keys_of new.pairs) key ≡ true)
-    → length more ≡ length sets → Grow (entries_of sets) (entries_of more) → StillKeeps (state_of def rows sets) (state_of def new more)
-keeps-grow def rows new sets more places long grow row kept = record {
+pub keeps-grow : (def : TableDef) (lists : List (List ℕ)) (rows new : Slots) (sets more : Sets) → ((key : List Datum) → has_key (keys_of rows.pairs) key ≡ true → has_key (keys_of new.pairs) key ≡ true)
+    → length more ≡ length sets → Grow (entries_of sets) (entries_of more) → StillKeeps (state_of def lists rows sets) (state_of def lists new more)
+keeps-grow def lists rows new sets more places long grow row kept = record {
   place = places (values_at def.key row) kept.place;
-  entries = entered-grow def row (entries_of sets) (entries_of more) (omega (arith, long, length-entries sets, length-entries more)) grow kept.entries;
+  entries = entered-grow def lists row (entries_of sets) (entries_of more) (omega (arith, long, length-entries sets, length-entries more)) grow kept.entries;
 }
 
 pub have_keys : (t : Contents) → IsTable t → HaveKeys t.def t.rows
 have_keys t h = rows_exist t h
 
 -- a table with a row put in
-module _ (def : TableDef) (rows : Slots) (live : ℕ) (sets : Sets) (h : IsHeld def rows live sets) where
+module _ (def : TableDef) (lists : List (List ℕ)) (rows : Slots) (live : ℕ) (sets : Sets) (h : IsHeld def lists rows live sets) where
   pub held-put : (row : List Datum) (new : Slots) (count : ℕ) (more : Sets) → IsRow def row → live_rows new.pairs ≡ put def.key row (live_rows rows.pairs) → All (HasItsKey def.key) new.pairs
-      → count ≡ length (live_rows new.pairs) → length (live_rows new.pairs) ≤ most_rows → length more ≡ length sets → Grow (entries_of sets) (entries_of more) → IsEntered def (entries_of more) row → AreAscending new.pairs
-      → IsHeld def new count more
+      → count ≡ length (live_rows new.pairs) → length (live_rows new.pairs) ≤ most_rows → length more ≡ length sets → Grow (entries_of sets) (entries_of more) → IsEntered def lists (entries_of more) row → AreAscending new.pairs
+      → IsHeld def lists new count more
   held-put row new count more fits e keyed counted bound long grow entered order = record {
     order = order;
     table = subst (λ r. IsTable (record { def = def; rows = r })) (sym e)
         (IsTable-with_row (contents_of def rows) row h.table fits (subst (λ r. length r ≤ most_rows) e bound));
     count = counted;
     keyed = keyed;
-    lists = omega (arith, long, h.lists);
+    unique = h.unique;
+    sets = omega (arith, long, h.sets);
     entered =
         let key = values_at def.key row in
-        let old : AreEntered def (live_rows rows.pairs) (entries_of more) = λ k d l.
-        entered-grow def (get_or (live_rows rows.pairs) k d) (entries_of sets) (entries_of more) (omega (arith, long, length-entries sets, length-entries more)) grow (h.entered k d l) in
-        subst (λ r. AreEntered def r (entries_of more)) (sym e)
-        (All-append (IsEntered def (entries_of more)) (rows_below def.key key (live_rows rows.pairs)) (row ∷ rows_above def.key key (live_rows rows.pairs))
-        (All-filter (λ r. is_lt (row_order def.key key r)) (IsEntered def (entries_of more)) (live_rows rows.pairs) old)
-        (All-cons (IsEntered def (entries_of more)) row (rows_above def.key key (live_rows rows.pairs)) entered
-        (All-filter (λ r. is_gt (row_order def.key key r)) (IsEntered def (entries_of more)) (live_rows rows.pairs) old)));
+        let old : AreEntered def lists (live_rows rows.pairs) (entries_of more) = λ k d l.
+        entered-grow def lists (get_or (live_rows rows.pairs) k d) (entries_of sets) (entries_of more) (omega (arith, long, length-entries sets, length-entries more)) grow (h.entered k d l) in
+        subst (λ r. AreEntered def lists r (entries_of more)) (sym e)
+        (All-append (IsEntered def lists (entries_of more)) (rows_below def.key key (live_rows rows.pairs)) (row ∷ rows_above def.key key (live_rows rows.pairs))
+        (All-filter (λ r. is_lt (row_order def.key key r)) (IsEntered def lists (entries_of more)) (live_rows rows.pairs) old)
+        (All-cons (IsEntered def lists (entries_of more)) row (rows_above def.key key (live_rows rows.pairs)) entered
+        (All-filter (λ r. is_gt (row_order def.key key r)) (IsEntered def lists (entries_of more)) (live_rows rows.pairs) old)));
   }
 
   -- a table with the row of a key taken out
   pub held-without : (key : List Datum) (new : Slots) (count : ℕ) → live_rows new.pairs ≡ without def.key key (live_rows rows.pairs) → All (HasItsKey def.key) new.pairs
-      → count ≡ length (live_rows new.pairs) → length (live_rows new.pairs) ≤ length (live_rows rows.pairs) → AreAscending new.pairs → IsHeld def new count sets
+      → count ≡ length (live_rows new.pairs) → length (live_rows new.pairs) ≤ length (live_rows rows.pairs) → AreAscending new.pairs → IsHeld def lists new count sets
   held-without key new count e keyed counted bound order = record {
     order = order;
     table = subst (λ r. IsTable (record { def = def; rows = r })) (sym e)
         (IsTable-without (contents_of def rows) key h.table (subst (λ r. length r ≤ most_rows) e (omega (arith, bound, h.table.bound))));
     count = counted;
     keyed = keyed;
-    lists = h.lists;
-    entered = subst (λ r. AreEntered def r (entries_of sets)) (sym e)
-        (All-append (IsEntered def (entries_of sets)) (rows_below def.key key (live_rows rows.pairs)) (rows_above def.key key (live_rows rows.pairs))
-        (All-filter (λ r. is_lt (row_order def.key key r)) (IsEntered def (entries_of sets)) (live_rows rows.pairs) h.entered)
-        (All-filter (λ r. is_gt (row_order def.key key r)) (IsEntered def (entries_of sets)) (live_rows rows.pairs) h.entered));
+    unique = h.unique;
+    sets = h.sets;
+    entered = subst (λ r. AreEntered def lists r (entries_of sets)) (sym e)
+        (All-append (IsEntered def lists (entries_of sets)) (rows_below def.key key (live_rows rows.pairs)) (rows_above def.key key (live_rows rows.pairs))
+        (All-filter (λ r. is_lt (row_order def.key key r)) (IsEntered def lists (entries_of sets)) (live_rows rows.pairs) h.entered)
+        (All-filter (λ r. is_gt (row_order def.key key r)) (IsEntered def lists (entries_of sets)) (live_rows rows.pairs) h.entered));
   }
 
   -- the row that a key has

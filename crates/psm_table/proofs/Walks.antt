@@ -7,6 +7,7 @@ use Rattle.std.specs.declared.cmp.Ordering.TheVariants.{Less, Equal, Greater}
 use Rattle.std.specs.Ordering.{is_lt, is_gt}
 use Rattle.psm_value.specs.declared.datum.Datum.{Datum}
 use Rattle.psm_table.specs.declared.map.Pair.{Pair}
+use Rattle.psm_table.specs.Cuts.{is_past}
 use Rattle.psm_table.specs.Key.{key_order}
 use Rattle.psm_table.specs.Map.{AreAscending, pairs_above, pairs_below, prefix_order}
 use Rattle.psm_table.specs.Place.{ahead, following}
@@ -14,7 +15,7 @@ use Rattle.psm_table.specs.Rows.{last_of}
 use Rattle.psm_table.proofs.KeyLaws.{key_order-refl}
 use Rattle.psm_table.proofs.Filters.{filter-whole, filter-empty, greater_is, AllPairs-first, AllPairs-rest}
 use Rattle.psm_table.proofs.Searches.{turned_greater, less_before_less, greater_after_greater}
-use Rattle.psm_table.proofs.Prefixes.{prefix-less}
+use Rattle.psm_table.proofs.Prefixes.{prefix-greater, prefix-less}
 use Rattle.psm_table.proofs.Pairs.{Rises}
 
 pub last-cons : {X : Type 0} (x y : X) (xs : List X) → last_of (x ∷ y ∷ xs) ≡ last_of (y ∷ xs)
@@ -135,6 +136,10 @@ module _ {V : Type 0} where
 
   pub up-from : (values : List Datum) → Up (λ p. not (is_lt (prefix_order values p.key)))
   up-from values p q r e = not_less_from (prefix_order values q.key) (prefix_order values p.key) (λ l. prefix-less values p.key q.key r l) e
+
+  pub up-past : (values : List Datum) (is_behind : Bool) → Up (λ p. is_past values is_behind p.key)
+  up-past values true p q r e = ap is_gt (prefix-greater values p.key q.key r (greater_is (prefix_order values p.key) e))
+  up-past values false p q r e = up-from values p q r e
 
 pub next_less : {X : Type 0} (xs ys : List X) (x : X) → xs ≡ ys → length xs < length (x ∷ ys)
 next_less xs ys x e = omega (arith, ap length e)

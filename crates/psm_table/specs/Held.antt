@@ -1,5 +1,5 @@
--- What a table is made of: a map from keys to rows, and for each UNIQUE list the set of its entries.
-use Rattle.std.specs.Prelude.{◌≡◌, ℕ, ◌+◌, ◌<◌, List, length, map, All, Option, Some, None, IfSome}
+-- What a table is made of: a map from keys to rows, and for each UNIQUE list and each index the set of its entries.
+use Rattle.std.specs.Prelude.{◌≡◌, ℕ, ◌+◌, ◌<◌, List, length, map, take, All, Option, Some, None, IfSome}
 use Rattle.std.specs.declared.cmp.Ordering.TheVariants.{Equal}
 use Rattle.std.specs.List.{filter_map, AllZip}
 use Rattle.psm_value.specs.declared.datum.Datum.{Datum}
@@ -33,25 +33,27 @@ abbrev pub contents_of : TableDef → Mapped (Option (List Datum)) → Contents
 contents_of def rows = record { def = def; rows = live_rows rows.pairs }
 
 -- the table as its callers see it
-abbrev pub state_of : TableDef → Mapped (Option (List Datum)) → List (Mapped (Unit {0})) → State
-state_of def rows indexes = record { contents = contents_of def rows; places = keys_of rows.pairs; entries = entries_of indexes }
+abbrev pub state_of : TableDef → List (List ℕ) → Mapped (Option (List Datum)) → List (Mapped (Unit {0})) → State
+state_of def lists rows indexes = record { contents = contents_of def rows; places = keys_of rows.pairs; lists = lists; entries = entries_of indexes }
 
 -- the row of a pair has the pair's key
 abbrev pub HasItsKey : List ℕ → Pair (Option (List Datum)) → Type 0
 HasItsKey columns p = IfSome p.value (λ row. row_order columns p.key row ≡ Equal)
 
--- the entries of a row are there
-abbrev pub IsEntered : TableDef → List (List (List Datum)) → List Datum → Type 0
-IsEntered def entries row = AllZip (HasEntry def row) def.unique entries
+-- the entries of a row in the lists are there
+abbrev pub IsEntered : TableDef → List (List ℕ) → List (List (List Datum)) → List Datum → Type 0
+IsEntered def lists entries row = AllZip (HasEntry def row) lists entries
 
--- the keys ascend, and the rows are a table, so many as are counted, each at its key, and each with its entries
-pub record IsHeld (def : TableDef) (rows : Mapped (Option (List Datum))) (live : ℕ) (indexes : List (Mapped (Unit {0}))) : Type 0 where
+-- the keys ascend, and the rows are a table, so many as are counted, each at its key, and each with its entries in the
+-- lists, of which the first are the UNIQUE ones
+pub record IsHeld (def : TableDef) (lists : List (List ℕ)) (rows : Mapped (Option (List Datum))) (live : ℕ) (indexes : List (Mapped (Unit {0}))) : Type 0 where
   pub order : AreAscending rows.pairs
   pub table : IsTable (contents_of def rows)
   pub count : live ≡ length (live_rows rows.pairs)
   pub keyed : All (HasItsKey def.key) rows.pairs
-  pub lists : length indexes ≡ length def.unique
-  pub entered : All (IsEntered def (entries_of indexes)) (live_rows rows.pairs)
+  pub unique : take (length def.unique) lists ≡ def.unique
+  pub sets : length indexes ≡ length lists
+  pub entered : All (IsEntered def lists (entries_of indexes)) (live_rows rows.pairs)
 
 -- the count of 64 bits that isn't raised any more
 abbrev pub full_count : ℕ

@@ -1,4 +1,4 @@
--- The entries of UNIQUE lists: what is added to them and taken from them, and which tell of a row.
+-- The entries of lists of columns, UNIQUE ones and others: what is added to them and taken from them, and which tell of a row.
 use Rattle.std.specs.Prelude.{◌≡◌, ℕ, ◌+◌, ◌≤◌, ◌<◌, Bool, true, false, not, ◌&&◌, ◌++◌, List, length, drop, All, Option, Some, None, IfSome, slice_index_or}
 use Rattle.std.specs.Ordering.{is_eq}
 use Rattle.psm_value.specs.declared.datum.Datum.{Datum}
@@ -26,10 +26,10 @@ IsPrepared columns key row index None = has_null (values_at columns row) ≡ fal
 IsPrepared columns key row index (Some entry) = (entry ≡ values_at columns row ++ values_at key row) × (index.ready ≡ true) × (value_of entry index.pairs ≡ None)
 
 -- at the place of each set stands the entry that it needs of a row and doesn't have
-pub record ArePrepared (def : TableDef) (row : List Datum) (indexes : List (Mapped (Unit {0}))) (entries : List (Option (List Datum))) : Type 0 where
+pub record ArePrepared (def : TableDef) (columns : List (List ℕ)) (row : List Datum) (indexes : List (Mapped (Unit {0}))) (entries : List (Option (List Datum))) : Type 0 where
   pub lists : length entries ≡ length indexes
   pub each : (k : ℕ) (c : List ℕ) (m : Mapped (Unit {0})) (o : Option (List Datum)) → k < length indexes →
-      IsPrepared (slice_index_or def.unique k c) def.key row (slice_index_or indexes k m) (slice_index_or entries k o)
+      IsPrepared (slice_index_or columns k c) def.key row (slice_index_or indexes k m) (slice_index_or entries k o)
 
 -- a set has memory for an entry and lacks it, if there is one
 abbrev pub HasRoom : Mapped (Unit {0}) → Option (List Datum) → Type 0
@@ -49,9 +49,9 @@ pub record IsPut (old new : Mapped (Unit {0})) (entry : Option (List Datum)) : T
 abbrev pub ArePut : List (Mapped (Unit {0})) → List (Mapped (Unit {0})) → List (Option (List Datum)) → Type 0
 ArePut old new entries = (k : ℕ) (m : Mapped (Unit {0})) (o : Option (List Datum)) → k < length old → IsPut (slice_index_or old k m) (slice_index_or new k m) (slice_index_or entries k o)
 
--- each row has its entries
-abbrev pub AreEntered : TableDef → List (List Datum) → List (List (List Datum)) → Type 0
-AreEntered def rows entries = All (IsEntered def entries) rows
+-- each row has its entries in the lists
+abbrev pub AreEntered : TableDef → List (List ℕ) → List (List Datum) → List (List (List Datum)) → Type 0
+AreEntered def lists rows entries = All (IsEntered def lists entries) rows
 
 -- each row has the columns of the key
 abbrev pub HaveKeys : TableDef → List (List Datum) → Type 0

@@ -1,5 +1,7 @@
 pub mod Changing
+pub mod Constraints
 pub mod Cursors
+pub mod Cuts
 pub mod Definition
 pub mod Evaluator
 pub mod Held

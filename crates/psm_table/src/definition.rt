@@ -87,7 +87,11 @@ fn copied_columns(alloc: Global, columns: &[Column]) -> Result<List<Column>, All
     Ok(List::of(copy))
 }
 
-fn copied_lists(alloc: Global, lists: &[List<u32>]) -> Result<List<List<u32>>, AllocError>
+/// The same lists in memory of their own.
+pub(crate) fn copied_lists(
+    alloc: Global,
+    lists: &[List<u32>],
+) -> Result<List<List<u32>>, AllocError>
     ensures { IfOk result (λ copy. copy ≡ lists.now) }
 {
     let mut copy = Vec::new(alloc);

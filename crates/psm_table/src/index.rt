@@ -1,5 +1,5 @@
-//! The UNIQUE lists of a table (ISO/IEC 9075:1992, 8.9), each with the set of its entries: the values of rows in
-//! the columns of the list, each followed by the row's key.
+//! The UNIQUE lists of a table (ISO/IEC 9075:1992, 8.9) and its further indexes, each with the set of its entries: the
+//! values of rows in the columns of the list, each followed by the row's key.
 ghost use Rattle.std.specs.Prelude.{◌≡◌, ◌≤◌, ◌++◌, length, take, drop, All, slice_index_or, true, false, IfOk, OnOk, OnErr};
 ghost use Rattle.std.specs.Bool.{OnTrue, OnFalse};
 ghost use Rattle.psm_value.specs.declared.datum.Datum.TheVariants.{Null};
@@ -16,6 +16,7 @@ use crate::key::Key;
 use crate::map::{OrderedMap, Pair, Test};
 use crate::probe::{Probe, order_of_prefix};
 use crate::row::Row;
+use psm_list::List;
 use psm_value::Datum;
 use std::alloc::{AllocError, Global};
 
@@ -24,17 +25,18 @@ pub(crate) fn enter(
     alloc: Global,
     indexes: &mut Vec<OrderedMap<()>>,
     def: &TableDef,
+    lists: &[List<u32>],
     row: &[Datum],
 ) -> Result<(), AllocError>
-    requires lists { length indexes.old.items ≡ length def.now.unique }
+    requires lists { length indexes.old.items ≡ length lists.now }
     requires key { AreColumnsOf row.now def.now.key }
     ensures lists { length indexes.new.items ≡ length indexes.old.items }
-    ensures entered { OnOk result (IsEntered def.now (entries_of indexes.new.items) row.now) }
+    ensures entered { OnOk result (IsEntered def.now lists.now (entries_of indexes.new.items) row.now) }
     ensures grow { Grow (entries_of indexes.old.items) (entries_of indexes.new.items) }
     ensures one { GrowByOne (entries_of indexes.old.items) (entries_of indexes.new.items) }
     ensures refused { OnErr result (entries_of indexes.new.items ≡ entries_of indexes.old.items) }
 {
-    let entries = prepare_all(alloc, indexes, def, row)?;
+    let entries = prepare_all(alloc, indexes, def, lists, row)?;
     put_all(indexes, entries);
     Ok(())
 }
@@ -44,17 +46,18 @@ fn prepare_all(
     alloc: Global,
     indexes: &mut Vec<OrderedMap<()>>,
     def: &TableDef,
+    lists: &[List<u32>],
     row: &[Datum],
 ) -> Result<Vec<Option<Key>>, AllocError>
-    requires lists { length indexes.old.items ≡ length def.now.unique }
+    requires lists { length indexes.old.items ≡ length lists.now }
     requires key { AreColumnsOf row.now def.now.key }
     ensures lists { length indexes.new.items ≡ length indexes.old.items }
     ensures same { entries_of indexes.new.items ≡ entries_of indexes.old.items }
-    ensures entries { IfOk result (λ entries. ArePrepared def.now row.now indexes.new.items entries.items) }
+    ensures entries { IfOk result (λ entries. ArePrepared def.now lists.now row.now indexes.new.items entries.items) }
 {
     let mut entries = Vec::new(alloc);
     for i in 0..indexes.len() {
-        let columns = def.unique.items()[i].items();
+        let columns = lists[i].items();
         let entry = prepare(alloc, &mut indexes[i], columns, def.key.items(), row)?;
         entries.push(entry)?;
     }
@@ -150,7 +153,7 @@ pub(crate) fn has_rival(
     requires order { AreAscending rows.now.pairs }
     requires at_keys { All (HasItsKey def.now.key) rows.now.pairs }
     requires ascend { IsAscending def.now.key (live_rows rows.now.pairs) }
-    requires entered { AreEntered def.now (live_rows rows.now.pairs) (entries_of indexes.now) }
+    requires entered { AreEntered def.now def.now.unique (live_rows rows.now.pairs) (entries_of indexes.now) }
     ensures { result ≡ clashes def.now row.now (live_rows rows.now.pairs) }
 {
     for i in 0..indexes.len() {
@@ -302,21 +305,22 @@ fn is_entry_of(columns: &[u32], key: &[u32], row: &[Datum], entry: &[Datum]) -> 
 /// Lets the entries go that are of no row which is there now.
 pub(crate) fn settle_entries(
     def: &TableDef,
+    lists: &[List<u32>],
     rows: &OrderedMap<Option<Row>>,
     indexes: &mut Vec<OrderedMap<()>>,
 )
-    requires lists { length indexes.old.items ≡ length def.now.unique }
+    requires lists { length indexes.old.items ≡ length lists.now }
     requires rows { HaveKeys def.now (live_rows rows.now.pairs) }
     requires order { AreAscending rows.now.pairs }
     requires at_keys { All (HasItsKey def.now.key) rows.now.pairs }
     requires ascend { IsAscending def.now.key (live_rows rows.now.pairs) }
-    requires entered { AreEntered def.now (live_rows rows.now.pairs) (entries_of indexes.old.items) }
+    requires entered { AreEntered def.now lists.now (live_rows rows.now.pairs) (entries_of indexes.old.items) }
     ensures lists { length indexes.new.items ≡ length indexes.old.items }
-    ensures entered { AreEntered def.now (live_rows rows.now.pairs) (entries_of indexes.new.items) }
+    ensures entered { AreEntered def.now lists.now (live_rows rows.now.pairs) (entries_of indexes.new.items) }
     ensures few { All (λ es. length es ≤ length (live_rows rows.now.pairs)) (entries_of indexes.new.items) }
 {
     for i in 0..indexes.len() {
-        let columns = def.unique.items()[i].items();
+        let columns = lists[i].items();
         indexes[i].retain(IsCurrent { def, columns, rows });
     }
 }

@@ -1,6 +1,8 @@
 //! Tables in memory: lists of rows in ascending order of their primary keys (ISO/IEC 9075:1992, 4.10).
 #![tactic(auto)]
 
+mod constraints;
+mod cut;
 mod definition;
 mod fault;
 mod index;
@@ -15,6 +17,8 @@ mod runs;
 mod table;
 mod walk;
 
+pub use constraints::ForeignKeys;
+pub use cut::Cut;
 pub use definition::{Column, ForeignKey, TableDef};
 pub use fault::RowFault;
 pub use key::{Key, Parts};

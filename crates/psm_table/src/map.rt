@@ -1,5 +1,5 @@
 //! Ordered maps from keys, which can be asked by values that stand in a row.
-ghost use Rattle.std.specs.Prelude.{◌≡◌, [], Bool, true, is_some, filter, slice_get, List, IfOk, IfSome, IsSome, OnOk, None, Some};
+ghost use Rattle.std.specs.Prelude.{◌≡◌, [], All, Bool, true, is_some, filter, slice_get, List, IfOk, IfSome, IsSome, OnOk, None, Some};
 ghost use Rattle.std.specs.Option.{option_copied, ForSome};
 ghost use Rattle.psm_table.specs.Held.{live_rows, row_of};
 ghost use Rattle.psm_table.specs.Key.{values_at, AreColumnsOf};
@@ -8,13 +8,13 @@ ghost use Rattle.psm_table.specs.Place.{ahead, following, pairs_past, pairs_shor
 ghost use Rattle.psm_value.specs.declared.datum.Datum.{Datum};
 ghost use Rattle.psm_table.specs.declared.map.Pair.{Pair};
 ghost use Rattle.psm_table.specs.Rows.{last_of};
-ghost use Rattle.psm_table.specs.Runs.{joined};
+ghost use Rattle.psm_table.specs.Runs.{joined, IsRun};
 
 use crate::key::Key;
 use crate::probe::Probe;
 use crate::row::Row;
 use crate::run::Run;
-use crate::runs::{first_from, last_before, locate, locate_from, put, retain_at};
+use crate::runs::{first_from, last_before, locate, locate_past, put, retain_at};
 use std::alloc::{AllocError, Global};
 use std::marker::Model;
 
@@ -145,7 +145,9 @@ impl<V: Drop> OrderedMap<V> {
 
     /// Lends the runs.
     pub(crate) fn runs(&self) -> &[Run<V>]
-        ensures { joined result.now ≡ self.now.pairs }
+        ensures pairs { joined result.now ≡ self.now.pairs }
+        ensures ordered { AreAscending (joined result.now) }
+        ensures runs { All IsRun result.now }
     {
         self.runs.as_slice()
     }
@@ -176,7 +178,7 @@ impl<V: Drop> OrderedMap<V> {
         if runs.is_empty() {
             return None;
         }
-        let at = locate_from(runs, probe);
+        let at = locate_past(runs, probe, false);
         match runs[at].from(probe) {
             Some(pair) => Some(pair),
             None => first_from(runs, at + 1),

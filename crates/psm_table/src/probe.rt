@@ -3,6 +3,7 @@ ghost use Rattle.std.specs.Prelude.{◌≡◌, ◌<◌, ◌++◌, ◌∷◌, [],
 ghost use Rattle.psm_value.specs.declared.datum.Datum.TheVariants.{Null};
 ghost use Rattle.psm_num.specs.Order.{order};
 ghost use Rattle.psm_value.specs.Order.{data_order};
+ghost use Rattle.psm_table.specs.Cuts.{is_past};
 ghost use Rattle.psm_table.specs.Key.{key_order};
 ghost use Rattle.psm_table.specs.Map.{prefix_order};
 ghost use Rattle.psm_table.specs.Place.{probe_key, FitsProbe};
@@ -151,5 +152,18 @@ pub(crate) fn order_of_prefix(key: &[Datum], probe: Probe<'_>) -> Ordering
     match (key, sought) {
         ([first, ..], Probe::One(value)) => order_of(first, value),
         _ => Probe::Of(&key[..key.len().min(sought.len())]).order(sought),
+    }
+}
+
+/// Whether a key is past the keys that begin with what it is compared with, or, if these count too, from them on.
+pub(crate) fn is_past(key: &[Datum], probe: Probe<'_>, is_behind: bool) -> bool
+    requires { FitsProbe probe }
+    ensures { result ≡ is_past (probe_key probe.entry) is_behind key.now }
+{
+    let order = order_of_prefix(key, probe);
+    if is_behind {
+        order.is_gt()
+    } else {
+        !order.is_lt()
     }
 }

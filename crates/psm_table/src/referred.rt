@@ -1,5 +1,6 @@
 //! Rows that others refer to (ISO/IEC 9075:1992, 11.8).
-ghost use Rattle.std.specs.Prelude.{◌≡◌, slice_get, All, Some, IfSome, false};
+ghost use Rattle.std.specs.Bool.{OnTrue};
+ghost use Rattle.std.specs.Prelude.{◌≡◌, length, slice_get, take, All, Some, IfSome, false};
 ghost use Rattle.psm_table.specs.Held.{live_rows, row_of, HasItsKey};
 ghost use Rattle.psm_table.specs.Index.{row_has};
 ghost use Rattle.psm_table.specs.Key.{values_at, AreColumnsOf};
@@ -15,21 +16,29 @@ use crate::map::OrderedMap;
 use crate::probe::{Probe, order_of_prefix};
 use crate::row::Row;
 use crate::walk::RowsLeft;
+use psm_list::List;
 use psm_value::Datum;
 
-/// The place of a UNIQUE list that has just these columns, in order.
-pub(crate) fn list_of(def: &TableDef, columns: &[u32]) -> Option<usize>
-    ensures { IfSome result (λ i. slice_get def.now.unique i ≡ Some columns.now) }
+/// Whether a key begins with the columns, in order.
+pub(crate) fn begins(key: &[u32], columns: &[u32]) -> bool
+    ensures { OnTrue result (take (length columns.now) key.now ≡ columns.now) }
 {
-    for i in 0..def.unique.items().len() {
-        if def.unique.items()[i].items() == columns {
+    columns.len() <= key.len() && &key[..columns.len()] == columns
+}
+
+/// The place of a list that has just these columns, in order.
+pub(crate) fn list_of(lists: &[List<u32>], columns: &[u32]) -> Option<usize>
+    ensures { IfSome result (λ i. slice_get lists.now i ≡ Some columns.now) }
+{
+    for i in 0..lists.len() {
+        if lists[i].items() == columns {
             return Some(i);
         }
     }
     None
 }
 
-/// Whether one of the rows has the values in the columns of a UNIQUE list, by the entries of the list. It takes no memory.
+/// Whether one of the rows has the values in the columns of a list, by the entries of the list. It takes no memory.
 pub(crate) fn has_entry_with(
     def: &TableDef,
     columns: &[u32],

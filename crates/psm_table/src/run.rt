@@ -1,12 +1,13 @@
 //! Runs of pairs in ascending order of their keys, each in memory of its own that is taken when it is made.
-ghost use Rattle.std.specs.Prelude.{◌≡◌, ◌+◌, ◌<◌, ◌≤◌, [], ◌++◌, length, filter, insert, not, nat_eq, if◌then◌else◌, slice_get, is_some, List, IfOk, IfSome, IfErr, IsSome, None, Some};
+ghost use Rattle.std.specs.Prelude.{◌≡◌, ◌+◌, ◌<◌, ◌≤◌, [], ◌++◌, length, take, drop, filter, insert, not, nat_eq, if◌then◌else◌, slice_get, is_some, List, IfOk, IfSome, IfErr, IsSome, None, Some};
 ghost use Rattle.std.specs.Vec.{vec_len, vec_capacity};
 ghost use Rattle.std.specs.Bool.{OnTrue, OnFalse};
 ghost use Rattle.std.specs.Option.{option_copied};
-ghost use Rattle.std.specs.Ordering.{is_gt, is_lt};
+ghost use Rattle.std.specs.Ordering.{is_gt};
+ghost use Rattle.psm_table.specs.Cuts.{is_past};
 ghost use Rattle.psm_table.specs.Held.{row_of};
 ghost use Rattle.psm_table.specs.Key.{key_order, number_of, values_at, AreColumnsOf};
-ghost use Rattle.psm_table.specs.Map.{value_of, pairs_from, pairs_above, pairs_below, prefix_order, with_pair, with_value};
+ghost use Rattle.psm_table.specs.Map.{value_of, pairs_from, pairs_above, pairs_below, with_pair, with_value, AreAscending};
 ghost use Rattle.psm_table.specs.Place.{probe_key, FitsProbe, IsAt, IsGap};
 ghost use Rattle.psm_value.specs.declared.datum.Datum.{Datum};
 ghost use Rattle.psm_table.specs.declared.map.Pair.{Pair};
@@ -15,7 +16,7 @@ ghost use Rattle.psm_table.specs.Runs.{begins, head_of, most_pairs, IsRun};
 
 use crate::key::Key;
 use crate::map::{Copied, Pair, Test};
-use crate::probe::{Probe, order_of_numbers, order_of_prefix};
+use crate::probe::{Probe, is_past, order_of_numbers};
 use crate::row::Row;
 use psm_num::Dec;
 use psm_value::Datum;
@@ -129,7 +130,8 @@ impl<V: Drop> Run<V> {
 
     /// Lends the pairs.
     pub(crate) fn pairs(&self) -> &[Pair<V>]
-        ensures { result.now ≡ self.now }
+        ensures value { result.now ≡ self.now }
+        ensures ordered { AreAscending result.now }
     {
         self.pairs.as_slice()
     }
@@ -171,13 +173,13 @@ impl<V: Drop> Run<V> {
         }
     }
 
-    /// Whether the first pair's key begins with what is looked for, or with greater values.
-    pub(crate) fn begins_from(&self, probe: Probe<'_>) -> bool
+    /// Whether the first pair's key is past a cut.
+    pub(crate) fn begins_past(&self, probe: Probe<'_>, is_behind: bool) -> bool
         requires { FitsProbe probe }
-        ensures { result ≡ begins (λ p. not (is_lt (prefix_order (probe_key probe.entry) p.key))) self.now }
+        ensures { result ≡ begins (λ p. is_past (probe_key probe.entry) is_behind p.key) self.now }
     {
         match self.pairs.as_slice() {
-            [first, ..] => !order_of_prefix(first.key.values(), probe).is_lt(),
+            [first, ..] => is_past(first.key.values(), probe, is_behind),
             [] => false,
         }
     }
@@ -187,17 +189,8 @@ impl<V: Drop> Run<V> {
         requires { FitsProbe probe }
         ensures { option_copied result ≡ slice_get (pairs_from (probe_key probe.entry) self.now) 0 }
     {
-        let mut low = 0;
-        let mut high = self.pairs.len();
-        while low < high {
-            let middle = low + (high - low) / 2;
-            if order_of_prefix(self.pairs[middle].key.values(), probe).is_lt() {
-                low = middle + 1;
-            } else {
-                high = middle;
-            }
-        }
-        self.pairs.get(low)
+        let pairs = self.pairs.as_slice();
+        pairs.get(turn(pairs, probe, false))
     }
 
     /// Where the key stands, or else where it would.
@@ -325,6 +318,27 @@ impl Run<Option<Row>> {
             Err(_) => None,
         }
     }
+}
+
+/// How many of the pairs, in ascending order of their keys, aren't past a cut.
+pub(crate) fn turn<V: Drop>(pairs: &[Pair<V>], probe: Probe<'_>, is_behind: bool) -> usize
+    requires fits { FitsProbe probe }
+    requires order { AreAscending pairs.now }
+    ensures inside { result ≤ length pairs.now }
+    ensures past { drop result pairs.now ≡ filter (λ p. is_past (probe_key probe.entry) is_behind p.key) pairs.now }
+    ensures others { take result pairs.now ≡ filter (λ p. not (is_past (probe_key probe.entry) is_behind p.key)) pairs.now }
+{
+    let mut low = 0;
+    let mut high = pairs.len();
+    while low < high {
+        let middle = low + (high - low) / 2;
+        if is_past(pairs[middle].key.values(), probe, is_behind) {
+            high = middle;
+        } else {
+            low = middle + 1;
+        }
+    }
+    low
 }
 
 /// The number that is the first pair's key, if it is one.

@@ -1,9 +1,9 @@
 //! Runs that follow one another, so that the pairs of all are in ascending order of their keys.
-ghost use Rattle.std.specs.Prelude.{◌≡◌, ◌+◌, ◌<◌, ◌≤◌, [], ◌∷◌, ◌++◌, length, take, drop, All, filter, not, slice_get, slice_index_or, IfSome, None};
+ghost use Rattle.std.specs.Prelude.{◌≡◌, ◌+◌, ◌<◌, ◌≤◌, [], ◌∷◌, ◌++◌, length, take, drop, All, filter, slice_get, slice_index_or, IfSome, None};
 ghost use Rattle.std.specs.Option.{option_copied};
-ghost use Rattle.std.specs.Ordering.{is_lt};
 ghost use Rattle.std.specs.Vec.{vec_len, vec_capacity};
-ghost use Rattle.psm_table.specs.Map.{value_of, prefix_order, with_pair, AreAscending};
+ghost use Rattle.psm_table.specs.Cuts.{is_past};
+ghost use Rattle.psm_table.specs.Map.{value_of, with_pair, AreAscending};
 ghost use Rattle.psm_table.specs.Place.{probe_key, FitsProbe};
 ghost use Rattle.psm_table.specs.declared.map.Pair.{Pair};
 ghost use Rattle.psm_table.specs.Rows.{last_of};
@@ -35,18 +35,18 @@ pub(crate) fn locate<V: Drop>(runs: &[Run<V>], probe: Probe<'_>) -> usize
     low.saturating_sub(1)
 }
 
-/// The last run whose first pair's key begins with smaller values than are looked for, or the first.
-pub(crate) fn locate_from<V: Drop>(runs: &[Run<V>], probe: Probe<'_>) -> usize
+/// The last run whose first pair's key isn't past a cut, or the first.
+pub(crate) fn locate_past<V: Drop>(runs: &[Run<V>], probe: Probe<'_>, is_behind: bool) -> usize
     requires fits { FitsProbe probe }
     requires order { AreAscending (joined runs.now) }
     requires runs { All IsRun runs.now }
-    ensures { 0 < length runs.now → IsTurn (λ p. not (is_lt (prefix_order (probe_key probe.entry) p.key))) runs.now result }
+    ensures { 0 < length runs.now → IsTurn (λ p. is_past (probe_key probe.entry) is_behind p.key) runs.now result }
 {
     let mut low = 0;
     let mut high = runs.len();
     while low < high {
         let middle = low + (high - low) / 2;
-        if runs[middle].begins_from(probe) {
+        if runs[middle].begins_past(probe, is_behind) {
             high = middle;
         } else {
             low = middle + 1;

@@ -1,5 +1,6 @@
-ghost use Rattle.std.specs.Prelude.{◌≡◌, ◌+◌, ◌≤◌, ◌<◌, ◌↔◌, [], length, None, Some, IsTrue, is_some, true, false, All, IfSome, IfNone, IfOk, if◌then◌else◌};
+ghost use Rattle.std.specs.Prelude.{◌≡◌, ◌+◌, ◌≤◌, ◌<◌, ◌↔◌, [], length, None, Some, IsTrue, is_some, true, false, All, IfSome, IfNone, IfOk, if◌then◌else◌, take};
 ghost use Rattle.std.specs.Option.{option_copied, ForSome};
+ghost use Rattle.psm_table.specs.Cuts.{rows_between};
 ghost use Rattle.psm_table.specs.Definition.{IsDefinition, IsRow, IsKey, HasColumns};
 ghost use Rattle.psm_table.specs.Held.{entries_of};
 ghost use Rattle.psm_table.specs.Key.{values_at};
@@ -10,15 +11,18 @@ ghost use Rattle.psm_table.specs.State.{has_key, IsTidy, Inserts, Changes, Keeps
 ghost use Rattle.psm_table.specs.Table.{IsTable, empty_table, keyed, most_rows, namesake, with_row, without_row};
 ghost use Rattle.psm_table.specs.Unique.{clashes, has_null};
 
-use crate::definition::TableDef;
+use crate::cut::Cut;
+use crate::definition::{TableDef, copied_lists};
 use crate::fault::RowFault;
 use crate::index::{enter, has_rival, settle_entries};
 use crate::key::Key;
 use crate::map::{HasRow, OrderedMap};
 use crate::probe::Probe;
-use crate::referred::{has_entry_with, has_row_with, list_of};
+use crate::referred::{begins, has_entry_with, has_row_with, list_of};
 use crate::row::Row;
+use crate::run::insert_reserved;
 use crate::walk::RowsLeft;
+use psm_list::List;
 use psm_value::{Datum, Steps};
 use std::alloc::{AllocError, Global};
 use std::marker::Model;
@@ -32,7 +36,7 @@ const FEW_LEFT: u64 = 64;
 /// A table: its definition, which no call changes, and its rows in ascending order of their keys.
 ///
 /// The row of a key that was taken out by `hide`, or put out by `swap`, can be put back by `revive` without
-/// memory: its key keeps a place and its UNIQUE entries stay, until `settle`, `erase` or `change`.
+/// memory: its key keeps a place and its entries stay, until `settle`, `erase` or `change`.
 #[derive(Drop)]
 pub struct Table {
     def: TableDef,
@@ -41,7 +45,9 @@ pub struct Table {
     rows: OrderedMap<Option<Row>>,
     /// How many keys have a row.
     live: u32,
-    /// For each UNIQUE list the values of rows in it, each followed by the row's key.
+    /// The lists of columns in which rows are looked up: the UNIQUE ones, and behind them those of indexes.
+    lists: Vec<List<u32>>,
+    /// For each list the values of rows in it, each followed by the row's key.
     indexes: Vec<OrderedMap<()>>,
     /// How many rows were taken out, or put out by others, since these were last let go. It stops at its greatest
     /// value, at which the next `settle` lets them go.
@@ -54,9 +60,9 @@ impl Model for Table {
 
     ghost Value = { State };
 
-    ghost view = { λ t. state_of t.def t.rows t.indexes.items };
+    ghost view = { λ t. state_of t.def t.lists.items t.rows t.indexes.items };
 
-    ghost invariant = { λ t. IsHeld t.def t.rows t.live t.indexes.items × AreCounted (state_of t.def t.rows t.indexes.items) t.left };
+    ghost invariant = { λ t. IsHeld t.def t.lists.items t.rows t.live t.indexes.items × AreCounted (state_of t.def t.lists.items t.rows t.indexes.items) t.left };
 }
 
 impl Table {
@@ -70,14 +76,37 @@ impl Table {
         for _ in def.unique.items() {
             indexes.push(OrderedMap::new(alloc))?;
         }
+        let lists = copied_lists(alloc, def.unique.items())?.into_vec();
         Ok(Table {
             def,
             alloc,
             rows: OrderedMap::new(alloc),
             live: 0,
+            lists,
             indexes,
             left: 0,
         })
+    }
+
+    /// Keeps an index on the columns from now on, so that `has` finds values there without a walk. Where the key begins
+    /// with the columns, or a UNIQUE list or an index has just them, nothing is kept. The table has no rows.
+    pub fn index(&mut self, columns: &[u32]) -> Result<(), AllocError>
+        requires empty { self.old.contents.rows ≡ [] }
+        ensures contents { self.new.contents ≡ self.old.contents }
+        ensures tidy { IsTidy self.old → IsTidy self.new }
+    {
+        if begins(self.def.key.items(), columns) {
+            return Ok(());
+        }
+        if list_of(self.lists.as_slice(), columns).is_some() {
+            return Ok(());
+        }
+        let list = List::of(Vec::from_slice(self.alloc, columns)?);
+        self.indexes.reserve(1)?;
+        self.lists.push(list)?;
+        let last = self.indexes.len();
+        insert_reserved(&mut self.indexes, last, OrderedMap::new(self.alloc));
+        Ok(())
     }
 
     /// The definition.
@@ -191,7 +220,13 @@ impl Table {
         let Some(position) = self.rows.find_row(probe) else {
             return Err(RowFault::Absent);
         };
-        enter(self.alloc, &mut self.indexes, &self.def, row.values())?;
+        enter(
+            self.alloc,
+            &mut self.indexes,
+            &self.def,
+            self.lists.as_slice(),
+            row.values(),
+        )?;
         match self.rows.replace_at(position, row) {
             Some(was) => {
                 self.left = self.left.saturating_add(1);
@@ -225,7 +260,12 @@ impl Table {
         ensures tidy { IsTidy self.new }
     {
         if self.left > u64::from(self.live) + FEW_LEFT {
-            settle_entries(&self.def, &self.rows, &mut self.indexes);
+            settle_entries(
+                &self.def,
+                self.lists.as_slice(),
+                &self.rows,
+                &mut self.indexes,
+            );
             self.rows.retain(HasRow);
             self.left = 0;
         }
@@ -316,18 +356,33 @@ impl Table {
         RowsLeft::all(&self.rows, downward)
     }
 
+    /// A walk over the rows between two cuts, in ascending order of their keys; downward, in descending order. Where a cut lacks,
+    /// the walk begins or ends with the table. It takes two searches, no memory, and goes on without a search.
+    pub fn rows_between(
+        &self,
+        low: Option<Cut<'_>>,
+        high: Option<Cut<'_>>,
+        downward: bool,
+    ) -> RowsLeft<'_>
+        ensures rows { result ≡ in_walk downward (rows_between self.now.contents.def.key low.entry high.entry self.now.contents.rows) }
+        ensures table { IsTable self.now.contents }
+    {
+        RowsLeft::between(&self.rows, low, high, downward)
+    }
+
     /// Whether a row with another key agrees with the row in a UNIQUE list in which neither has a null
     /// (ISO/IEC 9075:1992, 8.9). It takes no memory and copies nothing.
     pub fn clash(&self, row: &Row) -> bool
         requires { HasColumns self.now.contents.def row.now }
         ensures { result ≡ clashes self.now.contents.def row.now self.now.contents.rows }
     {
-        has_rival(&self.def, &self.rows, self.indexes.as_slice(), row.values())
+        let unique = &self.indexes[..self.def.unique.items().len()];
+        has_rival(&self.def, &self.rows, unique, row.values())
     }
 
     /// Whether a row has the values in the columns (ISO/IEC 9075:1992, 11.8). By the columns of the key that is one search, by
-    /// those of a UNIQUE list one for each row with the values that the table keeps, and else a walk over the rows. It takes
-    /// no memory.
+    /// those with which the key begins two, by those of a UNIQUE list or an index one for each row with the values that the table
+    /// keeps, and else a walk over the rows. It takes no memory.
     pub fn has(&self, columns: &[u32], values: &[Datum]) -> bool
         requires columns { All (λ c. c < length self.now.contents.def.columns) columns.now }
         requires filled { has_null values.now ≡ false }
@@ -336,7 +391,10 @@ impl Table {
         if columns == self.def.key.items() {
             return self.has_key_of(values);
         }
-        match list_of(&self.def, columns) {
+        if values.len() == columns.len() && begins(self.def.key.items(), columns) {
+            return self.has_beginning(columns, values);
+        }
+        match list_of(self.lists.as_slice(), columns) {
             Some(i) => has_entry_with(&self.def, columns, &self.rows, &self.indexes[i], values),
             None => has_row_with(self.rows(false), columns, values),
         }
@@ -350,6 +408,25 @@ impl Table {
         self.rows.row_at(Probe::Of(values)).is_some()
     }
 
+    /// Whether a row's key begins with the values.
+    fn has_beginning(&self, columns: &[u32], values: &[Datum]) -> bool
+        requires begin { take (length columns.now) self.now.contents.def.key ≡ columns.now }
+        requires long { length values.now ≡ length columns.now }
+        requires filled { has_null values.now ≡ false }
+        ensures { result ≡ has_values columns.now values.now self.now.contents.rows }
+    {
+        let low = Cut {
+            values,
+            is_behind: false,
+        };
+        let high = Cut {
+            values,
+            is_behind: true,
+        };
+        let mut found = RowsLeft::between(&self.rows, Some(low), Some(high), false);
+        found.next().is_some()
+    }
+
     /// The same table in memory of its own.
     pub fn copy(&self, alloc: Global) -> Result<Table, AllocError>
         ensures { IfOk result (λ t. t ≡ self.now) }
@@ -359,6 +436,7 @@ impl Table {
             alloc,
             rows: self.rows.copy(alloc)?,
             live: self.live,
+            lists: copied_lists(alloc, self.lists.as_slice())?.into_vec(),
             indexes: copied_indexes(alloc, self.indexes.as_slice())?,
             left: self.left,
         })
@@ -384,7 +462,13 @@ impl Table {
         ensures keeps { StillKeeps self.old self.new }
         ensures tidy { IsTidy self.old → IsTidy self.new }
     {
-        enter(self.alloc, &mut self.indexes, &self.def, row.values())?;
+        enter(
+            self.alloc,
+            &mut self.indexes,
+            &self.def,
+            self.lists.as_slice(),
+            row.values(),
+        )?;
         let _none = self.rows.replace_row(self.def.key.items(), row);
         self.live += 1;
         steps.tick();
@@ -403,7 +487,13 @@ impl Table {
     {
         let key = Key::of_row(self.alloc, self.def.key.items(), &row)?;
         self.rows.reserve()?;
-        enter(self.alloc, &mut self.indexes, &self.def, row.values())?;
+        enter(
+            self.alloc,
+            &mut self.indexes,
+            &self.def,
+            self.lists.as_slice(),
+            row.values(),
+        )?;
         self.rows.insert(key, Some(row));
         self.live += 1;
         steps.tick();

@@ -1,25 +1,58 @@
 //! Walks over the rows of a table, which go on from where they stand.
-ghost use Rattle.std.specs.Prelude.{◌≡◌, ◌∷◌, [], MatchOption};
-ghost use Rattle.psm_table.specs.Left.{left_of, turned};
+ghost use Rattle.std.specs.Prelude.{◌≡◌, ◌∷◌, ◌++◌, [], All, MatchOption, filter};
+ghost use Rattle.psm_table.specs.Cuts.{is_from, is_up_to};
+ghost use Rattle.psm_table.specs.Left.{left_of, pairs_between, turned};
+ghost use Rattle.psm_table.specs.Map.{AreAscending};
 ghost use Rattle.psm_table.specs.Queries.{in_walk};
 ghost use Rattle.psm_table.specs.Held.{live_rows};
+ghost use Rattle.psm_table.specs.Runs.{joined, IsRun};
 
+use crate::cut::Cut;
 use crate::map::{OrderedMap, Pair};
+use crate::probe::Probe;
 use crate::row::Row;
-use crate::run::Run;
+use crate::run::{Run, turn};
+use crate::runs::locate_past;
 use std::marker::Model;
 
-/// The pairs of a map that are still to come: some of a run, and then those of the runs that follow it.
+/// The pairs of a map that are still to come: some of a run, then those of the runs that follow it, and then some of one more.
 #[derive(Drop)]
 pub(crate) struct PairsLeft<'a> {
     downward: bool,
     pairs: &'a [Pair<Option<Row>>],
     runs: &'a [Run<Option<Row>>],
+    last: &'a [Pair<Option<Row>>],
 }
 
 impl<'a> PairsLeft<'a> {
+    /// The pairs of the end of a run, of runs after it, and of the beginning of one more; downward, from their end.
+    #[tactic(auto, using(crate::proofs::Lefts::left_down, crate::proofs::Lefts::left_up))]
+    fn of(
+        first: &'a [Pair<Option<Row>>],
+        runs: &'a [Run<Option<Row>>],
+        last: &'a [Pair<Option<Row>>],
+        downward: bool,
+    ) -> PairsLeft<'a>
+        ensures { left_of result ≡ turned downward (first.now ++ (joined runs.now ++ last.now)) }
+    {
+        if downward {
+            return PairsLeft {
+                downward,
+                pairs: last,
+                runs,
+                last: first,
+            };
+        }
+        PairsLeft {
+            downward,
+            pairs: first,
+            runs,
+            last,
+        }
+    }
+
     /// The next pair.
-    #[tactic(auto, using(crate::proofs::Lefts::left_none, crate::proofs::Lefts::left_next, crate::proofs::Lefts::left_run))]
+    #[tactic(auto, using(crate::proofs::Lefts::left_none, crate::proofs::Lefts::left_next, crate::proofs::Lefts::left_run, crate::proofs::Lefts::left_last))]
     fn next(&mut self) -> Option<&'a Pair<Option<Row>>>
         ensures { MatchOption result (left_of self.old ≡ []) (λ pair. left_of self.old ≡ pair.now ∷ left_of self.new) }
     {
@@ -28,9 +61,16 @@ impl<'a> PairsLeft<'a> {
                 self.pairs = others;
                 return Some(pair);
             }
-            let (run, others) = outermost(self.runs, self.downward)?;
-            self.pairs = run.pairs();
-            self.runs = others;
+            if let Some((run, others)) = outermost(self.runs, self.downward) {
+                self.pairs = run.pairs();
+                self.runs = others;
+            } else {
+                if self.last.is_empty() {
+                    return None;
+                }
+                self.pairs = self.last;
+                self.last = &[];
+            }
         }
     }
 }
@@ -66,16 +106,28 @@ impl<'a> Model for RowsLeft<'a> {
 
 impl<'a> RowsLeft<'a> {
     /// All rows of a map in ascending order of their keys; downward, in descending order.
-    #[tactic(auto, using(crate::proofs::Lefts::rows_all))]
     pub(crate) fn all(rows: &'a OrderedMap<Option<Row>>, downward: bool) -> RowsLeft<'a>
         ensures { result ≡ in_walk downward (live_rows rows.now.pairs) }
     {
         RowsLeft {
-            pairs: PairsLeft {
-                downward,
-                pairs: &[],
-                runs: rows.runs(),
-            },
+            pairs: PairsLeft::of(&[], rows.runs(), &[], downward),
+        }
+    }
+
+    /// The rows of a map between two cuts in ascending order of their keys; downward, in descending order.
+    pub(crate) fn between(
+        rows: &'a OrderedMap<Option<Row>>,
+        low: Option<Cut<'_>>,
+        high: Option<Cut<'_>>,
+        downward: bool,
+    ) -> RowsLeft<'a>
+        ensures { result ≡ in_walk downward (live_rows (pairs_between low.entry high.entry rows.now.pairs)) }
+    {
+        let (first, later) = pairs_from(rows.runs(), low);
+        let (runs, last) = pairs_up_to(later, high);
+        let first = part_up_to(first, high);
+        RowsLeft {
+            pairs: PairsLeft::of(first, runs, last, downward),
         }
     }
 
@@ -89,5 +141,59 @@ impl<'a> RowsLeft<'a> {
             }
         }
         None
+    }
+}
+
+/// The pairs of runs from a cut on: some of a run, and the runs after it.
+fn pairs_from<'a>(
+    runs: &'a [Run<Option<Row>>],
+    low: Option<Cut<'_>>,
+) -> (&'a [Pair<Option<Row>>], &'a [Run<Option<Row>>])
+    requires order { AreAscending (joined runs.now) }
+    requires runs { All IsRun runs.now }
+    ensures pairs { result.0.now ++ joined result.1.now ≡ filter (λ p. is_from low.entry p.key) (joined runs.now) }
+    ensures runs { All IsRun result.1.now }
+{
+    let Some(cut) = low else {
+        return (&[], runs);
+    };
+    if runs.is_empty() {
+        return (&[], runs);
+    }
+    let probe = Probe::Of(cut.values);
+    let at = locate_past(runs, probe, cut.is_behind);
+    let pairs = runs[at].pairs();
+    (&pairs[turn(pairs, probe, cut.is_behind)..], &runs[at + 1..])
+}
+
+/// The pairs of runs up to a cut: runs, and some of the run after them.
+fn pairs_up_to<'a>(
+    runs: &'a [Run<Option<Row>>],
+    high: Option<Cut<'_>>,
+) -> (&'a [Run<Option<Row>>], &'a [Pair<Option<Row>>])
+    requires order { AreAscending (joined runs.now) }
+    requires runs { All IsRun runs.now }
+    ensures { joined result.0.now ++ result.1.now ≡ filter (λ p. is_up_to high.entry p.key) (joined runs.now) }
+{
+    let Some(cut) = high else {
+        return (runs, &[]);
+    };
+    if runs.is_empty() {
+        return (runs, &[]);
+    }
+    let probe = Probe::Of(cut.values);
+    let at = locate_past(runs, probe, cut.is_behind);
+    let pairs = runs[at].pairs();
+    (&runs[..at], &pairs[..turn(pairs, probe, cut.is_behind)])
+}
+
+/// The pairs of some of a run up to a cut.
+fn part_up_to<'a>(pairs: &'a [Pair<Option<Row>>], high: Option<Cut<'_>>) -> &'a [Pair<Option<Row>>]
+    requires { AreAscending pairs.now }
+    ensures { result.now ≡ filter (λ p. is_up_to high.entry p.key) pairs.now }
+{
+    match high {
+        Some(cut) => &pairs[..turn(pairs, Probe::Of(cut.values), cut.is_behind)],
+        None => pairs,
     }
 }

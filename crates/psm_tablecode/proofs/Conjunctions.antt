@@ -20,7 +20,7 @@ use Rattle.psm_exprcode.specs.Comparison as comparison
 use Rattle.psm_exprcode.specs.Comparison.{among, between}
 use Rattle.psm_exprcode.specs.Values.{as_truth, like}
 use Rattle.psm_exprcode.specs.Evaluated.{goes_on, place_after, ran, Outcome}
-use Rattle.psm_tablecode.specs.Asked.{are_quiet, fixed, free, free_before, is_and, is_column, is_equality, is_quiet, takes}
+use Rattle.psm_tablecode.specs.Tests.{are_quiet, fixed, free, free_before, is_and, is_column, is_equality, is_quiet, takes}
 
 -- whether the truth values among operands are true
 abbrev pub all_true : List Operand → Bool
@@ -157,7 +157,7 @@ combined_puts f (Truth b ∷ []) = tt
 combined_puts f (Truth b ∷ Value a ∷ os) = tt
 combined_puts f (Truth b ∷ Truth a ∷ os) = refl
 
-both_certain : (a b : truth_of.Truth) (r : Bool) → (is_certain (both a b) && r) ≡ true → (is_certain b && (is_certain a && r)) ≡ true
+pub both_certain : (a b : truth_of.Truth) (r : Bool) → (is_certain (both a b) && r) ≡ true → (is_certain b && (is_certain a && r)) ≡ true
 both_certain True True r h = h
 both_certain True False r h = cc
 both_certain True Unknown r h = cc

@@ -18,9 +18,15 @@ use Rattle.psm_table.specs.Rows.{row_with, IsAscending}
 use Rattle.psm_table.specs.Table.{Contents}
 use Rattle.psm_table.proofs.Filters.{AllPairs-rest, filter-empty}
 use Rattle.psm_table.proofs.Undo.{after_equal}
-use Rattle.psm_tablecode.specs.Asked.{key_asked, rows_from, rows_of, walk_for}
+use Rattle.psm_tablecode.specs.Asked.{key_asked, rows_from, rows_of, walk_by, walk_for}
+use Rattle.psm_tablecode.specs.Bounds.{bounds_asked, bounds_of, rows_within, Bounds}
 use Rattle.psm_tablecode.specs.Codes.{over}
+use Rattle.psm_tablecode.specs.Edges.{lies_within, rows_between}
+use Rattle.psm_tablecode.specs.Tests.{are_quiet}
+use Rattle.psm_tablecode.specs.declared.walking.Edge.{Edge}
 use Rattle.psm_tablecode.specs.declared.walking.Walk.{Walk}
+use Rattle.psm_tablecode.proofs.EdgeLaws.{rows_all, rows_among}
+use Rattle.psm_tablecode.proofs.Ranges.{asked_by, walked_within}
 use Rattle.psm_tablecode.proofs.Stepped.{filter-reverse}
 use Rattle.psm_tablecode.proofs.Results.{mapped-same}
 use Rattle.psm_tablecode.proofs.Sought.{asked_only, asked_quiet}
@@ -79,14 +85,25 @@ module _ (columns : List ℕ) (key : List Datum) where
 -- ---- walks
 
 module _ {A : Type 0} (t : Contents) (vars : List Datum) (test : Option (List Line)) (take : List Datum → Result A SqlState) (up : IsAscending t.def.key t.rows) where
+  abbrev Walked : List Line → List (List Datum) → Result (List A) SqlState
+  Walked lines rows = walked (test_of (over vars) (Some lines)) take rows
+
+  for_bounds : (downward : Bool) (lines : List Line) (b : Bool) → are_quiet lines ≡ b
+      → Walked lines (rows_of t (walk_by downward None (if b then Some (bounds_of t.def.key vars lines) else None))) ≡ Walked lines (in_walk downward t.rows)
+  for_bounds downward lines false e = ap (λ rows. Walked lines (in_walk downward rows)) (rows_all t.def.key t.rows)
+  for_bounds downward lines true e =
+      ap (Walked lines) (rows_among t.def.key vars lines downward t.rows)
+      ∙ sym (ap (λ (b : Bool). Walked lines (rows_within t downward (if b then Some (bounds_of t.def.key vars lines) else None))) e)
+      ∙ walked_within t vars take downward (Some lines)
+
   for_key : (downward : Bool) (lines : List Line) (o : Option (List Datum)) → key_asked t.def.key vars (Some lines) ≡ o
-      → walked (test_of (over vars) (Some lines)) take (rows_from t downward o) ≡ walked (test_of (over vars) (Some lines)) take (in_walk downward t.rows)
-  for_key downward lines None e = refl
+      → Walked lines (rows_of t (walk_by downward o (bounds_asked t.def.key vars (Some lines)))) ≡ Walked lines (in_walk downward t.rows)
+  for_key downward lines None e = for_bounds downward lines (are_quiet lines) refl
   for_key downward lines (Some key) e =
       walked-key t.def.key key (test_of (over vars) (Some lines)) take (λ row. asked_quiet row vars t.def.key lines key e) (λ row. asked_only row vars t.def.key lines key e) downward t.rows up
 
   for_test : (downward : Bool) (o : Option (List Line)) → walked (test_of (over vars) o) take (rows_of t (walk_for t downward vars o)) ≡ walked (test_of (over vars) o) take (in_walk downward t.rows)
-  for_test downward None = refl
+  for_test downward None = ap (λ rows. walked (test_of (over vars) None) take (in_walk downward rows)) (rows_all t.def.key t.rows)
   for_test downward (Some lines) = for_key downward lines (key_asked t.def.key vars (Some lines)) refl
 
   pub walked_for : (downward : Bool) → walked (test_of (over vars) test) take (rows_of t (walk_for t downward vars test)) ≡ walked (test_of (over vars) test) take (in_walk downward t.rows)
@@ -94,6 +111,18 @@ module _ {A : Type 0} (t : Contents) (vars : List Datum) (test : Option (List Li
 
   pub walked_by : (downward : Bool) (walk : Walk) → walk ≡ walk_for t downward vars test → walked (test_of (over vars) test) take (rows_of t walk) ≡ walked (test_of (over vars) test) take (in_walk downward t.rows)
   walked_by downward walk e = ap (λ (w : Walk). walked (test_of (over vars) test) take (rows_of t w)) e ∙ walked_for downward
+
+-- where a test asks for bounds and not for a key, the walk is over the rows between them
+bounded : (t : Contents) (vars : List Datum) (downward : Bool) (lines : List Line) (bounds : Bounds) → key_asked t.def.key vars (Some lines) ≡ None → bounds_asked t.def.key vars (Some lines) ≡ Some bounds
+    → bounds_of t.def.key vars lines ≡ bounds → rows_of t (walk_for t downward vars (Some lines)) ≡ rows_within t downward (Some bounds)
+bounded t vars downward lines bounds k b e =
+    (λ i. rows_of t (walk_by downward (k i) (b i))) ∙ ap (λ (x : Bounds). rows_of t (walk_by downward None (Some x))) (sym e)
+    ∙ rows_among t.def.key vars lines downward t.rows ∙ ap (λ (x : Bounds). rows_within t downward (Some x)) e
+
+pub rows_bounded : (t : Contents) (vars : List Datum) (downward : Bool) (test : Option (List Line)) (bounds : Bounds) → key_asked t.def.key vars test ≡ None → bounds_asked t.def.key vars test ≡ Some bounds
+    → rows_of t (walk_for t downward vars test) ≡ rows_within t downward (Some bounds)
+rows_bounded t vars downward None bounds k b = absurd (cc)
+rows_bounded t vars downward (Some lines) bounds k b = bounded t vars downward lines bounds k b (asked_by (are_quiet lines) (bounds_of t.def.key vars lines) bounds b).1
 
 -- no walk has more rows than the table
 found_few : (p : List Datum → Bool) (row : List Datum) (rows : List (List Datum)) (b : Bool) → length (cons_option (find p rows) []) ≤ length rows → length (cons_option (cond b (Some row) (find p rows)) []) ≤ length (row ∷ rows)
@@ -104,10 +133,19 @@ find_few : (p : List Datum → Bool) (rows : List (List Datum)) → length (cons
 find_few p [] = omega arith
 find_few p (row ∷ rows) = found_few p row rows (p row) (find_few p rows)
 
-from_few : (t : Contents) (downward : Bool) (o : Option (List Datum)) → length (rows_from t downward o) ≤ length t.rows
-from_few t true None = omega (arith, length-reverse t.rows)
-from_few t false None = omega arith
-from_few t downward (Some key) = find_few (λ row. is_eq (row_order t.def.key key row)) t.rows
+kept_few : (p : List Datum → Bool) (row : List Datum) (rows : List (List Datum)) (b : Bool) → length (filter p rows) ≤ length rows → length (cond b (row ∷ filter p rows) (filter p rows)) ≤ length (row ∷ rows)
+kept_few p row rows true h = omega (arith, h)
+kept_few p row rows false h = omega (arith, h)
+
+filter_few : (p : List Datum → Bool) (rows : List (List Datum)) → length (filter p rows) ≤ length rows
+filter_few p [] = omega arith
+filter_few p (row ∷ rows) = kept_few p row rows (p row) (filter_few p rows)
+
+from_few : (t : Contents) (downward : Bool) (o : Option (List Datum)) (low high : Option Edge) → length (rows_from t downward o low high) ≤ length t.rows
+from_few t true None low high =
+    omega (arith, length-reverse (rows_between t.def.key low high t.rows), filter_few (λ row. lies_within low high (values_at t.def.key row)) t.rows)
+from_few t false None low high = filter_few (λ row. lies_within low high (values_at t.def.key row)) t.rows
+from_few t downward (Some key) low high = find_few (λ row. is_eq (row_order t.def.key key row)) t.rows
 
 pub rows_few : (t : Contents) (walk : Walk) → length (rows_of t walk) ≤ length t.rows
-rows_few t walk = from_few t walk.downward walk.key
+rows_few t walk = from_few t walk.downward walk.key walk.low walk.high

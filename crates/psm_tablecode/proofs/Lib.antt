@@ -1,11 +1,14 @@
 pub mod Collecting
 pub mod RemainingRowsLaws
 pub mod Conjunctions
+pub mod EdgeLaws
 pub mod Faults
 pub mod Fitting
 pub mod KeyWalks
+pub mod Made
 pub mod Ranges
 pub mod Results
+pub mod Seeking
 pub mod Sought
 pub mod Stepped
 pub mod WalkLaws

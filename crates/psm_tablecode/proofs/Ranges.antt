@@ -1,7 +1,7 @@
 -- Where a test that raises nothing is true on a row, the key of the row is between the bounds for which it asks; so a walk over the
 -- rows between them takes what a walk over all rows takes.
-use Rattle.std.proofs.Common.{◌≡◌, ℕ, suc, Bool, true, false, ◌&&◌, List, [], ◌∷◌, drop, refl, ap, sym, ◌∙◌, eqb-true, Option, Some, None, Result, Ok}
-use Rattle.std.specs.Prelude.{cond, filter, nat_eq, slice_get, slice_index_or, if◌then◌else◌}
+use Rattle.std.proofs.Common.{◌≡◌, ◌⊎◌, inl, inr, ℕ, Bool, true, false, ◌&&◌, List, [], ◌∷◌, refl, ap, sym, ◌∙◌, Option, Some, None, Result, Ok}
+use Rattle.std.specs.Prelude.{cond, filter, slice_get, slice_index_or, if◌then◌else◌}
 use Rattle.std.specs.List.{cons_option}
 use Rattle.std.specs.Option.{option_or}
 use Rattle.std.specs.Ordering.{is_eq, is_ge, is_gt, is_le, is_lt, ordering_reverse}
@@ -15,7 +15,7 @@ use Rattle.psm_value.specs.declared.datum.Datum.TheVariants.{Null, Num, Text}
 use Rattle.psm_value.specs.declared.truth.Truth as truth_value
 use Rattle.psm_value.specs.declared.truth.Truth.TheVariants.{True, False, Unknown}
 use Rattle.psm_value.specs.Order.{data_order}
-use Rattle.psm_value.specs.Truth.{is_certain}
+use Rattle.psm_value.specs.Truth.{both, is_certain}
 use Rattle.psm_exprcode.specs.declared.op.Line.{Line}
 use Rattle.psm_exprcode.specs.declared.op.Op.{Op}
 use Rattle.psm_exprcode.specs.declared.op.Op.TheVariants as op
@@ -29,10 +29,11 @@ use Rattle.psm_table.specs.Evaluator.{and_then, mapped, test_of}
 use Rattle.psm_table.specs.Key.{values_at}
 use Rattle.psm_table.specs.Queries.{in_walk, is_met, taken, walked}
 use Rattle.psm_table.specs.Table.{Contents}
-use Rattle.psm_tablecode.specs.Asked.{are_quiet, fixed, free, is_column, is_quiet, sought}
-use Rattle.psm_tablecode.specs.Bounds.{bounds_asked, bounds_by, bounds_of, end_of, end_with, from_test, has_between, high_made, is_between, is_from, is_up_to, low_made, made, made_first, of_range, rows_within, up_to_test, Bounds, End}
+use Rattle.psm_tablecode.specs.Bounds.{bounds_asked, bounds_by, bounds_of, end_of, end_of_two, end_with, from_test, has_between, high_between, high_made, high_sought, is_between, is_from, is_range, is_up_to, low_between, low_made, low_sought, of_range, rows_within, up_to_test, Bounds, End}
 use Rattle.psm_tablecode.specs.Codes.{over}
-use Rattle.psm_tablecode.proofs.Conjunctions.{all_true, meets_next, raises_nothing, says, trues, Meets}
+use Rattle.psm_tablecode.specs.Tests.{are_quiet, first_four, first_three, fixed, is_column, made, sought}
+use Rattle.psm_tablecode.proofs.Conjunctions.{all_true, both_certain, raises_nothing, says, Meets}
+use Rattle.psm_tablecode.proofs.Made.{four_hold, three_hold}
 use Rattle.psm_tablecode.proofs.Results.{mapped-same}
 use Rattle.psm_tablecode.proofs.Sought.{column_put, met_truth, quiet_truth, sought_equal}
 
@@ -285,44 +286,120 @@ module _ (row vars : List Datum) (c : ℕ) (a b e : Op) (os first second third :
   pub high_holds : (d : End) → high_made c vars a b e ≡ Some d → is_up_to (Some d) here ≡ true
   high_holds d h = high_by d (is_column c a) (is_column c b) refl refl h
 
--- ---- all lines
+-- ---- BETWEEN
 
-module _ (row vars : List Datum) {X : Type 0} (make : Op → Op → Op → Option X) (P : X → Type 0)
-    (sound : (a b e : Op) (os first second third : List Operand) → applied a os row vars ≡ Went Ahead first → applied b first row vars ≡ Went Ahead second
-    → applied e second row vars ≡ Went Ahead third → all_true third ≡ true → (x : X) → make a b e ≡ Some x → P x) where
-  rest_of : (l : Line) (lines : List Line) → are_quiet (l ∷ lines) ≡ true → are_quiet lines ≡ true
-  rest_of l lines h = and_second (is_quiet l.op) (are_quiet lines) h
+range_put : (x l h : Datum) (os : List Operand) (row vars : List Datum) → applied op.Between (Value h ∷ Value l ∷ Value x ∷ os) row vars ≡ Went Ahead (Truth (both (judged_by is_ge x l) (judged_by is_le x h)) ∷ os)
+range_put Null l h os row vars = refl
+range_put (Num x) Null Null os row vars = refl
+range_put (Num x) Null (Num h) os row vars = refl
+range_put (Num x) Null (Text h) os row vars = refl
+range_put (Num x) (Num l) Null os row vars = refl
+range_put (Num x) (Num l) (Num h) os row vars = refl
+range_put (Num x) (Num l) (Text h) os row vars = refl
+range_put (Num x) (Text l) Null os row vars = refl
+range_put (Num x) (Text l) (Num h) os row vars = refl
+range_put (Num x) (Text l) (Text h) os row vars = refl
+range_put (Text x) Null Null os row vars = refl
+range_put (Text x) Null (Num h) os row vars = refl
+range_put (Text x) Null (Text h) os row vars = refl
+range_put (Text x) (Num l) Null os row vars = refl
+range_put (Text x) (Num l) (Num h) os row vars = refl
+range_put (Text x) (Num l) (Text h) os row vars = refl
+range_put (Text x) (Text l) Null os row vars = refl
+range_put (Text x) (Text l) (Num h) os row vars = refl
+range_put (Text x) (Text l) (Text h) os row vars = refl
 
-  abbrev Here : List Line → Option X
-  Here lines = if nat_eq (free (drop 3 lines)) 0 then made_first make lines else None
+pair_ends : (o p : Option Datum) (d : End) → end_of_two o p ≡ Some d → (f : Datum) × (o ≡ Some d.value) × (p ≡ Some f) × (d.is_in ≡ true)
+pair_ends None p d h = absurd (cc)
+pair_ends (Some v) None d h = absurd (cc)
+pair_ends (Some v) (Some f) d h =
+    let same : end_with v true ≡ d = cc in
+    (f, ap (λ (x : End). Some x.value) same, refl, sym (ap (λ (x : End). x.is_in) same))
 
-  here_by : (b : Bool) (o : Option X) (x : X) → (if b then o else None) ≡ Some x → (b ≡ true) × (o ≡ Some x)
-  here_by true o x e = (refl, e)
-  here_by false o x e = absurd (cc)
+is_range_op : (o : Op) → is_range o ≡ true → o ≡ op.Between
+is_range_op (op.Constant k d) h = cc
+is_range_op (op.Variable i) h = cc
+is_range_op (op.Column i) h = cc
+is_range_op op.Duplicate h = cc
+is_range_op op.Drop h = cc
+is_range_op op.DropBelow h = cc
+is_range_op op.Negate h = cc
+is_range_op op.Add h = cc
+is_range_op op.Subtract h = cc
+is_range_op op.Multiply h = cc
+is_range_op op.Divide h = cc
+is_range_op (op.Rescale s) h = cc
+is_range_op op.Concatenate h = cc
+is_range_op op.CharacterLength h = cc
+is_range_op op.Position h = cc
+is_range_op op.SubstringFrom h = cc
+is_range_op op.SubstringFromFor h = cc
+is_range_op (op.Trim side) h = cc
+is_range_op op.Upper h = cc
+is_range_op op.Lower h = cc
+is_range_op op.Equal h = cc
+is_range_op op.NotEqual h = cc
+is_range_op op.Less h = cc
+is_range_op op.LessOrEqual h = cc
+is_range_op op.Greater h = cc
+is_range_op op.GreaterOrEqual h = cc
+is_range_op op.And h = cc
+is_range_op op.Or h = cc
+is_range_op op.Not h = cc
+is_range_op op.IsNull h = cc
+is_range_op op.Like h = cc
+is_range_op op.LikeEscape h = cc
+is_range_op op.Between h = refl
+is_range_op (op.In n) h = cc
+is_range_op op.NullIf h = cc
+is_range_op (op.Cast to) h = cc
+is_range_op (op.Jump p) h = cc
+is_range_op (op.JumpUnlessTrue p) h = cc
+is_range_op (op.JumpUnlessNull p) h = cc
 
-  first_holds : (x : X) (n : ℕ) (lines : List Line) (os : List Operand) → are_quiet lines ≡ true → Meets row vars n lines os → Here lines ≡ Some x → P x
-  first_holds x n [] os h m s = absurd (cc)
-  first_holds x n (a ∷ []) os h m s = absurd (cc)
-  first_holds x n (a ∷ b ∷ []) os h m s = absurd (cc)
-  first_holds x n (a ∷ b ∷ e ∷ lines) os h m s =
-      let h1 : are_quiet (b ∷ e ∷ lines) ≡ true = rest_of a (b ∷ e ∷ lines) h in
-      let h2 : are_quiet (e ∷ lines) ≡ true = rest_of b (e ∷ lines) h1 in
-      let u = meets_next row vars n a (b ∷ e ∷ lines) os h m in
-      let v = meets_next row vars (suc n) b (e ∷ lines) u.0 h1 u.2 in
-      let w = meets_next row vars (suc (suc n)) e lines v.0 h2 v.2 in
-      let k = here_by (nat_eq (free lines) 0) (make a.op b.op e.op) x s in
-      let t : all_true w.0 ≡ true = ap (λ j. all_true (drop j w.0)) (sym (eqb-true (free lines) 0 k.0)) ∙ trues row vars (suc (suc (suc n))) lines w.0 (rest_of e lines h2) w.2 in
-      sound a.op b.op e.op os u.0 v.0 w.0 u.1 v.1 w.1 t x k.1
+module _ (row vars : List Datum) (c : ℕ) (o a b e : Op) (os first second third fourth : List Operand)
+    (puts_o : applied o os row vars ≡ Went Ahead first) (puts_a : applied a first row vars ≡ Went Ahead second) (puts_b : applied b second row vars ≡ Went Ahead third)
+    (puts_e : applied e third row vars ≡ Went Ahead fourth) (t : all_true fourth ≡ true) where
+  abbrev there : Datum
+  there = slice_index_or row c Null
 
-  made_by : (x : X) (n : ℕ) (l : Line) (lines : List Line) (os : List Operand) → are_quiet (l ∷ lines) ≡ true → Meets row vars n (l ∷ lines) os
-      → ((new : List Operand) → Meets row vars (suc n) lines new → made make lines ≡ Some x → P x)
-      → (o : Option X) → Here (l ∷ lines) ≡ o → option_or o (made make lines) ≡ Some x → P x
-  made_by x n l lines os h m rest (Some y) f s = first_holds x n (l ∷ lines) os h m (f ∙ s)
-  made_by x n l lines os h m rest None f s = let next = meets_next row vars n l lines os h m in rest next.0 next.2 s
+  put_value : (d : Datum) (p : Op) (under over : List Operand) → fixed vars p ≡ Some d → applied p under row vars ≡ Went Ahead over → over ≡ Value d ∷ under
+  put_value d p under over f q = let went : Went Ahead (Value d ∷ under) ≡ Went Ahead over = sym ((says row vars p).puts d f under) ∙ q in let same : over ≡ Value d ∷ under = cc in same
 
-  pub made_holds : (x : X) (n : ℕ) (lines : List Line) (os : List Operand) → are_quiet lines ≡ true → Meets row vars n lines os → made make lines ≡ Some x → P x
-  made_holds x n [] os h m s = absurd (cc)
-  made_holds x n (l ∷ lines) os h m s = made_by x n l lines os h m (λ new k r. made_holds x (suc n) lines new (rest_of l lines h) k r) (Here (l ∷ lines)) refl s
+  -- the value of the column is from the one on and up to the other
+  in_range : (l h : Datum) → e ≡ op.Between → is_column c o ≡ true → fixed vars a ≡ Some l → fixed vars b ≡ Some h → (is_ge (data_order there l) ≡ true) × (is_le (data_order there h) ≡ true)
+  in_range l h k i v w =
+      let x = column_put row c os first (slice_get row c) refl (sym (ap (λ (q : Op). applied q os row vars) ((says row vars o).column c i)) ∙ puts_o) in
+      let y : second ≡ Value l ∷ Value x.0 ∷ os = put_value l a first second v puts_a ∙ ap (λ z. Value l ∷ z) x.2 in
+      let z : third ≡ Value h ∷ Value l ∷ Value x.0 ∷ os = put_value h b second third w puts_b ∙ ap (λ z. Value h ∷ z) y in
+      let low : truth_value.Truth = judged_by is_ge x.0 l in
+      let high : truth_value.Truth = judged_by is_le x.0 h in
+      let went : Went Ahead (Truth (both low high) ∷ os) ≡ Went Ahead fourth = sym (ap (λ (q : Op). applied q third row vars) k ∙ ap (λ q. applied op.Between q row vars) z ∙ range_put x.0 l h os row vars) ∙ puts_e in
+      let same : Truth (both low high) ∷ os ≡ fourth = cc in
+      let certain : (is_certain high && (is_certain low && all_true os)) ≡ true = both_certain low high (all_true os) (ap all_true same ∙ t) in (
+        ap (λ q. is_ge (data_order q l)) x.1 ∙ certain_judged is_ge x.0 l (and_first (is_certain low) (all_true os) (and_second (is_certain high) (is_certain low && all_true os) certain)),
+        ap (λ q. is_le (data_order q h)) x.1 ∙ certain_judged is_le x.0 h (and_first (is_certain high) (is_certain low && all_true os) certain),
+      )
+
+  low_range : (d : End) (i j : Bool) → is_range e ≡ i → is_column c o ≡ j → (if i then (if j then end_of_two (fixed vars a) (fixed vars b) else None) else None) ≡ Some d → is_from (Some d) there ≡ true
+  low_range d true true p q h =
+      let k = pair_ends (fixed vars a) (fixed vars b) d h in
+      ap (λ (r : Bool). from_order r (data_order there d.value)) k.3 ∙ (in_range d.value k.0 (is_range_op e p) q k.1 k.2).0
+  low_range d true false p q h = absurd (cc)
+  low_range d false j p q h = absurd (cc)
+
+  high_range : (d : End) (i j : Bool) → is_range e ≡ i → is_column c o ≡ j → (if i then (if j then end_of_two (fixed vars b) (fixed vars a) else None) else None) ≡ Some d → is_up_to (Some d) there ≡ true
+  high_range d true true p q h =
+      let k = pair_ends (fixed vars b) (fixed vars a) d h in
+      ap (λ (r : Bool). up_to_order r (data_order there d.value)) k.3 ∙ (in_range k.0 d.value (is_range_op e p) q k.2 k.1).1
+  high_range d true false p q h = absurd (cc)
+  high_range d false j p q h = absurd (cc)
+
+  pub low_ranges : (d : End) → low_between c vars o a b e ≡ Some d → is_from (Some d) there ≡ true
+  low_ranges d h = low_range d (is_range e) (is_column c o) refl refl h
+
+  pub high_ranges : (d : End) → high_between c vars o a b e ≡ Some d → is_up_to (Some d) there ≡ true
+  high_ranges d h = high_range d (is_range e) (is_column c o) refl refl h
 
 -- ---- keys
 
@@ -345,26 +422,58 @@ has_by : (x : Datum) (xs : List Datum) (o : Option Datum) (more : Bounds) (low h
 has_by x xs (Some d) more low high f g p q = both_true (is_eq (data_order x d)) (has_between more.firsts more.low more.high xs) (ap is_eq (f d refl)) g
 has_by x xs None more low high f g p q = both_true (is_from low x) (is_up_to high x) p q
 
-module _ (row vars : List Datum) (lines : List Line) (quiet : are_quiet lines ≡ true) (met : Meets row vars 0 lines []) where
-  low_is : (c : ℕ) → is_from (made (low_made c vars) lines) (slice_index_or row c Null) ≡ true
-  low_is c = any_from (made (low_made c vars) lines) (slice_index_or row c Null) (λ d e.
-      made_holds row vars (low_made c vars) (λ x. is_from (Some x) (slice_index_or row c Null) ≡ true)
-      (λ a b o os first second third p q r t x m. low_holds row vars c a b o os first second third p q r t x m) d 0 lines [] quiet met e)
+one_of : (o p : Option End) (d : End) → option_or o p ≡ Some d → (o ≡ Some d) ⊎ (p ≡ Some d)
+one_of (Some x) p d h = inl h
+one_of None p d h = inr h
 
-  high_is : (c : ℕ) → is_up_to (made (high_made c vars) lines) (slice_index_or row c Null) ≡ true
-  high_is c = any_up_to (made (high_made c vars) lines) (slice_index_or row c Null) (λ d e.
-      made_holds row vars (high_made c vars) (λ x. is_up_to (Some x) (slice_index_or row c Null) ≡ true)
-      (λ a b o os first second third p q r t x m. high_holds row vars c a b o os first second third p q r t x m) d 0 lines [] quiet met e)
+module _ (row vars : List Datum) (lines : List Line) (quiet : are_quiet lines ≡ true) (met : Meets row vars 0 lines []) where
+  low_three : (c : ℕ) (d : End) → made 3 (first_three (low_made c vars)) lines ≡ Some d → is_from (Some d) (slice_index_or row c Null) ≡ true
+  low_three c d e =
+      three_hold row vars (low_made c vars) (λ x. is_from (Some x) (slice_index_or row c Null) ≡ true)
+      (λ a b o os first second third p q r t x m. low_holds row vars c a b o os first second third p q r t x m) d lines quiet met e
+
+  low_four : (c : ℕ) (d : End) → made 4 (first_four (low_between c vars)) lines ≡ Some d → is_from (Some d) (slice_index_or row c Null) ≡ true
+  low_four c d e =
+      four_hold row vars (low_between c vars) (λ x. is_from (Some x) (slice_index_or row c Null) ≡ true)
+      (λ i a b o os first second third fourth p q r s t x m. low_ranges row vars c i a b o os first second third fourth p q r s t x m) d lines quiet met e
+
+  high_three : (c : ℕ) (d : End) → made 3 (first_three (high_made c vars)) lines ≡ Some d → is_up_to (Some d) (slice_index_or row c Null) ≡ true
+  high_three c d e =
+      three_hold row vars (high_made c vars) (λ x. is_up_to (Some x) (slice_index_or row c Null) ≡ true)
+      (λ a b o os first second third p q r t x m. high_holds row vars c a b o os first second third p q r t x m) d lines quiet met e
+
+  high_four : (c : ℕ) (d : End) → made 4 (first_four (high_between c vars)) lines ≡ Some d → is_up_to (Some d) (slice_index_or row c Null) ≡ true
+  high_four c d e =
+      four_hold row vars (high_between c vars) (λ x. is_up_to (Some x) (slice_index_or row c Null) ≡ true)
+      (λ i a b o os first second third fourth p q r s t x m. high_ranges row vars c i a b o os first second third fourth p q r s t x m) d lines quiet met e
+
+  low_by_both : (c : ℕ) (d : End) → (made 3 (first_three (low_made c vars)) lines ≡ Some d) ⊎ (made 4 (first_four (low_between c vars)) lines ≡ Some d) → is_from (Some d) (slice_index_or row c Null) ≡ true
+  low_by_both c d (inl e) = low_three c d e
+  low_by_both c d (inr e) = low_four c d e
+
+  high_by_both : (c : ℕ) (d : End) → (made 3 (first_three (high_made c vars)) lines ≡ Some d) ⊎ (made 4 (first_four (high_between c vars)) lines ≡ Some d) → is_up_to (Some d) (slice_index_or row c Null) ≡ true
+  high_by_both c d (inl e) = high_three c d e
+  high_by_both c d (inr e) = high_four c d e
+
+  low_is : (c : ℕ) → is_from (low_sought c vars lines) (slice_index_or row c Null) ≡ true
+  low_is c =
+      any_from (low_sought c vars lines) (slice_index_or row c Null)
+      (λ d e. low_by_both c d (one_of (made 3 (first_three (low_made c vars)) lines) (made 4 (first_four (low_between c vars)) lines) d e))
+
+  high_is : (c : ℕ) → is_up_to (high_sought c vars lines) (slice_index_or row c Null) ≡ true
+  high_is c =
+      any_up_to (high_sought c vars lines) (slice_index_or row c Null)
+      (λ d e. high_by_both c d (one_of (made 3 (first_three (high_made c vars)) lines) (made 4 (first_four (high_between c vars)) lines) d e))
 
   pub has_bounds : (columns : List ℕ) → Has (bounds_of columns vars lines) (values_at columns row)
   has_bounds [] = refl
   has_bounds (c ∷ columns) =
-      has_by (slice_index_or row c Null) (values_at columns row) (sought c vars lines) (bounds_of columns vars lines) (made (low_made c vars) lines) (made (high_made c vars) lines)
-      (λ d e. sought_equal row vars c d 0 lines [] quiet met e) (has_bounds columns) (low_is c) (high_is c)
+      has_by (slice_index_or row c Null) (values_at columns row) (sought c vars lines) (bounds_of columns vars lines) (low_sought c vars lines) (high_sought c vars lines)
+      (λ d e. sought_equal row vars c d lines quiet met e) (has_bounds columns) (low_is c) (high_is c)
 
 -- ---- tests
 
-asked_by : (b : Bool) (x bounds : Bounds) → (if b then Some x else None) ≡ Some bounds → (b ≡ true) × (x ≡ bounds)
+pub asked_by : (b : Bool) (x bounds : Bounds) → (if b then Some x else None) ≡ Some bounds → (b ≡ true) × (x ≡ bounds)
 asked_by true x bounds e = (refl, (let same : x ≡ bounds = cc in same))
 asked_by false x bounds e = absurd (cc)
 

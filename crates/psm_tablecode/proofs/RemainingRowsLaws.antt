@@ -1,6 +1,6 @@
 -- The rows of a walk, one after another.
 use Rattle.std.proofs.Common.{◌≡◌, ℕ, zero, suc, ◌+◌, Bool, true, false, List, [], ◌∷◌, drop, refl, ap, sym, subst, ◌∙◌, arith, Option, Some, None}
-use Rattle.std.specs.Prelude.{All, cond, find, reverse, slice_get}
+use Rattle.std.specs.Prelude.{All, cond, filter, find, option_map, reverse, slice_get}
 use Rattle.std.specs.List.{cons_option}
 use Rattle.std.specs.Ordering.{is_eq}
 use Rattle.std.proofs.lemmas.List.{reverse-append}
@@ -8,19 +8,33 @@ use Rattle.std.proofs.lemmas.List.Elements.{All-append, All-cons, All-head, All-
 use Rattle.std.proofs.lemmas.Option.{get_or_from_slice_get, slice_get_within}
 use Rattle.psm_value.specs.declared.datum.Datum.{Datum}
 use Rattle.psm_table.specs.Definition.{IsRow}
-use Rattle.psm_table.specs.Key.{row_order}
+use Rattle.psm_table.specs.Cuts as cuts
+use Rattle.psm_table.specs.declared.cut.Cut.{Cut}
+use Rattle.psm_table.specs.Key.{row_order, values_at}
 use Rattle.psm_table.specs.Queries.{in_walk}
 use Rattle.psm_table.specs.Table.{keyed, Contents, IsTable}
 use Rattle.psm_tablecode.specs.Asked.{rows_from, rows_of}
+use Rattle.psm_tablecode.specs.Edges.{lies_within, rows_between}
+use Rattle.psm_tablecode.specs.RemainingRows.{cut_edge}
+use Rattle.psm_tablecode.specs.declared.walking.Edge.{Edge}
 use Rattle.psm_tablecode.specs.declared.walking.Walk.{Walk}
 
 -- ---- what is walked over
 
 pub of_key : (t : Contents) (walk : Walk) (key : List Datum) (o : Option (List Datum)) → walk.key ≡ Some key → o ≡ keyed t key → cons_option o [] ≡ rows_of t walk
-of_key t walk key o e f = ap (λ (r : Option (List Datum)). cons_option r []) f ∙ sym (ap (rows_from t walk.downward) e)
+of_key t walk key o e f = ap (λ (r : Option (List Datum)). cons_option r []) f ∙ sym (ap (λ (k : Option (List Datum)). rows_from t walk.downward k walk.low walk.high) e)
 
-pub of_all : (t : Contents) (walk : Walk) (rows : List (List Datum)) → walk.key ≡ None → rows ≡ in_walk walk.downward t.rows → rows ≡ rows_of t walk
-of_all t walk rows e f = f ∙ sym (ap (rows_from t walk.downward) e)
+-- rows between cuts are those between the edges that they are made from
+cut_rows : (columns : List ℕ) (low high : Option Cut) (rows : List (List Datum)) → cuts.rows_between columns low high rows ≡ rows_between columns (option_map cut_edge low) (option_map cut_edge high) rows
+cut_rows columns None None rows = refl
+cut_rows columns None (Some h) rows = refl
+cut_rows columns (Some l) None rows = refl
+cut_rows columns (Some l) (Some h) rows = refl
+
+pub of_all : (t : Contents) (walk : Walk) (low high : Option Cut) (rows : List (List Datum)) → walk.key ≡ None → option_map cut_edge low ≡ walk.low → option_map cut_edge high ≡ walk.high
+    → rows ≡ in_walk walk.downward (cuts.rows_between t.def.key low high t.rows) → rows ≡ rows_of t walk
+of_all t walk low high rows e l h f =
+    f ∙ ap (λ rs. in_walk walk.downward rs) (cut_rows t.def.key low high t.rows) ∙ (λ i. rows_from t walk.downward None (l i) (h i)) ∙ sym (ap (λ (k : Option (List Datum)). rows_from t walk.downward k walk.low walk.high) e)
 
 module _ (P : List Datum → Type 0) where
   all-reverse : (rows : List (List Datum)) → All P rows → All P (reverse rows)
@@ -37,13 +51,22 @@ module _ (P : List Datum → Type 0) where
   find_all p [] h = All-nil P
   find_all p (row ∷ rows) h = found_all p row rows (p row) (All-head P row rows h) (find_all p rows (All-tail P row rows h))
 
-from_fit : (t : Contents) (downward : Bool) (o : Option (List Datum)) → All (IsRow t.def) t.rows → All (IsRow t.def) (rows_from t downward o)
-from_fit t true None h = all-reverse (IsRow t.def) t.rows h
-from_fit t false None h = h
-from_fit t downward (Some key) h = find_all (IsRow t.def) (λ row. is_eq (row_order t.def.key key row)) t.rows h
+  kept_all : (p : List Datum → Bool) (row : List Datum) (rows : List (List Datum)) (b : Bool) → P row → All P (filter p rows) → All P (cond b (row ∷ filter p rows) (filter p rows))
+  kept_all p row rows true f h = All-cons P row (filter p rows) f h
+  kept_all p row rows false f h = h
+
+  filter_all : (p : List Datum → Bool) (rows : List (List Datum)) → All P rows → All P (filter p rows)
+  filter_all p [] h = All-nil P
+  filter_all p (row ∷ rows) h = kept_all p row rows (p row) (All-head P row rows h) (filter_all p rows (All-tail P row rows h))
+
+from_fit : (t : Contents) (downward : Bool) (o : Option (List Datum)) (low high : Option Edge) → All (IsRow t.def) t.rows → All (IsRow t.def) (rows_from t downward o low high)
+from_fit t true None low high h =
+    all-reverse (IsRow t.def) (rows_between t.def.key low high t.rows) (filter_all (IsRow t.def) (λ row. lies_within low high (values_at t.def.key row)) t.rows h)
+from_fit t false None low high h = filter_all (IsRow t.def) (λ row. lies_within low high (values_at t.def.key row)) t.rows h
+from_fit t downward (Some key) low high h = find_all (IsRow t.def) (λ row. is_eq (row_order t.def.key key row)) t.rows h
 
 pub coming_fit : (t : Contents) (walk : Walk) → IsTable t → All (IsRow t.def) (rows_of t walk)
-coming_fit t walk h = from_fit t walk.downward walk.key h.fit
+coming_fit t walk h = from_fit t walk.downward walk.key walk.low walk.high h.fit
 
 -- ---- one row after another
 

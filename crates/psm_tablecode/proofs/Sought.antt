@@ -1,12 +1,11 @@
 -- Where a test that raises nothing is true on a row, the row has the values for which it asks.
-use Rattle.std.proofs.Common.{◌≡◌, ℕ, suc, Bool, true, false, List, [], ◌∷◌, drop, refl, ap, sym, ◌∙◌, eqb-true, Option, Some, None, Ok, Err}
-use Rattle.std.specs.Prelude.{nat_eq, slice_get, slice_index_or, if◌then◌else◌}
-use Rattle.std.specs.Option.{option_or}
+use Rattle.std.proofs.Common.{◌≡◌, ℕ, Bool, true, false, List, [], ◌∷◌, refl, ap, sym, ◌∙◌, Option, Some, None, Ok, Err}
+use Rattle.std.specs.Prelude.{slice_get, slice_index_or, if◌then◌else◌}
 use Rattle.std.specs.Ordering.{is_eq, ordering_reverse, ordering_then}
 use Rattle.std.specs.declared.cmp.Ordering.{Ordering}
 use Rattle.std.specs.declared.cmp.Ordering.TheVariants.{Less, Equal, Greater}
 use Rattle.std.proofs.lemmas.Option.{get_or_from_slice_get}
-use Rattle.psm_num.proofs.Literals.{and_first, and_second}
+use Rattle.psm_num.proofs.Literals.{and_first}
 use Rattle.psm_value.proofs.DataOrder.{data_order-turned}
 use Rattle.psm_value.specs.declared.datum.Datum.{Datum}
 use Rattle.psm_value.specs.declared.datum.Datum.TheVariants.{Null, Num, Text}
@@ -25,9 +24,11 @@ use Rattle.psm_exprcode.specs.Comparison.{truth_of}
 use Rattle.psm_exprcode.specs.Evaluated.{evaluated, Outcome}
 use Rattle.psm_table.specs.Evaluator.{test_of}
 use Rattle.psm_table.specs.Key.{key_order, row_order, values_at}
-use Rattle.psm_tablecode.specs.Asked.{are_quiet, each_sought, fixed, free, is_column, is_equality, is_quiet, key_asked, made_equal, opposite, sought, sought_here, with_first}
+use Rattle.psm_tablecode.specs.Asked.{each_sought, key_asked, with_first}
+use Rattle.psm_tablecode.specs.Tests.{are_quiet, fixed, is_column, is_equality, made_equal, opposite, sought}
 use Rattle.psm_tablecode.specs.Codes.{over, truth_in}
-use Rattle.psm_tablecode.proofs.Conjunctions.{all_true, meets_next, raises_nothing, says, trues, Meets}
+use Rattle.psm_tablecode.proofs.Conjunctions.{all_true, raises_nothing, says, Meets}
+use Rattle.psm_tablecode.proofs.Made.{three_hold}
 
 -- ---- equality of two values
 
@@ -120,44 +121,10 @@ module _ (row vars : List Datum) (c : ℕ) (d : Datum) (a b e : Op) (os first se
 -- ---- all lines
 
 module _ (row vars : List Datum) where
-  abbrev Says_equal : ℕ → Datum → Type 0
-  Says_equal c d = data_order (slice_index_or row c Null) d ≡ Equal
-
-  rest_of : (l : Line) (lines : List Line) → are_quiet (l ∷ lines) ≡ true → are_quiet lines ≡ true
-  rest_of l lines h = and_second (is_quiet l.op) (are_quiet lines) h
-
-  none_here : {P : Type 0} (b : Bool) (d : Datum) → (if b then None else None) ≡ Some d → P
-  none_here true d e = absurd (cc)
-  none_here false d e = absurd (cc)
-
-  here_by : (b : Bool) (o : Option Datum) (d : Datum) → (if b then o else None) ≡ Some d → (b ≡ true) × (o ≡ Some d)
-  here_by true o d e = (refl, e)
-  here_by false o d e = absurd (cc)
-
-  first_equal : (c : ℕ) (d : Datum) (n : ℕ) (lines : List Line) (os : List Operand) → are_quiet lines ≡ true → Meets row vars n lines os → sought_here c vars lines ≡ Some d → Says_equal c d
-  first_equal c d n [] os h m s = none_here (nat_eq (free []) 0) d s
-  first_equal c d n (a ∷ []) os h m s = none_here (nat_eq (free []) 0) d s
-  first_equal c d n (a ∷ b ∷ []) os h m s = none_here (nat_eq (free []) 0) d s
-  first_equal c d n (a ∷ b ∷ e ∷ lines) os h m s =
-      let h1 : are_quiet (b ∷ e ∷ lines) ≡ true = rest_of a (b ∷ e ∷ lines) h in
-      let h2 : are_quiet (e ∷ lines) ≡ true = rest_of b (e ∷ lines) h1 in
-      let x = meets_next row vars n a (b ∷ e ∷ lines) os h m in
-      let y = meets_next row vars (suc n) b (e ∷ lines) x.0 h1 x.2 in
-      let z = meets_next row vars (suc (suc n)) e lines y.0 h2 y.2 in
-      let k = here_by (nat_eq (free lines) 0) (made_equal c vars a.op b.op e.op) d s in
-      let t : all_true z.0 ≡ true = ap (λ j. all_true (drop j z.0)) (sym (eqb-true (free lines) 0 k.0)) ∙ trues row vars (suc (suc (suc n))) lines z.0 (rest_of e lines h2) z.2 in
-      equal_made row vars c d a.op b.op e.op os x.0 y.0 z.0 x.1 y.1 z.1 t k.1
-
-  sought_by : (c : ℕ) (d : Datum) (n : ℕ) (l : Line) (lines : List Line) (os : List Operand) → are_quiet (l ∷ lines) ≡ true → Meets row vars n (l ∷ lines) os
-      → ((new : List Operand) → Meets row vars (suc n) lines new → sought c vars lines ≡ Some d → Says_equal c d)
-      → (o : Option Datum) → sought_here c vars (l ∷ lines) ≡ o → option_or o (sought c vars lines) ≡ Some d → Says_equal c d
-  sought_by c d n l lines os h m rest (Some x) f s = first_equal c d n (l ∷ lines) os h m (f ∙ s)
-  sought_by c d n l lines os h m rest None f s = let next = meets_next row vars n l lines os h m in rest next.0 next.2 s
-
-  pub sought_equal : (c : ℕ) (d : Datum) (n : ℕ) (lines : List Line) (os : List Operand) → are_quiet lines ≡ true → Meets row vars n lines os → sought c vars lines ≡ Some d → Says_equal c d
-  sought_equal c d n [] os h m s = cc
-  sought_equal c d n (l ∷ lines) os h m s =
-      sought_by c d n l lines os h m (λ new k r. sought_equal c d (suc n) lines new (rest_of l lines h) k r) (sought_here c vars (l ∷ lines)) refl s
+  pub sought_equal : (c : ℕ) (d : Datum) (lines : List Line) → are_quiet lines ≡ true → Meets row vars 0 lines [] → sought c vars lines ≡ Some d → data_order (slice_index_or row c Null) d ≡ Equal
+  sought_equal c d lines h m s =
+      three_hold row vars (made_equal c vars) (λ x. data_order (slice_index_or row c Null) x ≡ Equal)
+      (λ a b e os first second third p q r t x f. equal_made row vars c x a b e os first second third p q r t f) d lines h m s
 
   each_by : (x : Datum) (xs : List Datum) (o : Option Datum) (rest : Option (List Datum)) (key : List Datum) → with_first o rest ≡ Some key
       → ((d : Datum) → o ≡ Some d → data_order x d ≡ Equal) → ((ds : List Datum) → rest ≡ Some ds → key_order xs ds ≡ Equal) → key_order (x ∷ xs) key ≡ Equal
@@ -171,7 +138,7 @@ module _ (row vars : List Datum) where
   each_equal [] lines key h m e = let same : [] ≡ key = cc in ap (key_order []) (sym same)
   each_equal (c ∷ columns) lines key h m e =
       each_by (slice_index_or row c Null) (values_at columns row) (sought c vars lines) (each_sought columns vars lines) key e
-      (λ d s. sought_equal c d 0 lines [] h m s) (λ ds s. each_equal columns lines ds h m s)
+      (λ d s. sought_equal c d lines h m s) (λ ds s. each_equal columns lines ds h m s)
 
   -- ---- tests
 

@@ -1,6 +1,6 @@
 -- The bounds between which a test asks for keys: values of a key's first columns, and a range of values of the column after them
 -- (ISO/IEC 9075:1992, 8.2 and 8.3).
-use Rattle.std.specs.Prelude.{Bool, true, false, ℕ, List, [], ◌∷◌, ◌&&◌, nat_eq, drop, filter, Option, Some, None, if◌then◌else◌}
+use Rattle.std.specs.Prelude.{Bool, true, false, ℕ, List, [], ◌∷◌, ◌&&◌, filter, Option, Some, None, if◌then◌else◌}
 use Rattle.std.specs.Option.{option_or}
 use Rattle.std.specs.Ordering.{is_eq, is_ge, is_gt, is_le, is_lt}
 use Rattle.psm_value.specs.declared.datum.Datum.{Datum}
@@ -11,7 +11,7 @@ use Rattle.psm_exprcode.specs.declared.op.Op.TheVariants as op
 use Rattle.psm_table.specs.Key.{values_at}
 use Rattle.psm_table.specs.Queries.{in_walk}
 use Rattle.psm_table.specs.Table.{Contents}
-use Rattle.psm_tablecode.specs.Asked.{are_quiet, fixed, free, is_column, sought}
+use Rattle.psm_tablecode.specs.Tests.{are_quiet, first_four, first_three, fixed, is_column, made, sought}
 
 -- ---- bounds
 
@@ -28,6 +28,9 @@ pub record Bounds : Type 0 where
   pub firsts : List Datum
   pub low : Option End
   pub high : Option End
+
+abbrev pub bounds_with : List Datum → Option End → Option End → Bounds
+bounds_with firsts low high = record { firsts = firsts; low = low; high = high }
 
 abbrev pub is_from : Option End → Datum → Bool
 is_from None d = true
@@ -66,27 +69,42 @@ end_of None d = None
 end_of (Some is_in) None = None
 end_of (Some is_in) (Some d) = Some (end_with d is_in)
 
--- the end that two operands and a comparison give to a column
+-- the end that two operands and a comparison give to a column, where these tests are asked of it from its left side or from its right side
+abbrev pub by_sides : (Op → Option Bool) → (Op → Option Bool) → ℕ → List Datum → Op → Op → Op → Option End
+by_sides left right c vars a b e = if is_column c a then end_of (left e) (fixed vars b) else if is_column c b then end_of (right e) (fixed vars a) else None
+
 abbrev pub low_made : ℕ → List Datum → Op → Op → Op → Option End
-low_made c vars a b e = if is_column c a then end_of (from_test e) (fixed vars b) else if is_column c b then end_of (up_to_test e) (fixed vars a) else None
+low_made c vars a b e = by_sides from_test up_to_test c vars a b e
 
 abbrev pub high_made : ℕ → List Datum → Op → Op → Op → Option End
-high_made c vars a b e = if is_column c a then end_of (up_to_test e) (fixed vars b) else if is_column c b then end_of (from_test e) (fixed vars a) else None
+high_made c vars a b e = by_sides up_to_test from_test c vars a b e
 
--- what the first three of some lines make
-abbrev pub made_first : {X : Type 0} → (Op → Op → Op → Option X) → List Line → Option X
-made_first make [] = None
-made_first make (a ∷ []) = None
-made_first make (a ∷ b ∷ []) = None
-made_first make (a ∷ b ∷ e ∷ lines) = make a.op b.op e.op
+abbrev pub is_range : Op → Bool
+is_range op.Between = true
+is_range o = false
 
--- the first that is made by lines that have to be true where the end is true
-abbrev pub made : {X : Type 0} → (Op → Op → Op → Option X) → List Line → Option X
-made make [] = None
-made make (l ∷ lines) = option_or (if nat_eq (free (drop 3 (l ∷ lines))) 0 then made_first make (l ∷ lines) else None) (made make lines)
+-- the end with the first value, if there are two
+abbrev pub end_of_two : Option Datum → Option Datum → Option End
+end_of_two None p = None
+end_of_two (Some d) None = None
+end_of_two (Some d) (Some f) = Some (end_with d true)
+
+-- the ends that BETWEEN gives to a column
+abbrev pub low_between : ℕ → List Datum → Op → Op → Op → Op → Option End
+low_between c vars x a b e = if is_range e then (if is_column c x then end_of_two (fixed vars a) (fixed vars b) else None) else None
+
+abbrev pub high_between : ℕ → List Datum → Op → Op → Op → Op → Option End
+high_between c vars x a b e = if is_range e then (if is_column c x then end_of_two (fixed vars b) (fixed vars a) else None) else None
+
+-- the ends of the range of a column: of the first comparison that gives one, or else of the first BETWEEN
+abbrev pub low_sought : ℕ → List Datum → List Line → Option End
+low_sought c vars lines = option_or (made 3 (first_three (low_made c vars)) lines) (made 4 (first_four (low_between c vars)) lines)
+
+abbrev pub high_sought : ℕ → List Datum → List Line → Option End
+high_sought c vars lines = option_or (made 3 (first_three (high_made c vars)) lines) (made 4 (first_four (high_between c vars)) lines)
 
 abbrev pub of_range : Option End → Option End → Bounds
-of_range low high = record { firsts = []; low = low; high = high }
+of_range low high = bounds_with [] low high
 
 abbrev pub after_first : Datum → Bounds → Bounds
 after_first d bounds = record bounds { firsts = d ∷ bounds.firsts }
@@ -98,7 +116,7 @@ bounds_by None more range = range
 
 abbrev pub bounds_of : List ℕ → List Datum → List Line → Bounds
 bounds_of [] vars lines = of_range None None
-bounds_of (c ∷ columns) vars lines = bounds_by (sought c vars lines) (bounds_of columns vars lines) (of_range (made (low_made c vars) lines) (made (high_made c vars) lines))
+bounds_of (c ∷ columns) vars lines = bounds_by (sought c vars lines) (bounds_of columns vars lines) (of_range (low_sought c vars lines) (high_sought c vars lines))
 
 -- the bounds for which a test asks, of a table whose key is those columns; a test that could raise a condition asks for none
 abbrev pub bounds_asked : List ℕ → List Datum → Option (List Line) → Option Bounds

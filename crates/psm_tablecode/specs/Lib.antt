@@ -1,8 +1,11 @@
+pub mod Aims
 pub mod Asked
 pub mod Bounds
 pub mod Codes
+pub mod Edges
 pub mod RemainingRows
 pub mod Faults
 pub mod NewRows
 pub mod Rows
+pub mod Tests
 pub mod TypeChecks

@@ -1,30 +1,68 @@
-//! The key for which a test asks (ISO/IEC 9075:1992, 8.2 and 8.12).
-ghost use Rattle.std.specs.Prelude.{◌≡◌, ◌+◌, ◌-◌, ◌≤◌, ◌<◌, ◌^◌, ◌&&◌, drop, nat_eq, None, IfOk, if◌then◌else◌};
-ghost use Rattle.std.specs.Option.{option_copied, option_or};
-ghost use Rattle.psm_tablecode.specs.Asked as asked;
+//! What a test asks of the key of a table (ISO/IEC 9075:1992, 8.2, 8.3 and 8.12).
+ghost use Rattle.std.specs.Prelude.{◌≡◌, ◌+◌, ◌-◌, ◌≤◌, ◌<◌, ◌^◌, ◌&&◌, ◌++◌, ◌∷◌, [], drop, nat_eq, None, Some, false, true, IfOk, if◌then◌else◌};
+ghost use Rattle.std.specs.Option.{option_copied, option_map, option_or};
+ghost use Rattle.psm_tablecode.specs.Aims.{made_for, maker, of_four, of_three, of_two, seen};
+ghost use Rattle.psm_tablecode.specs.Aims as aims;
+ghost use Rattle.psm_tablecode.specs.Asked.{each_sought, key_asked, over_all, walk_by};
+ghost use Rattle.psm_tablecode.specs.Bounds as bounds;
+ghost use Rattle.psm_tablecode.specs.Edges as edges;
+ghost use Rattle.psm_tablecode.specs.Tests as asked;
 
+use crate::walking::{Edge, Walk};
 use psm_exprcode::{ExprCode, Op, RawExpr};
-use psm_table::Key;
+use psm_table::{Key, Parts};
 use psm_value::Datum;
 use std::alloc::{AllocError, Global};
 
-/// The key for which a test asks, where it asks for one: its predicates raise no condition, and one that has to be true
-/// makes each of the key's columns equal to a constant or a variable. It takes memory for the key alone.
-pub(crate) fn key_asked(
+/// What is looked for in a test: a value to which it makes a column equal, or an end of the range in which it has it, from
+/// a comparison with one value or from BETWEEN.
+#[derive(Clone, Copy)]
+pub(crate) enum Aim {
+    Value,
+    Low,
+    High,
+    LowOfTwo,
+    HighOfTwo,
+}
+
+/// A value that is found, and as an end of a range whether it is in it.
+#[derive(Clone, Copy)]
+pub(crate) struct Found<'a> {
+    pub value: &'a Datum,
+    pub is_in: bool,
+}
+
+/// The walk for which a test asks over a table with these columns as its key: to the row of a key, where its predicates
+/// raise no condition and some that have to be true make each of the columns equal to a constant or a variable; else over
+/// the rows between edges, where they do so with the first ones, or give a range of the next one; else over all rows. It
+/// takes memory for the key or the edges alone.
+pub(crate) fn walk_asked(
     alloc: Global,
+    downward: bool,
     columns: &[u32],
     test: Option<&ExprCode>,
     vars: &[Datum],
-) -> Result<Option<Key>, AllocError>
-    ensures { IfOk result (λ key. key ≡ asked.key_asked columns.now vars.now (option_copied test.entry)) }
+) -> Result<Walk, AllocError>
+    ensures { IfOk result (λ walk. walk ≡ walk_by downward (key_asked columns.now vars.now (option_copied test.entry)) (bounds.bounds_asked columns.now vars.now (option_copied test.entry))) }
 {
     let Some(code) = test else {
-        return Ok(None);
+        return Ok(over_all(downward));
     };
     if are_quiet(code.lines()) {
-        each_sought(alloc, columns, code.lines(), vars)
+        walk_sought(alloc, downward, columns, code.lines(), vars)
     } else {
-        Ok(None)
+        Ok(over_all(downward))
+    }
+}
+
+fn over_all(downward: bool) -> Walk
+    ensures { result ≡ over_all downward }
+{
+    Walk {
+        downward,
+        key: None,
+        low: None,
+        high: None,
     }
 }
 
@@ -63,61 +101,261 @@ fn is_quiet(op: &Op) -> bool
     }
 }
 
-// The values for which a test asks in some columns, if it does in each.
-fn each_sought(
+// The same of lines that raise nothing.
+#[tactic(auto, using(crate::proofs::Seeking::seeks_first, crate::proofs::Seeking::seeks_next, crate::proofs::Seeking::seeks_none, crate::proofs::Seeking::seeks_end))]
+fn walk_sought(
     alloc: Global,
+    downward: bool,
     columns: &[u32],
     lines: &RawExpr,
     vars: &[Datum],
-) -> Result<Option<Key>, AllocError>
-    ensures { IfOk result (λ key. key ≡ asked.each_sought columns.now vars.now lines.now) }
+) -> Result<Walk, AllocError>
+    ensures { IfOk result (λ walk. walk ≡ walk_by downward (each_sought columns.now vars.now lines.now) (Some (bounds.bounds_of columns.now vars.now lines.now))) }
 {
-    let mut values = Vec::new(alloc);
+    let mut firsts = Vec::new(alloc);
     for column in columns {
         match sought(*column, lines, vars) {
-            Some(value) => values.push(value.copy(alloc)?)?,
-            None => return Ok(None),
+            Some(value) => firsts.push(value.copy(alloc)?)?,
+            None => {
+                let low = end_sought(Aim::Low, Aim::LowOfTwo, *column, lines, vars);
+                let high = end_sought(Aim::High, Aim::HighOfTwo, *column, lines, vars);
+                return Ok(walk_between(alloc, downward, firsts.as_slice(), low, high)?);
+            }
         }
     }
-    Ok(Some(Key::of(values)))
+    Ok(Walk {
+        downward,
+        key: Some(Key::of(firsts)),
+        low: None,
+        high: None,
+    })
 }
 
-// The first value to which the lines make a column equal where they end with true. The lines are gone through from the
-// last one on, with the number of operands that needn't be true.
-#[tactic(auto, using(crate::proofs::Windows::free_end, crate::proofs::Windows::sought_end, crate::proofs::Windows::sought_back, crate::proofs::Windows::sought_start))]
+// ---- edges
+
+fn walk_between(
+    alloc: Global,
+    downward: bool,
+    firsts: &[Datum],
+    low: Option<Found<'_>>,
+    high: Option<Found<'_>>,
+) -> Result<Walk, AllocError>
+    ensures { IfOk result (λ walk. walk ≡ walk_by downward None (Some (bounds.bounds_with firsts.now (option_map seen low.entry) (option_map seen high.entry)))) }
+{
+    Ok(Walk {
+        downward,
+        key: None,
+        low: low_edge(alloc, firsts, low)?,
+        high: high_edge(alloc, firsts, high)?,
+    })
+}
+
+fn low_edge(
+    alloc: Global,
+    firsts: &[Datum],
+    low: Option<Found<'_>>,
+) -> Result<Option<Edge>, AllocError>
+    ensures { IfOk result (λ edge. edge ≡ edges.low_edge firsts.now (option_map seen low.entry)) }
+{
+    match low {
+        Some(end) => Ok(Some(edge_with(alloc, firsts, end.value, !end.is_in)?)),
+        None => edge_at(alloc, firsts, false),
+    }
+}
+
+fn high_edge(
+    alloc: Global,
+    firsts: &[Datum],
+    high: Option<Found<'_>>,
+) -> Result<Option<Edge>, AllocError>
+    ensures { IfOk result (λ edge. edge ≡ edges.high_edge firsts.now (option_map seen high.entry)) }
+{
+    match high {
+        Some(end) => Ok(Some(edge_with(alloc, firsts, end.value, end.is_in)?)),
+        None => edge_at(alloc, firsts, true),
+    }
+}
+
+// The edge at some values; without values there is none.
+fn edge_at(alloc: Global, values: &[Datum], is_behind: bool) -> Result<Option<Edge>, AllocError>
+    ensures { IfOk result (λ edge. edge ≡ edges.edge_at values.now is_behind) }
+{
+    match values {
+        [] => Ok(None),
+        [_, ..] => Ok(Some(Edge {
+            values: Key::of(copied(alloc, values)?),
+            is_behind,
+        })),
+    }
+}
+
+// The edge at some values and one more.
+fn edge_with(
+    alloc: Global,
+    firsts: &[Datum],
+    value: &Datum,
+    is_behind: bool,
+) -> Result<Edge, AllocError>
+    ensures { IfOk result (λ edge. Some edge ≡ edges.edge_at (firsts.now ++ value.now ∷ []) is_behind) }
+{
+    let parts = match firsts {
+        [] => Parts::One([value.copy(alloc)?]),
+        [_, ..] => Parts::Many(with_one(alloc, firsts, value)?),
+    };
+    Ok(Edge {
+        values: Key::of_parts(parts),
+        is_behind,
+    })
+}
+
+fn with_one(alloc: Global, firsts: &[Datum], value: &Datum) -> Result<Vec<Datum>, AllocError>
+    ensures { IfOk result (λ values. values.items ≡ firsts.now ++ value.now ∷ []) }
+{
+    let mut values = copied(alloc, firsts)?;
+    values.push(value.copy(alloc)?)?;
+    Ok(values)
+}
+
+fn copied(alloc: Global, values: &[Datum]) -> Result<Vec<Datum>, AllocError>
+    ensures { IfOk result (λ copy. copy.items ≡ values.now) }
+{
+    let mut copy = Vec::with_capacity(alloc, values.len())?;
+    for value in values {
+        copy.push(value.copy(alloc)?)?;
+    }
+    Ok(copy)
+}
+
+// ---- what predicates make of a column
+
+// The first value to which the lines make a column equal where they end with true.
+#[tactic(auto, using(crate::proofs::Seeking::value_some, crate::proofs::Seeking::value_none))]
 fn sought<'a>(column: u32, lines: &'a RawExpr, vars: &'a [Datum]) -> Option<&'a Datum>
     ensures { option_copied result ≡ asked.sought column vars.now lines.now }
+{
+    match made(Aim::Value, column, lines, vars) {
+        Some(found) => Some(found.value),
+        None => None,
+    }
+}
+
+// An end of the range in which the lines have a column, from a comparison with one value or else from BETWEEN.
+fn end_sought<'a>(
+    aim: Aim,
+    other: Aim,
+    column: u32,
+    lines: &'a RawExpr,
+    vars: &'a [Datum],
+) -> Option<Found<'a>>
+    ensures { option_map seen result ≡ option_or (made_for aim column vars.now lines.now) (made_for other column vars.now lines.now) }
+{
+    match made(aim, column, lines, vars) {
+        Some(found) => Some(found),
+        None => made(other, column, lines, vars),
+    }
+}
+
+// The first that the lines make of a column where they end with true. They are gone through from the last one on, with the
+// number of operands that needn't be true.
+#[tactic(auto, using(crate::proofs::Windows::free_end, crate::proofs::Seeking::made_end, crate::proofs::Seeking::made_back, crate::proofs::Seeking::made_start))]
+fn made<'a>(aim: Aim, column: u32, lines: &'a RawExpr, vars: &'a [Datum]) -> Option<Found<'a>>
+    ensures { option_map seen result ≡ made_for aim column vars.now lines.now }
 {
     let mut found = None;
     let mut free = 0;
     let mut at = lines.len();
-    while at >= 3 {
-        found = sought_before(column, lines, at, free, vars, found);
+    while at >= width(aim) {
+        found = made_before(aim, column, lines, at, free, vars, found);
         free = free_behind(lines, at, free);
         at -= 1;
     }
     found
 }
 
-// The value to which the three lines before a place make a column equal, if they have to be true, or one that was found.
-fn sought_before<'a>(
+// From how many lines it is made.
+fn width(aim: Aim) -> usize
+    ensures { result ≡ aims.width aim }
+{
+    if is_of_two(aim) { 4 } else { 3 }
+}
+
+fn is_of_two(aim: Aim) -> bool
+    ensures { result ≡ aims.is_of_two aim }
+{
+    match aim {
+        Aim::LowOfTwo | Aim::HighOfTwo => true,
+        Aim::Value | Aim::Low | Aim::High => false,
+    }
+}
+
+// What the lines before a place make, if they have to be true, or what was found.
+fn made_before<'a>(
+    aim: Aim,
     column: u32,
     lines: &'a RawExpr,
     at: usize,
     free: u128,
     vars: &'a [Datum],
-    found: Option<&'a Datum>,
-) -> Option<&'a Datum>
-    requires { 3 ≤ at }
-    ensures { option_copied result ≡ option_or (if nat_eq free 0 then asked.sought_first column vars.now (drop (at - 3) lines.now) else None) (option_copied found.entry) }
+    found: Option<Found<'a>>,
+) -> Option<Found<'a>>
+    requires { aims.width aim ≤ at }
+    ensures { option_map seen result ≡ option_or (if nat_eq free 0 then maker aim column vars.now (drop (at - aims.width aim) lines.now) else None) (option_map seen found.entry) }
 {
     if free != 0 {
         return found;
     }
-    match sought_at(column, lines, at - 3, vars) {
+    match made_at(aim, column, lines, at - width(aim), vars) {
         Some(value) => Some(value),
         None => found,
     }
+}
+
+// What the lines from a place on make.
+fn made_at<'a>(
+    aim: Aim,
+    column: u32,
+    lines: &'a RawExpr,
+    at: usize,
+    vars: &'a [Datum],
+) -> Option<Found<'a>>
+    ensures { option_map seen result ≡ maker aim column vars.now (drop at lines.now) }
+{
+    if is_of_two(aim) {
+        four_at(aim, column, lines, at, vars)
+    } else {
+        three_at(aim, column, lines, at, vars)
+    }
+}
+
+fn three_at<'a>(
+    aim: Aim,
+    column: u32,
+    lines: &'a RawExpr,
+    at: usize,
+    vars: &'a [Datum],
+) -> Option<Found<'a>>
+    ensures { option_map seen result ≡ asked.first_three (of_three aim column vars.now) (drop at lines.now) }
+{
+    let left = lines.op(at)?;
+    let right = lines.op(at + 1)?;
+    let test = lines.op(at + 2)?;
+    made_of_three(aim, column, left, right, test, vars)
+}
+
+fn four_at<'a>(
+    aim: Aim,
+    column: u32,
+    lines: &'a RawExpr,
+    at: usize,
+    vars: &'a [Datum],
+) -> Option<Found<'a>>
+    ensures { option_map seen result ≡ asked.first_four (of_four aim column vars.now) (drop at lines.now) }
+{
+    let left = lines.op(at)?;
+    let low = lines.op(at + 1)?;
+    let high = lines.op(at + 2)?;
+    let test = lines.op(at + 3)?;
+    made_of_four(aim, column, left, low, high, test, vars)
 }
 
 // How many operands needn't be true before the line that ends at a place, with those before the lines after it.
@@ -173,42 +411,120 @@ fn taken(op: &Op) -> u128
     }
 }
 
-// The value to which the three lines from a place on make a column equal.
-fn sought_at<'a>(column: u32, lines: &'a RawExpr, at: usize, vars: &'a [Datum]) -> Option<&'a Datum>
-    ensures { option_copied result ≡ asked.sought_first column vars.now (drop at lines.now) }
-{
-    let left = lines.op(at)?;
-    let right = lines.op(at + 1)?;
-    let test = lines.op(at + 2)?;
-    made_equal(column, left, right, test, vars)
-}
-
-fn made_equal<'a>(
+// What two operands and a comparison make of the column.
+fn made_of_three<'a>(
+    aim: Aim,
     column: u32,
     left: &'a Op,
     right: &'a Op,
     test: &Op,
     vars: &'a [Datum],
-) -> Option<&'a Datum>
-    ensures { option_copied result ≡ asked.made_equal column vars.now left.now right.now test.now }
+) -> Option<Found<'a>>
+    ensures { option_map seen result ≡ of_three aim column vars.now left.now right.now test.now }
 {
-    if is_equality(test) {
-        opposite(column, left, right, vars)
+    if is_column(column, left) {
+        end_of(side(aim, false, test), fixed(right, vars))
+    } else if is_column(column, right) {
+        end_of(side(aim, true, test), fixed(left, vars))
     } else {
         None
     }
 }
 
-// The value to which two operands would be equal, if one is the column.
-fn opposite<'a>(column: u32, left: &'a Op, right: &'a Op, vars: &'a [Datum]) -> Option<&'a Datum>
-    ensures { option_copied result ≡ asked.opposite column vars.now left.now right.now }
+fn end_of<'a>(is_in: Option<bool>, value: Option<&'a Datum>) -> Option<Found<'a>>
+    ensures { option_map seen result ≡ bounds.end_of is_in (option_copied value.entry) }
 {
-    if is_column(column, left) {
-        fixed(right, vars)
-    } else if is_column(column, right) {
-        fixed(left, vars)
+    match (is_in, value) {
+        (Some(is_in), Some(value)) => Some(Found { value, is_in }),
+        _ => None,
+    }
+}
+
+// Whether a comparison makes what is looked for of its left side, or of its right side, and as an end whether it is in the
+// range.
+fn side(aim: Aim, is_right: bool, op: &Op) -> Option<bool>
+    ensures { result ≡ aims.side aim is_right op.now }
+{
+    match aim {
+        Aim::Value => equal_test(op),
+        Aim::Low if is_right => up_to_test(op),
+        Aim::Low => from_test(op),
+        Aim::High if is_right => from_test(op),
+        Aim::High => up_to_test(op),
+        Aim::LowOfTwo | Aim::HighOfTwo => None,
+    }
+}
+
+fn equal_test(op: &Op) -> Option<bool>
+    ensures { result ≡ aims.equal_test op.now }
+{
+    if is_equality(op) { Some(true) } else { None }
+}
+
+fn from_test(op: &Op) -> Option<bool>
+    ensures { result ≡ bounds.from_test op.now }
+{
+    match op {
+        Op::Greater => Some(false),
+        Op::GreaterOrEqual => Some(true),
+        _ => None,
+    }
+}
+
+fn up_to_test(op: &Op) -> Option<bool>
+    ensures { result ≡ bounds.up_to_test op.now }
+{
+    match op {
+        Op::Less => Some(false),
+        Op::LessOrEqual => Some(true),
+        _ => None,
+    }
+}
+
+// What BETWEEN makes of the column.
+fn made_of_four<'a>(
+    aim: Aim,
+    column: u32,
+    left: &Op,
+    low: &'a Op,
+    high: &'a Op,
+    test: &Op,
+    vars: &'a [Datum],
+) -> Option<Found<'a>>
+    ensures { option_map seen result ≡ of_four aim column vars.now left.now low.now high.now test.now }
+{
+    if is_range(test) && is_column(column, left) {
+        made_of_two(aim, fixed(low, vars), fixed(high, vars))
     } else {
         None
+    }
+}
+
+fn made_of_two<'a>(aim: Aim, low: Option<&'a Datum>, high: Option<&'a Datum>) -> Option<Found<'a>>
+    ensures { option_map seen result ≡ of_two aim (option_copied low.entry) (option_copied high.entry) }
+{
+    match aim {
+        Aim::LowOfTwo => end_of_two(low, high),
+        Aim::HighOfTwo => end_of_two(high, low),
+        Aim::Value | Aim::Low | Aim::High => None,
+    }
+}
+
+fn end_of_two<'a>(value: Option<&'a Datum>, other: Option<&'a Datum>) -> Option<Found<'a>>
+    ensures { option_map seen result ≡ bounds.end_of_two (option_copied value.entry) (option_copied other.entry) }
+{
+    match (value, other) {
+        (Some(value), Some(_)) => Some(Found { value, is_in: true }),
+        _ => None,
+    }
+}
+
+fn is_range(op: &Op) -> bool
+    ensures { result ≡ bounds.is_range op.now }
+{
+    match op {
+        Op::Between => true,
+        _ => false,
     }
 }
 

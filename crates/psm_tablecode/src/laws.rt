@@ -1,5 +1,5 @@
 //! What access by key and access between bounds rest on.
-ghost use Rattle.std.specs.Prelude.{◌≡◌, ℕ, true, Bool, List, Option, Result, Ok, Some};
+ghost use Rattle.std.specs.Prelude.{◌≡◌, ℕ, true, Bool, List, Option, Result, None, Ok, Some};
 ghost use Rattle.std.specs.declared.cmp.Ordering.TheVariants.{Equal};
 ghost use Rattle.psm_sqlstate.specs.declared.state.SqlState.{SqlState};
 ghost use Rattle.psm_value.specs.declared.datum.Datum.{Datum};
@@ -16,8 +16,9 @@ ghost use Rattle.psm_tablecode.specs.Codes.{over};
 
 /// What access by key rests on (ISO/IEC 9075:1992, 7.6 and 8.2). A test that asks for a key raises no condition on any row,
 /// and is true on rows with that key alone: numbers are equal by value and texts with the shorter padded, and nothing is
-/// equal to null. So on a table, whose keys ascend, a statement takes of the row with the key what it takes of all rows. What
-/// it takes of a row is named by a number here, whatever it is.
+/// equal to null. So on a table, whose keys ascend, a statement takes of the rows of its walk, which are the row with the key,
+/// or else the rows between bounds or all rows, what it takes of all rows. What it takes of a row is named by a number here,
+/// whatever it is.
 pub fn access_by_key()
     ensures quiet { (columns : List ℕ) (test : List Line) (vars row key : List Datum) → key_asked columns vars (Some test) ≡ Some key → (t : Truth) × (test_of (over vars) (Some test) row ≡ Ok t) }
     ensures only { (columns : List ℕ) (test : List Line) (vars row key : List Datum) → key_asked columns vars (Some test) ≡ Some key → test_of (over vars) (Some test) row ≡ Ok True → row_order columns key row ≡ Equal }
@@ -26,10 +27,11 @@ pub fn access_by_key()
 
 /// What access between bounds rests on (ISO/IEC 9075:1992, 7.6, 8.2 and 8.3). A test of predicates that raise no condition is
 /// true on rows alone whose keys have the values to which it makes the first columns equal, and in the next column a value
-/// between the ends that it gives. So a statement takes of these rows what it takes of all rows. What it takes of a row is
-/// named by a number here, whatever it is.
+/// between the ends that it gives. So a statement takes of these rows what it takes of all rows, and these rows are its walk
+/// where the test doesn't ask for a key. What it takes of a row is named by a number here, whatever it is.
 pub fn access_between_bounds()
     ensures quiet { (columns : List ℕ) (test : List Line) (vars row : List Datum) (bounds : Bounds) → bounds_asked columns vars (Some test) ≡ Some bounds → (t : Truth) × (test_of (over vars) (Some test) row ≡ Ok t) }
     ensures only { (columns : List ℕ) (test : List Line) (vars row : List Datum) (bounds : Bounds) → bounds_asked columns vars (Some test) ≡ Some bounds → test_of (over vars) (Some test) row ≡ Ok True → is_between columns bounds row ≡ true }
     ensures walk { (t : Contents) (downward : Bool) (test : Option (List Line)) (vars : List Datum) (take : List Datum → Result ℕ SqlState) → walked (test_of (over vars) test) take (rows_within t downward (bounds_asked t.def.key vars test)) ≡ walked (test_of (over vars) test) take (in_walk downward t.rows) }
+    ensures rows { (t : Contents) (downward : Bool) (test : Option (List Line)) (vars : List Datum) (bounds : Bounds) → key_asked t.def.key vars test ≡ None → bounds_asked t.def.key vars test ≡ Some bounds → rows_of t (walk_for t downward vars test) ≡ rows_within t downward (Some bounds) }
 {}

@@ -15,4 +15,4 @@ pub use psm_cond::DataFault;
 pub use psm_exprcode::{Aggregate, ExprCode, Items, Operand, Query, SetFunction};
 pub use raising::raised;
 pub use typing::{column_letters, gives_truth, gives_value, type_checks};
-pub use walking::{Coming, Walk, walk_of};
+pub use walking::{Coming, Edge, Walk, walk_of};

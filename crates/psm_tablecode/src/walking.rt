@@ -1,29 +1,40 @@
 //! Walks over the rows of a table in the order of their keys, or against it.
 ghost use Rattle.std.specs.Prelude.{◌≡◌, ◌∷◌, [], All, IfOk, IfSome, MatchOption};
-ghost use Rattle.std.specs.Option.{option_copied};
+ghost use Rattle.std.specs.Option.{option_copied, option_map};
 ghost use Rattle.psm_table.specs.Definition.{IsKey, IsRow};
 ghost use Rattle.psm_table.specs.Table.{IsTable};
 ghost use Rattle.psm_tablecode.specs.Asked.{rows_of, walk_for};
-ghost use Rattle.psm_tablecode.specs.RemainingRows.{rows_coming};
+ghost use Rattle.psm_tablecode.specs.RemainingRows.{cut_edge, rows_coming};
 
-use crate::asking::key_asked;
+use crate::asking::walk_asked;
 use psm_exprcode::ExprCode;
-use psm_table::{Key, Row, RowsLeft, Table};
+use psm_table::{Cut, Key, Row, RowsLeft, Table};
 use psm_value::Datum;
 use std::alloc::{AllocError, Global};
+
+/// An edge of a walk: a cut of the keys in their order, before those that begin with the values or behind them.
+#[derive(Drop)]
+pub struct Edge {
+    pub values: Key,
+    pub is_behind: bool,
+}
 
 /// Which rows of a table a statement goes over, and in which order.
 #[derive(Drop)]
 pub struct Walk {
     /// Whether they come in descending order of their keys.
     pub downward: bool,
-    /// The key of the one row, and else all rows come.
+    /// The key of the one row, if no other comes.
     pub key: Option<Key>,
+    /// Where the keys of the rows begin; without it, with the first row.
+    pub low: Option<Edge>,
+    /// Where they end; without it, with the last row.
+    pub high: Option<Edge>,
 }
 
-/// The walk of a statement with a test: over the row of the key for which the test asks, or over all rows. What a
-/// statement takes of the rows that meet the test, and the first condition that is raised, are those of a walk over
-/// all rows. It takes memory for the key alone.
+/// The walk of a statement with a test: over the row of the key for which the test asks, or over the rows between the
+/// bounds for which it asks, or over all rows. What a statement takes of the rows that meet the test, and the first
+/// condition that is raised, are those of a walk over all rows. It takes memory for the key or the edges alone.
 pub fn walk_of(
     alloc: Global,
     table: &Table,
@@ -36,8 +47,7 @@ pub fn walk_of(
     ensures table { IsTable table.now.contents }
 {
     ascends(table);
-    let key = key_asked(alloc, table.def().key.items(), test, vars)?;
-    Ok(Walk { downward, key })
+    walk_asked(alloc, downward, table.def().key.items(), test, vars)
 }
 
 /// The rows of a walk that are still to come, in order.
@@ -60,7 +70,11 @@ impl<'a> Coming<'a> {
         ascends(table);
         match &walk.key {
             Some(key) => Coming::One(table.get(key)),
-            None => Coming::All(table.rows(walk.downward)),
+            None => Coming::All(table.rows_between(
+                cut_at(&walk.low),
+                cut_at(&walk.high),
+                walk.downward,
+            )),
         }
     }
 
@@ -72,6 +86,18 @@ impl<'a> Coming<'a> {
             Coming::One(row) => row.take(),
             Coming::All(rows) => rows.next(),
         }
+    }
+}
+
+fn cut_at(edge: &Option<Edge>) -> Option<Cut<'_>>
+    ensures { option_map cut_edge result ≡ edge.now }
+{
+    match edge {
+        Some(edge) => Some(Cut {
+            values: edge.values.values(),
+            is_behind: edge.is_behind,
+        }),
+        None => None,
     }
 }
 

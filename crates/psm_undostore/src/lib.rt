@@ -10,5 +10,5 @@ mod touched;
 mod undo_store;
 
 pub use journal::Journal;
-pub use psm_store::{Key, List, Mark, Row, RowFault, Steps, Store, Table, TableDef};
+pub use psm_store::{ForeignKey, Key, List, Mark, Row, RowFault, Steps, Store, Table, TableDef};
 pub use undo_store::UndoStore;

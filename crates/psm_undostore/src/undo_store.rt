@@ -9,8 +9,8 @@ ghost use Rattle.psm_undostore.specs.Undo.{HasFewerSince, HasMoreSince, IsHeld, 
 use crate::journal::Journal;
 use crate::plain;
 use crate::touched::Touched;
-use psm_store::{Mark, Store};
-use psm_table::{Key, Row, RowFault, Steps, Table, TableDef};
+use psm_store::{Mark, Store, index_keys};
+use psm_table::{ForeignKey, Key, Row, RowFault, Steps, Table, TableDef};
 use std::alloc::{AllocError, Global};
 use std::marker::Model;
 use std::sync::ledger::Ledger;
@@ -41,8 +41,13 @@ impl Model for UndoStore {
 }
 
 impl UndoStore {
-    /// A store of empty tables, with no mark open.
-    pub fn new(alloc: Global, defs: Vec<TableDef>) -> Result<UndoStore, AllocError>
+    /// A store of empty tables, with no mark open. The columns of each constraint are indexed in the table that refers, if it
+    /// is there.
+    pub fn new(
+        alloc: Global,
+        defs: Vec<TableDef>,
+        keys: &[ForeignKey],
+    ) -> Result<UndoStore, AllocError>
         requires { All IsDefinition defs.items }
         ensures tables { IfOk result (λ s. tables_of s ≡ map empty_table defs.items) }
         ensures marks { IfOk result (λ s. s.marks ≡ 0) }
@@ -52,6 +57,7 @@ impl UndoStore {
         for def in defs {
             tables.push(Table::new(alloc, def)?)?;
         }
+        index_keys(&mut tables, keys)?;
         let touched = Touched::new(alloc, tables.len())?;
         Ok(UndoStore {
             tables,

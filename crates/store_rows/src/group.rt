@@ -60,7 +60,7 @@ fn copying(alloc: Global) -> Result<Bench<CopyStore>, Fault>
 {
     let first = definition(alloc)?;
     let second = definition(alloc)?;
-    let store = CopyStore::new(alloc, vec![in alloc; first, second]?)?;
+    let store = CopyStore::new(alloc, vec![in alloc; first, second]?, &[])?;
     Ok(Bench {
         store,
         marks: Vec::new(alloc),
@@ -74,7 +74,7 @@ fn journaling(alloc: Global) -> Result<Bench<UndoStore>, Fault>
 {
     let first = definition(alloc)?;
     let second = definition(alloc)?;
-    let store = UndoStore::new(alloc, vec![in alloc; first, second]?)?;
+    let store = UndoStore::new(alloc, vec![in alloc; first, second]?, &[])?;
     Ok(Bench {
         store,
         marks: Vec::new(alloc),

@@ -1,43 +1,27 @@
-use Rattle.std.proofs.Common.{◌≡◌, ◌+◌, ◌≤◌, List, [], length, true, false, arith, ap, sym, subst, ◌∙◌}
+use Rattle.std.proofs.Common.{◌≡◌, List, true, ap, sym, subst, ◌∙◌}
 use Rattle.std.specs.Prelude.{All, slice_get}
-use Rattle.std.specs.List.{list_any}
-use Rattle.std.proofs.lemmas.List.Elements.{All-nil}
-use Rattle.psm_value.specs.declared.datum.Datum.{Datum}
-use Rattle.psm_table.specs.Keyed.{are_keyed_with, rows_in}
-use Rattle.psm_table.specs.Table.{most_rows, Contents}
-use Rattle.psm_dml.specs.KeyTests.{adds_only, is_late, replaces_late}
-use Rattle.psm_dml.specs.Rows.{without_keys, IsWhole}
-use Rattle.psm_dml.proofs.Finished.{said}
-use Rattle.psm_dml.proofs.KeyTesting.{for_test, none_out, replaced_early, replaced_late, without_all-bound}
+use Rattle.std.proofs.lemmas.List.Elements.{All-filter}
+use Rattle.psm_table.specs.declared.definition.ForeignKey.{ForeignKey}
+use Rattle.psm_table.specs.Constraints.{names_table}
+use Rattle.psm_table.specs.Keyed.{are_keyed, are_keyed_with, defs_in, rows_in, IsKeyOf}
+use Rattle.psm_table.specs.Table.{Contents}
+use Rattle.psm_dml.specs.Rows.{without_keys}
+use Rattle.psm_dml.proofs.NamedConstraints.{erases_named, for_tests, named_held}
 use Rattle.psm_dml.proofs.keying.erase_keyed.Goals as goal
 
-pub replace_tested-requires-clause-takes : goal.replace_tested-requires-clause-takes
-replace_tested-requires-clause-takes g c =
+pub erase_under-requires-clause-constraints : goal.erase_under-requires-clause-constraints
+erase_under-requires-clause-constraints g c =
     let old : List Contents = g.S.Store.tables c.args.store.now in
-    let t : Contents = c.table.result.now.contents in
-    record {
-      exists = c.requires.exists;
-      fit = c.requires.fit;
-      whole = said (λ x. All (IsWhole x.def) c.new.result.items) (slice_get old c.args.t) t c.table.ensures (subst (λ (l : List (List Datum)). All (IsWhole t.def) l) (sym c.new.ensures.items) (All-nil (IsWhole t.def)));
-      few = said (λ x. length (without_keys c.args.keys.now x).rows + length c.new.result.items ≤ most_rows) (slice_get old c.args.t) t c.table.ensures
-          (omega (arith, ap length c.new.ensures.items, without_all-bound t.def.key c.args.keys.now t.rows, c.ascends.ensures.bound));
-    }
+    subst (All (IsKeyOf (defs_in old))) (sym c.of.ensures) (All-filter (names_table c.args.t) (IsKeyOf (defs_in old)) c.args.constraints.now c.requires.constraints)
 
-pub returns-then-is_any_late-clause-answer : goal.returns-then-is_any_late-clause-answer
-returns-then-is_any_late-clause-answer g c =
+pub erase_under-requires-clause-lawful : goal.erase_under-requires-clause-lawful
+erase_under-requires-clause-lawful g c =
     let old : List Contents = g.S.Store.tables c.args.store.now in
-    let t : Contents = c.table.result.now.contents in
-    for_test (replaces_late c.args.constraints.now old c.args.t c.args.keys.now c.new.result.items) (λ x. are_keyed_with c.args.constraints.now (rows_in old) c.args.t (without_keys c.args.keys.now x).rows) c.replace_tested.result
-    old c.args.t t c.table.ensures
-    (ap (λ (rows : List (List Datum)). replaces_late c.args.constraints.now old c.args.t c.args.keys.now rows t) c.new.ensures.items
-    ∙ replaced_late c.args.constraints.now old c.args.t t c.table.ensures c.ascends.ensures c.requires.lawful c.args.keys.now [] (none_out (rows_in old) c.args.t c.args.constraints.now))
-    c.replace_tested.ensures.answer
+    subst (λ (keys : List ForeignKey). are_keyed keys (rows_in old) ≡ true) (sym c.of.ensures) (named_held c.args.constraints.now old c.args.t c.requires.lawful)
 
 pub returns-clause-answer : goal.returns-clause-answer
 returns-clause-answer g c =
     let old : List Contents = g.S.Store.tables c.args.store.now in
-    let t : Contents = c.table.result.now.contents in
-    let none : list_any (is_late c.args.t (adds_only c.args.keys.now)) c.args.constraints.now ≡ false =
-    ap (λ adds. list_any (is_late c.args.t adds) c.args.constraints.now) (sym c.is_empty.ensures) ∙ sym c.is_any_late.ensures ∙ c.if-is_any_late.false in
-    said (λ x. true ≡ are_keyed_with c.args.constraints.now (rows_in old) c.args.t (without_keys c.args.keys.now x).rows) (slice_get old c.args.t) t c.table.ensures
-    (replaced_early c.args.constraints.now old c.args.t t c.table.ensures c.ascends.ensures c.requires.lawful c.args.keys.now [] (none_out (rows_in old) c.args.t c.args.constraints.now) none)
+    for_tests (λ x. are_keyed_with c.of.result.now (rows_in old) c.args.t (without_keys c.args.keys.now x).rows) (λ x. are_keyed_with c.args.constraints.now (rows_in old) c.args.t (without_keys c.args.keys.now x).rows)
+    (λ x. ap (λ (keys : List ForeignKey). are_keyed_with keys (rows_in old) c.args.t (without_keys c.args.keys.now x).rows) c.of.ensures ∙ erases_named c.args.constraints.now old c.args.t c.requires.lawful (without_keys c.args.keys.now x).rows)
+    c.erase_under.result (slice_get old c.args.t) c.erase_under.ensures.answer

@@ -1,41 +1,27 @@
-use Rattle.std.proofs.Common.{◌≡◌, List, true, false, ap, sym, ◌∙◌}
-use Rattle.std.specs.Prelude.{slice_get}
-use Rattle.std.specs.List.{list_all, list_any}
-use Rattle.psm_value.specs.declared.datum.Datum.{Datum}
-use Rattle.psm_table.specs.Keyed.{rows_in}
+use Rattle.std.proofs.Common.{◌≡◌, List, true, ap, sym, subst, ◌∙◌}
+use Rattle.std.specs.Prelude.{All, slice_get}
+use Rattle.std.proofs.lemmas.List.Elements.{All-filter}
+use Rattle.psm_table.specs.declared.definition.ForeignKey.{ForeignKey}
+use Rattle.psm_table.specs.Constraints.{names_table}
+use Rattle.psm_table.specs.Keyed.{are_keyed, defs_in, rows_in, IsKeyOf}
 use Rattle.psm_table.specs.Table.{Contents}
-use Rattle.psm_dml.specs.KeyTests.{adds_only, is_late, refers_out, replaces, replaces_late}
-use Rattle.psm_dml.specs.Rows.{fit_in, without_keys}
-use Rattle.psm_dml.proofs.Finished.{said}
-use Rattle.psm_dml.proofs.KeyTesting.{for_test, replaced_early, replaced_late, replaced_out}
+use Rattle.psm_dml.specs.KeyTests.{replaces}
+use Rattle.psm_dml.proofs.NamedConstraints.{for_tests, named_held, replaces_named}
 use Rattle.psm_dml.proofs.keying.replace_keyed.Goals as goal
 
-pub returns-then-not-branch-clause-answer : goal.returns-then-not-branch-clause-answer
-returns-then-not-branch-clause-answer g c =
+pub replace_under-requires-clause-constraints : goal.replace_under-requires-clause-constraints
+replace_under-requires-clause-constraints g c =
     let old : List Contents = g.S.Store.tables c.args.store.now in
-    let out : list_all (refers_out (rows_in old) c.args.t c.args.rows.items) c.args.constraints.now ≡ false =
-    ap (λ (rows : List (List Datum)). list_all (refers_out (rows_in old) c.args.t rows) c.args.constraints.now) (sym c.as_slice.ensures.value) ∙ sym c.in_ok-refer_out.ensures ∙ c.if-not-branch.true in
-    said (λ x. false ≡ replaces c.args.constraints.now old c.args.t c.args.keys.now c.args.rows.items x) (slice_get old c.args.t) c.table.result.now.contents c.table.ensures
-    (replaced_out c.args.constraints.now old c.args.t c.table.result.now.contents c.table.ensures c.ascends.ensures c.requires.lawful c.args.keys.now c.args.rows.items out)
+    subst (All (IsKeyOf (defs_in old))) (sym c.of.ensures) (All-filter (names_table c.args.t) (IsKeyOf (defs_in old)) c.args.constraints.now c.requires.constraints)
 
-pub returns-then-is_any_late-clause-answer : goal.returns-then-is_any_late-clause-answer
-returns-then-is_any_late-clause-answer g c =
+pub replace_under-requires-clause-lawful : goal.replace_under-requires-clause-lawful
+replace_under-requires-clause-lawful g c =
     let old : List Contents = g.S.Store.tables c.args.store.now in
-    let out : list_all (refers_out (rows_in old) c.args.t c.args.rows.items) c.args.constraints.now ≡ true =
-    ap (λ (rows : List (List Datum)). list_all (refers_out (rows_in old) c.args.t rows) c.args.constraints.now) (sym c.as_slice.ensures.value) ∙ sym c.in_ok-refer_out.ensures ∙ c.if-not-branch.false in
-    for_test (replaces_late c.args.constraints.now old c.args.t c.args.keys.now c.args.rows.items) (replaces c.args.constraints.now old c.args.t c.args.keys.now c.args.rows.items) c.replace_tested.result
-    old c.args.t c.table.result.now.contents c.table.ensures
-    (replaced_late c.args.constraints.now old c.args.t c.table.result.now.contents c.table.ensures c.ascends.ensures c.requires.lawful c.args.keys.now c.args.rows.items out)
-    c.replace_tested.ensures.answer
+    subst (λ (keys : List ForeignKey). are_keyed keys (rows_in old) ≡ true) (sym c.of.ensures) (named_held c.args.constraints.now old c.args.t c.requires.lawful)
 
-pub returns-else-is_any_late-clause-answer : goal.returns-else-is_any_late-clause-answer
-returns-else-is_any_late-clause-answer g c =
+pub returns-clause-answer : goal.returns-clause-answer
+returns-clause-answer g c =
     let old : List Contents = g.S.Store.tables c.args.store.now in
-    let out : list_all (refers_out (rows_in old) c.args.t c.args.rows.items) c.args.constraints.now ≡ true =
-    ap (λ (rows : List (List Datum)). list_all (refers_out (rows_in old) c.args.t rows) c.args.constraints.now) (sym c.as_slice.ensures.value) ∙ sym c.in_ok-refer_out.ensures ∙ c.if-not-branch.false in
-    let none : list_any (is_late c.args.t (adds_only c.args.keys.now)) c.args.constraints.now ≡ false =
-    ap (λ adds. list_any (is_late c.args.t adds) c.args.constraints.now) (sym c.is_empty.ensures) ∙ sym c.is_any_late.ensures ∙ c.if-is_any_late.false in
-    for_test (λ x. fit_in c.args.rows.items (without_keys c.args.keys.now x)) (replaces c.args.constraints.now old c.args.t c.args.keys.now c.args.rows.items) c.replace_rows.result
-    old c.args.t c.table.result.now.contents c.table.ensures
-    (replaced_early c.args.constraints.now old c.args.t c.table.result.now.contents c.table.ensures c.ascends.ensures c.requires.lawful c.args.keys.now c.args.rows.items out none)
-    c.replace_rows.ensures.answer
+    for_tests (replaces c.of.result.now old c.args.t c.args.keys.now c.args.rows.items) (replaces c.args.constraints.now old c.args.t c.args.keys.now c.args.rows.items)
+    (λ x. ap (λ (keys : List ForeignKey). replaces keys old c.args.t c.args.keys.now c.args.rows.items x) c.of.ensures ∙ replaces_named c.args.constraints.now old c.args.t c.requires.lawful c.args.keys.now c.args.rows.items x)
+    c.replace_under.result (slice_get old c.args.t) c.replace_under.ensures.answer

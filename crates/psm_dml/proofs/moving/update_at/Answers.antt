@@ -54,7 +54,7 @@ finish-requires-clause-legal g c =
 
 pub returns-in_err-finish-clause-answer : goal.returns-in_err-finish-clause-answer
 returns-in_err-finish-clause-answer g c =
-    let among : List (List Datum) → Bool = are_keyed_with c.args.keys.now (rows_in (g.S.Store.tables c.args.store.now)) c.args.t in
+    let among : List (List Datum) → Bool = are_keyed_with c.args.constraints.now (rows_in (g.S.Store.tables c.args.store.now)) c.args.t in
     let t : Contents = c.table-table.result.now.contents in
     let keys : c.as_slice.result.now ≡ c.in-Ok.change.key ∷ [] = c.as_slice.ensures.value ∙ c.in_ok-gone.ensures.keys ∙ ap keys_of_changes c.in_ok-vec.ensures.items in
     let rows : c.in_ok-gone.field-0.rows.items ≡ c.in-Ok.change.made ∷ [] = c.in_ok-gone.ensures.rows ∙ ap rows_of_changes c.in_ok-vec.ensures.items in

@@ -19,7 +19,7 @@ use Rattle.psm_dml.proofs.updating.update_anew.Goals as goal
 
 pub returns-in-Err-clause-answer : goal.returns-in-Err-clause-answer
 returns-in-Err-clause-answer g c =
-    let among : List (List Datum) → Bool = are_keyed_with c.args.keys.now (rows_in (g.S.Store.tables c.args.store.now)) c.args.t in
+    let among : List (List Datum) → Bool = are_keyed_with c.args.constraints.now (rows_in (g.S.Store.tables c.args.store.now)) c.args.t in
     let t : Contents = c.table.result.now.contents in
     ends_told (g.S.Store.tables c.args.store.now) _ c.args.t t (update_of c.args.checks.now among c.args.sets.now (option_copied c.args.test) c.args.vars.now) c.table.ensures
     c.in-Err.fault c.raised.result
@@ -58,7 +58,7 @@ finish-requires-clause-legal g c =
 
 pub returns-clause-answer : goal.returns-clause-answer
 returns-clause-answer g c =
-    let among : List (List Datum) → Bool = are_keyed_with c.args.keys.now (rows_in (g.S.Store.tables c.args.store.now)) c.args.t in
+    let among : List (List Datum) → Bool = are_keyed_with c.args.constraints.now (rows_in (g.S.Store.tables c.args.store.now)) c.args.t in
     let t : Contents = c.table.result.now.contents in
     let keys : c.as_slice.result.now ≡ keys_of_changes c.in-Ok.changes = c.as_slice.ensures.value ∙ c.in_ok-gone-in-Ok.ensures.keys ∙ ap keys_of_changes c.into_vec.ensures in
     let rows : c.in_ok-gone-in-Ok.field-0.rows.items ≡ rows_of_changes c.in-Ok.changes = c.in_ok-gone-in-Ok.ensures.rows ∙ ap rows_of_changes c.into_vec.ensures in

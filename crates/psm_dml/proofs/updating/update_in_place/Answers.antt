@@ -19,7 +19,7 @@ use Rattle.psm_dml.proofs.updating.update_in_place.Goals as goal
 
 pub returns-in-Err-clause-answer : goal.returns-in-Err-clause-answer
 returns-in-Err-clause-answer g c =
-    let among : List (List Datum) → Bool = are_keyed_with c.args.keys.now (rows_in (g.S.Store.tables c.args.store.now)) c.args.t in
+    let among : List (List Datum) → Bool = are_keyed_with c.args.constraints.now (rows_in (g.S.Store.tables c.args.store.now)) c.args.t in
     let t : Contents = c.table.result.now.contents in
     let kept = there (λ x. keep_places x.def c.args.sets.now ≡ true) (slice_get (g.S.Store.tables c.args.store.now) c.args.t) t c.table.ensures c.requires.places in
     ends_told (g.S.Store.tables c.args.store.now) _ c.args.t t (update_of c.args.checks.now among c.args.sets.now (option_copied c.args.test) c.args.vars.now) c.table.ensures
@@ -50,7 +50,7 @@ finish_in_place-requires-clause-legal g c =
 
 pub returns-clause-answer : goal.returns-clause-answer
 returns-clause-answer g c =
-    let among : List (List Datum) → Bool = are_keyed_with c.args.keys.now (rows_in (g.S.Store.tables c.args.store.now)) c.args.t in
+    let among : List (List Datum) → Bool = are_keyed_with c.args.constraints.now (rows_in (g.S.Store.tables c.args.store.now)) c.args.t in
     let t : Contents = c.table.result.now.contents in
     let old : List Contents = g.S.Store.tables c.args.store.now in
     let kept = there (λ x. keep_places x.def c.args.sets.now ≡ true) (slice_get old c.args.t) t c.table.ensures c.requires.places in

@@ -1,10 +1,8 @@
-use Rattle.std.proofs.Common.{List, [], All, IfSome, slice_get, ap, sym, subst, ◌∙◌}
+use Rattle.std.proofs.Common.{List, [], IfSome, slice_get, ap, sym, subst, ◌∙◌}
 use Rattle.std.specs.Option.{option_copied}
 use Rattle.psm_value.specs.declared.datum.Datum.{Datum}
 use Rattle.psm_exprcode.specs.declared.op.Line.{Line}
-use Rattle.psm_table.specs.declared.definition.ForeignKey.{ForeignKey}
 use Rattle.psm_table.specs.Changing.{deleted, IsLegal}
-use Rattle.psm_table.specs.Keyed.{defs_in, IsKeyOf}
 use Rattle.psm_table.specs.Table.{Contents}
 use Rattle.psm_tablecode.specs.Codes.{over}
 use Rattle.psm_dml.specs.Ends.{keyed_schema, schema_of, Ends}
@@ -16,13 +14,13 @@ use Rattle.psm_machine.proofs.Asking.{of_some}
 use Rattle.psm_machine.proofs.Counting.{as_err, delete_counted, Counted}
 use Rattle.psm_machine.proofs.plans.delete_rows.Goals as goal
 
-pub delete-requires-clause-keys : goal.delete-requires-clause-keys
-delete-requires-clause-keys g c =
+pub delete-requires-clause-constraints : goal.delete-requires-clause-constraints
+delete-requires-clause-constraints g c =
     let old : List Contents = g.S.Store.tables c.args.store.now in
     let code = c.args.code.now in
     let may = MayErase code.keys old c.args.table c.args.run.now.running.variables.items (option_copied c.args.test) in
     let h = of_some may (slice_get code.tables c.args.table) c.in-Some._declared.now (sym c.table_at.ensures ∙ ap option_copied c.in-Some.is) c.requires.may in
-    subst (λ (keys : List ForeignKey). All (IsKeyOf (defs_in old)) keys) (sym c.items-keys.ensures) h.table.keys_there
+    h.table.keys_there
 
 pub returns-in_err-count-clause-due : goal.returns-in_err-count-clause-due
 returns-in_err-count-clause-due g c = λ at.
@@ -35,8 +33,7 @@ returns-in_err-count-clause-due g c = λ at.
     let vars = run.running.variables.items in
     let here = sym c.table_at.ensures ∙ ap option_copied c.in-Some.is in
     let h = of_some (MayErase c.args.code.now.keys old n vars test) (slice_get c.args.code.now.tables n) t here c.requires.may in
-    let keyed = subst (λ (keys : List ForeignKey). IfSome (slice_get old n) (λ d. (checks : List (List Line)) → IsLegal (over []) (schema_of d.def checks) d.rows → Ends d (deleted (over c.as_slice-vars.result.now) (over []) (keyed_schema keys old n d.def checks) test d.rows) old n new c.delete.result)) c.items-keys.ensures c.delete.ensures.answer in
-    let seen = subst (λ (vs : List Datum). IfSome (slice_get old n) (λ d. (checks : List (List Line)) → IsLegal (over []) (schema_of d.def checks) d.rows → Ends d (deleted (over vs) (over []) (keyed_schema c.args.code.now.keys old n d.def checks) test d.rows) old n new c.delete.result)) c.as_slice-vars.ensures.value keyed in
+    let seen = subst (λ (vs : List Datum). IfSome (slice_get old n) (λ d. (checks : List (List Line)) → IsLegal (over []) (schema_of d.def checks) d.rows → Ends d (deleted (over vs) (over []) (keyed_schema c.args.code.now.keys old n d.def checks) test d.rows) old n new c.delete.result)) c.as_slice-vars.ensures.value c.delete.ensures.answer in
     let counted = subst (λ p. Counted (delete_rows c.args.code.now n test) some_row old at run new p) (sym c.in_err-count.ensures) (delete_counted c.args.code.now n t here old at run new test c.delete.result h.table seen) in
     subst (λ r. Evaluates (delete_rows c.args.code.now n test (machine_of old at run)) r (machine_of new at run)) (as_err c.from_residual.result c.in_err-count.field-0.0 c.from_residual.ensures.1) counted
 
@@ -51,8 +48,7 @@ returns-clause-due g c = λ at.
     let vars = run.running.variables.items in
     let here = sym c.table_at.ensures ∙ ap option_copied c.in-Some.is in
     let h = of_some (MayErase c.args.code.now.keys old n vars test) (slice_get c.args.code.now.tables n) t here c.requires.may in
-    let keyed = subst (λ (keys : List ForeignKey). IfSome (slice_get old n) (λ d. (checks : List (List Line)) → IsLegal (over []) (schema_of d.def checks) d.rows → Ends d (deleted (over c.as_slice-vars.result.now) (over []) (keyed_schema keys old n d.def checks) test d.rows) old n new c.delete.result)) c.items-keys.ensures c.delete.ensures.answer in
-    let seen = subst (λ (vs : List Datum). IfSome (slice_get old n) (λ d. (checks : List (List Line)) → IsLegal (over []) (schema_of d.def checks) d.rows → Ends d (deleted (over vs) (over []) (keyed_schema c.args.code.now.keys old n d.def checks) test d.rows) old n new c.delete.result)) c.as_slice-vars.ensures.value keyed in
+    let seen = subst (λ (vs : List Datum). IfSome (slice_get old n) (λ d. (checks : List (List Line)) → IsLegal (over []) (schema_of d.def checks) d.rows → Ends d (deleted (over vs) (over []) (keyed_schema c.args.code.now.keys old n d.def checks) test d.rows) old n new c.delete.result)) c.as_slice-vars.ensures.value c.delete.ensures.answer in
     let counted = subst (λ p. Counted (delete_rows c.args.code.now n test) some_row old at run new p) (sym c.in_ok-count.ensures) (delete_counted c.args.code.now n t here old at run new test c.delete.result h.table seen) in
     let now = machine_of new at (record run { area = c.set_rows.new.self }) in
     subst (λ came. Evaluates came c.some_row.result now) (sym (counted ∙ ap (λ a. some_row c.in_ok-count.count (machine_of new at (record run { area = a }))) (sym c.set_rows.ensures))) (c.some_row.ensures now)

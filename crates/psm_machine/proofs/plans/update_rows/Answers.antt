@@ -1,10 +1,8 @@
-use Rattle.std.proofs.Common.{List, All, IfSome, map, slice_get, ap, sym, subst, ◌∙◌}
+use Rattle.std.proofs.Common.{List, IfSome, map, slice_get, ap, sym, subst, ◌∙◌}
 use Rattle.std.specs.Option.{option_copied}
 use Rattle.psm_value.specs.declared.datum.Datum.{Datum}
 use Rattle.psm_exprcode.specs.declared.op.Line.{Line}
-use Rattle.psm_table.specs.declared.definition.ForeignKey.{ForeignKey}
 use Rattle.psm_table.specs.Changing.{updated}
-use Rattle.psm_table.specs.Keyed.{defs_in, IsKeyOf}
 use Rattle.psm_table.specs.Table.{Contents}
 use Rattle.psm_tablecode.specs.Codes.{over}
 use Rattle.psm_dml.specs.Ends.{keyed_schema, Ends}
@@ -16,13 +14,13 @@ use Rattle.psm_machine.proofs.Asking.{of_some}
 use Rattle.psm_machine.proofs.Counting.{as_err, update_counted, Counted}
 use Rattle.psm_machine.proofs.plans.update_rows.Goals as goal
 
-pub update-requires-clause-keys : goal.update-requires-clause-keys
-update-requires-clause-keys g c =
+pub update-requires-clause-constraints : goal.update-requires-clause-constraints
+update-requires-clause-constraints g c =
     let old : List Contents = g.S.Store.tables c.args.store.now in
     let code = c.args.code.now in
     let may = MayChange code.keys old c.args.table c.args.run.now.running.variables.items c.args.sets.now (option_copied c.args.test) in
     let h = of_some may (slice_get code.tables c.args.table) c.in-Some.declared.now (sym c.table_at.ensures ∙ ap option_copied c.in-Some.is) c.requires.may in
-    subst (λ (keys : List ForeignKey). All (IsKeyOf (defs_in old)) keys) (sym c.items-keys.ensures) h.table.keys_there
+    h.table.keys_there
 
 pub returns-in_err-count-clause-due : goal.returns-in_err-count-clause-due
 returns-in_err-count-clause-due g c = λ at.
@@ -36,8 +34,7 @@ returns-in_err-count-clause-due g c = λ at.
     let vars = run.running.variables.items in
     let here = sym c.table_at.ensures ∙ ap option_copied c.in-Some.is in
     let h = of_some (MayChange c.args.code.now.keys old n vars sets test) (slice_get c.args.code.now.tables n) t here c.requires.may in
-    let keyed = subst (λ (keys : List ForeignKey). IfSome (slice_get old n) (λ d. Ends d (updated (over c.as_slice-vars.result.now) plain (keyed_schema keys old n d.def c.items.result.now) (map set_item sets) test d.rows) old n new c.update.result)) c.items-keys.ensures c.update.ensures.answer in
-    let ruled = subst (λ (checks : List (List Line)). IfSome (slice_get old n) (λ d. Ends d (updated (over c.as_slice-vars.result.now) plain (keyed_schema c.args.code.now.keys old n d.def checks) (map set_item sets) test d.rows) old n new c.update.result)) c.items.ensures keyed in
+    let ruled = subst (λ (checks : List (List Line)). IfSome (slice_get old n) (λ d. Ends d (updated (over c.as_slice-vars.result.now) plain (keyed_schema c.args.code.now.keys old n d.def checks) (map set_item sets) test d.rows) old n new c.update.result)) c.items.ensures c.update.ensures.answer in
     let seen = subst (λ (vs : List Datum). IfSome (slice_get old n) (λ d. Ends d (updated (over vs) plain (keyed_schema c.args.code.now.keys old n d.def t.checks) (map set_item sets) test d.rows) old n new c.update.result)) c.as_slice-vars.ensures.value ruled in
     let counted = subst (λ p. Counted (update_rows c.args.code.now n sets test) some_row old at run new p) (sym c.in_err-count.ensures) (update_counted c.args.code.now n t here old at run new sets test c.update.result h.table seen) in
     subst (λ r. Evaluates (update_rows c.args.code.now n sets test (machine_of old at run)) r (machine_of new at run)) (as_err c.from_residual.result c.in_err-count.field-0.0 c.from_residual.ensures.1) counted
@@ -54,8 +51,7 @@ returns-clause-due g c = λ at.
     let vars = run.running.variables.items in
     let here = sym c.table_at.ensures ∙ ap option_copied c.in-Some.is in
     let h = of_some (MayChange c.args.code.now.keys old n vars sets test) (slice_get c.args.code.now.tables n) t here c.requires.may in
-    let keyed = subst (λ (keys : List ForeignKey). IfSome (slice_get old n) (λ d. Ends d (updated (over c.as_slice-vars.result.now) plain (keyed_schema keys old n d.def c.items.result.now) (map set_item sets) test d.rows) old n new c.update.result)) c.items-keys.ensures c.update.ensures.answer in
-    let ruled = subst (λ (checks : List (List Line)). IfSome (slice_get old n) (λ d. Ends d (updated (over c.as_slice-vars.result.now) plain (keyed_schema c.args.code.now.keys old n d.def checks) (map set_item sets) test d.rows) old n new c.update.result)) c.items.ensures keyed in
+    let ruled = subst (λ (checks : List (List Line)). IfSome (slice_get old n) (λ d. Ends d (updated (over c.as_slice-vars.result.now) plain (keyed_schema c.args.code.now.keys old n d.def checks) (map set_item sets) test d.rows) old n new c.update.result)) c.items.ensures c.update.ensures.answer in
     let seen = subst (λ (vs : List Datum). IfSome (slice_get old n) (λ d. Ends d (updated (over vs) plain (keyed_schema c.args.code.now.keys old n d.def t.checks) (map set_item sets) test d.rows) old n new c.update.result)) c.as_slice-vars.ensures.value ruled in
     let counted = subst (λ p. Counted (update_rows c.args.code.now n sets test) some_row old at run new p) (sym c.in_ok-count.ensures) (update_counted c.args.code.now n t here old at run new sets test c.update.result h.table seen) in
     let now = machine_of new at (record run { area = c.set_rows.new.self }) in

@@ -1,9 +1,6 @@
-use Rattle.std.proofs.Common.{true, List, All, IfSome, slice_get, ap, sym, subst, ◌∙◌}
+use Rattle.std.proofs.Common.{true, List, ap, sym, subst, ◌∙◌}
 use Rattle.std.specs.Option.{option_copied}
-use Rattle.psm_table.specs.declared.definition.ForeignKey.{ForeignKey}
-use Rattle.psm_table.specs.Keyed.{defs_in, IsKeyOf}
 use Rattle.psm_table.specs.Table.{Contents}
-use Rattle.psm_dml.specs.Ends.{ErasesByRules}
 use Rattle.psm_code.specs.Plans.{delete_at, leave_row}
 use Rattle.psm_unwind.specs.View.{machine_of}
 use Rattle.psm_machine.specs.Allowed.{MayEraseAt}
@@ -12,8 +9,8 @@ use Rattle.psm_machine.proofs.Counting.{as_err}
 use Rattle.psm_machine.proofs.Positions.{erases, gone_by, may_at, Moves}
 use Rattle.psm_machine.proofs.positioned.delete_at.Goals as goal
 
-pub delete_at-requires-clause-keys : goal.delete_at-requires-clause-keys
-delete_at-requires-clause-keys g c =
+pub delete_at-requires-clause-constraints : goal.delete_at-requires-clause-constraints
+delete_at-requires-clause-constraints g c =
     let old : List Contents = g.S.Store.tables c.args.store.now in
     let code = c.args.code.now in
     let r = c.args.routine.now in
@@ -26,7 +23,7 @@ delete_at-requires-clause-keys g c =
     let b = sym c.table_at.ensures ∙ ap option_copied c.in-Some-table_at.is in
     let s = sym c.cursor_at.ensures ∙ ap option_copied c.in-Some-cursor_at.is in
     let may = may_at (λ n c. MayEraseAt code.keys old n c) code r run.running.cursors.items n c.in-Some.declared.now q c.in-Some-table_at._declared.now cursor d a b s c.requires.may in
-    subst (λ (keys : List ForeignKey). All (IsKeyOf (defs_in old)) keys) (sym c.items-keys.ensures) may.table.keys_there
+    may.table.keys_there
 
 pub returns-in_err-part_of-clause-due : goal.returns-in_err-part_of-clause-due
 returns-in_err-part_of-clause-due g c = λ at.
@@ -46,9 +43,8 @@ returns-in_err-part_of-clause-due g c = λ at.
     let b = sym c.table_at.ensures ∙ ap option_copied c.in-Some-table_at.is in
     let s = sym c.cursor_at.ensures ∙ ap option_copied c.in-Some-cursor_at.is in
     let may = may_at (λ n c. MayEraseAt code.keys old n c) code r run.running.cursors.items n x q y cursor d a b s c.requires.may in
-    let ruled = subst (λ (keys : List ForeignKey). IfSome (slice_get old q.table) (ErasesByRules keys c.in_ok-key.key old q.table new c.delete_at.result)) c.items-keys.ensures c.delete_at.ensures.answer in
     let done = erases code r n x q y cursor t c.in_ok-key.key c.in-Some-current.row.now old new at run c.delete_at.result d a b may.table c.table-table.ensures s
-    (sym c.current.ensures.row ∙ ap option_copied c.in-Some-current.is) c.in_ok-key.ensures.value ruled in
+    (sym c.current.ensures.row ∙ ap option_copied c.in-Some-current.is) c.in_ok-key.ensures.value c.delete_at.ensures.answer in
     let stopped = subst (λ p. Moves (delete_at code r n) n cursor old at run new (gone_by p)) (sym c.in_err-part_of.ensures) done in
     subst (λ p. Evaluates (delete_at code r n (machine_of old at run)) p (machine_of new at run)) (as_err c.from_residual-in_err-part_of.result c.in_err-part_of.field-0.0 c.from_residual-in_err-part_of.ensures.1) stopped
 
@@ -70,9 +66,8 @@ returns-clause-due g c = λ at.
     let b = sym c.table_at.ensures ∙ ap option_copied c.in-Some-table_at.is in
     let s = sym c.cursor_at.ensures ∙ ap option_copied c.in-Some-cursor_at.is in
     let may = may_at (λ n c. MayEraseAt code.keys old n c) code r run.running.cursors.items n x q y cursor d a b s c.requires.may in
-    let ruled = subst (λ (keys : List ForeignKey). IfSome (slice_get old q.table) (ErasesByRules keys c.in_ok-key.key old q.table new c.delete_at.result)) c.items-keys.ensures c.delete_at.ensures.answer in
     let done = erases code r n x q y cursor t c.in_ok-key.key c.in-Some-current.row.now old new at run c.delete_at.result d a b may.table c.table-table.ensures s
-    (sym c.current.ensures.row ∙ ap option_copied c.in-Some-current.is) c.in_ok-key.ensures.value ruled in
+    (sym c.current.ensures.row ∙ ap option_copied c.in-Some-current.is) c.in_ok-key.ensures.value c.delete_at.ensures.answer in
     subst (λ p. Moves (delete_at code r n) n cursor old at run new (gone_by p)) (sym c.in_ok-part_of.ensures) done
     ∙ ap (λ area. leave_row true n cursor (machine_of new at (record run { area = area }))) (sym c.set_rows.ensures)
     ∙ c.leave_row.ensures.due cursor s new at

@@ -1,10 +1,8 @@
-use Rattle.std.proofs.Common.{List, All, IfSome, map, slice_get, ap, sym, subst, ◌∙◌}
+use Rattle.std.proofs.Common.{List, IfSome, map, slice_get, ap, sym, subst, ◌∙◌}
 use Rattle.std.specs.Option.{option_copied}
 use Rattle.psm_value.specs.declared.datum.Datum.{Datum}
 use Rattle.psm_exprcode.specs.declared.op.Line.{Line}
-use Rattle.psm_table.specs.declared.definition.ForeignKey.{ForeignKey}
 use Rattle.psm_table.specs.Changing.{updated_at as updated_row}
-use Rattle.psm_table.specs.Keyed.{defs_in, IsKeyOf}
 use Rattle.psm_table.specs.Table.{keyed, Contents}
 use Rattle.psm_tablecode.specs.Codes.{over}
 use Rattle.psm_dml.specs.Ends.{keyed_schema, EndsAtRow}
@@ -16,8 +14,8 @@ use Rattle.psm_machine.proofs.Counting.{as_err}
 use Rattle.psm_machine.proofs.Positions.{may_at, moves, Moves}
 use Rattle.psm_machine.proofs.positioned.update_at.Goals as goal
 
-pub update_at-requires-clause-keys : goal.update_at-requires-clause-keys
-update_at-requires-clause-keys g c =
+pub update_at-requires-clause-constraints : goal.update_at-requires-clause-constraints
+update_at-requires-clause-constraints g c =
     let old : List Contents = g.S.Store.tables c.args.store.now in
     let code = c.args.code.now in
     let r = c.args.routine.now in
@@ -30,7 +28,7 @@ update_at-requires-clause-keys g c =
     let b = sym c.table_at.ensures ∙ ap option_copied c.in-Some-table_at.is in
     let s = sym c.cursor_at.ensures ∙ ap option_copied c.in-Some-cursor_at.is in
     let may = may_at (λ n x. MayChangeAt code.keys old n run.running.variables.items c.args.sets.now x) code r run.running.cursors.items n c.in-Some.declared.now q c.in-Some-table_at.table.now cursor d a b s c.requires.may in
-    subst (λ (keys : List ForeignKey). All (IsKeyOf (defs_in old)) keys) (sym c.items-keys.ensures) may.table.keys_there
+    may.table.keys_there
 
 pub returns-in_err-moved-clause-due : goal.returns-in_err-moved-clause-due
 returns-in_err-moved-clause-due g c = λ at.
@@ -51,8 +49,7 @@ returns-in_err-moved-clause-due g c = λ at.
     let b = sym c.table_at.ensures ∙ ap option_copied c.in-Some-table_at.is in
     let s = sym c.cursor_at.ensures ∙ ap option_copied c.in-Some-cursor_at.is in
     let may = may_at (λ n c. MayChangeAt code.keys old n run.running.variables.items sets c) code r run.running.cursors.items n x q t cursor d a b s c.requires.may in
-    let asked = subst (λ (keys : List ForeignKey). IfSome (slice_get old q.table) (λ e. EndsAtRow e (λ row. updated_row (over c.as_slice.result.now) plain (keyed_schema keys old q.table e.def c.items.result.now) (map set_item sets) row e.rows) (keyed e key) old q.table new c.update_at.result)) c.items-keys.ensures c.update_at.ensures.answer in
-    let ruled = subst (λ (checks : List (List Line)). IfSome (slice_get old q.table) (λ e. EndsAtRow e (λ row. updated_row (over c.as_slice.result.now) plain (keyed_schema code.keys old q.table e.def checks) (map set_item sets) row e.rows) (keyed e key) old q.table new c.update_at.result)) c.items.ensures asked in
+    let ruled = subst (λ (checks : List (List Line)). IfSome (slice_get old q.table) (λ e. EndsAtRow e (λ row. updated_row (over c.as_slice.result.now) plain (keyed_schema code.keys old q.table e.def checks) (map set_item sets) row e.rows) (keyed e key) old q.table new c.update_at.result)) c.items.ensures c.update_at.ensures.answer in
     let seen = subst (λ (vs : List Datum). IfSome (slice_get old q.table) (λ e. EndsAtRow e (λ row. updated_row (over vs) plain (keyed_schema code.keys old q.table e.def t.checks) (map set_item sets) row e.rows) (keyed e key) old q.table new c.update_at.result)) c.as_slice.ensures.value ruled in
     let done = moves code r n sets x q t cursor key c.table.result.now.contents old new at run c.update_at.result d a b may.table s c.table.ensures c.in-Some-key_on.ensures.some c.in-Some-key_on.ensures.row seen in
     let stopped = subst (λ p. Moves (update_at code r n sets) n cursor old at run new p) (sym c.in_err-moved.ensures) done in
@@ -77,8 +74,7 @@ returns-clause-due g c = λ at.
     let b = sym c.table_at.ensures ∙ ap option_copied c.in-Some-table_at.is in
     let s = sym c.cursor_at.ensures ∙ ap option_copied c.in-Some-cursor_at.is in
     let may = may_at (λ n c. MayChangeAt code.keys old n run.running.variables.items sets c) code r run.running.cursors.items n x q t cursor d a b s c.requires.may in
-    let asked = subst (λ (keys : List ForeignKey). IfSome (slice_get old q.table) (λ e. EndsAtRow e (λ row. updated_row (over c.as_slice.result.now) plain (keyed_schema keys old q.table e.def c.items.result.now) (map set_item sets) row e.rows) (keyed e key) old q.table new c.update_at.result)) c.items-keys.ensures c.update_at.ensures.answer in
-    let ruled = subst (λ (checks : List (List Line)). IfSome (slice_get old q.table) (λ e. EndsAtRow e (λ row. updated_row (over c.as_slice.result.now) plain (keyed_schema code.keys old q.table e.def checks) (map set_item sets) row e.rows) (keyed e key) old q.table new c.update_at.result)) c.items.ensures asked in
+    let ruled = subst (λ (checks : List (List Line)). IfSome (slice_get old q.table) (λ e. EndsAtRow e (λ row. updated_row (over c.as_slice.result.now) plain (keyed_schema code.keys old q.table e.def checks) (map set_item sets) row e.rows) (keyed e key) old q.table new c.update_at.result)) c.items.ensures c.update_at.ensures.answer in
     let seen = subst (λ (vs : List Datum). IfSome (slice_get old q.table) (λ e. EndsAtRow e (λ row. updated_row (over vs) plain (keyed_schema code.keys old q.table e.def t.checks) (map set_item sets) row e.rows) (keyed e key) old q.table new c.update_at.result)) c.as_slice.ensures.value ruled in
     let done = moves code r n sets x q t cursor key c.table.result.now.contents old new at run c.update_at.result d a b may.table s c.table.ensures c.in-Some-key_on.ensures.some c.in-Some-key_on.ensures.row seen in
     subst (λ p. Moves (update_at code r n sets) n cursor old at run new p) (sym c.in_ok-moved.ensures) done

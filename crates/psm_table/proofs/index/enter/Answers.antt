@@ -3,11 +3,11 @@ use Rattle.psm_table.proofs.Entered.{entered-put, grow-put, one-put, room-for}
 use Rattle.psm_table.proofs.index.enter.Goals as goal
 
 pub put_all-requires-clause-room : goal.put_all-requires-clause-room
-put_all-requires-clause-room c = room-for c.args.def.now c.args.row.now c.prepare_all.new.indexes.items c.in_ok-entries.entries.items c.in_ok-entries.ensures.entries
+put_all-requires-clause-room c = room-for c.args.def.now c.args.lists.now c.args.row.now c.prepare_all.new.indexes.items c.in_ok-entries.entries.items c.in_ok-entries.ensures.entries
 
 pub returns-clause-entered : goal.returns-clause-entered
 returns-clause-entered c =
-    entered-put c.args.def.now c.args.row.now c.prepare_all.new.indexes.items c.in_ok-entries.entries.items c.in_ok-entries.ensures.entries c.put_all.new.indexes.items
+    entered-put c.args.def.now c.args.lists.now c.args.row.now c.prepare_all.new.indexes.items c.in_ok-entries.entries.items c.in_ok-entries.ensures.entries c.put_all.new.indexes.items
     (c.prepare_all.ensures.lists ∙ c.requires.lists) c.put_all.ensures.lists c.put_all.ensures.put
 
 pub returns-clause-grow : goal.returns-clause-grow

@@ -9,5 +9,5 @@ invariant-loop-i l = record {
   lists : length l.indexes.items ≡ length l.initial.indexes.items;
   same : entries_of l.indexes.items ≡ entries_of l.initial.indexes.items;
   count : length l.entries.items ≡ l.i;
-  each : (k : ℕ) → k < l.i → At (λ columns m o. IsPrepared columns l.def.key l.row m o) l.def.unique l.indexes.items l.entries.items k;
+  each : (k : ℕ) → k < l.i → At (λ columns m o. IsPrepared columns l.def.key l.row m o) l.lists l.indexes.items l.entries.items k;
 }

@@ -8,11 +8,10 @@ use Rattle.psm_table.proofs.index.settle_entries.Goals as goal
 
 pub loop-i-preserved : goal.loop-i-preserved
 loop-i-preserved c =
-    let list : c.items-columns.result.now ≡ get_or c.args.def.now.unique c.loop-i.i c.items-columns.result.now =
-    subst (λ (l : List ℕ). l ≡ get_or c.args.def.now.unique c.loop-i.i l) (sym c.items-columns.ensures)
-    (subst (λ (ls : List (List ℕ)). c.index-items-i.result ≡ get_or ls c.loop-i.i c.index-items-i.result) c.items.ensures c.index-items-i.is) in (
+    let list : c.items-columns.result.now ≡ get_or c.args.lists.now c.loop-i.i c.items-columns.result.now =
+    subst (λ (l : List ℕ). l ≡ get_or c.args.lists.now c.loop-i.i l) (sym c.items-columns.ensures) c.index-lists-i.is in (
       length-set c.loop-i.indexes.items c.loop-i.i c.retain.new.self ∙ c.loop-i.invariant.0,
-      λ n d l. survives-set c.args.def.now [] c.args.rows.now.pairs c.requires.order c.requires.at_keys c.requires.ascend n d l c.loop-i.indexes.items c.loop-i.i c.items-columns.result.now
+      λ n d l. survives-set c.args.def.now [] c.args.rows.now.pairs c.requires.order c.requires.at_keys c.requires.ascend n d l c.args.lists.now c.loop-i.indexes.items c.loop-i.i c.items-columns.result.now
           c.index_mut.result.now c.retain.new.self (omega (arith, c.loop-i-test.true, c.loop-i.invariant.0)) c.index_mut.ensures.value list c.retain.ensures.pairs (c.loop-i.invariant.1 n d l),
       few-set (length (live_rows c.args.rows.now.pairs)) c.loop-i.indexes.items c.loop-i.i c.retain.new.self (omega (arith, c.loop-i-test.true, c.loop-i.invariant.0))
           (current-within c.args.def.now c.items-columns.result.now c.args.rows.now.pairs c.requires.order c.requires.at_keys c.retain.new.self.pairs c.index_mut.result.now.pairs c.retain.ensures.pairs c.retain.ensures.ordered)

@@ -1,6 +1,6 @@
 use Rattle.std.proofs.Common.{sym, ap, ◌∙◌, ◌&&◌, Bool, drop, ◌+◌}
 use Rattle.std.specs.Option.{option_copied}
-use Rattle.psm_tablecode.specs.Asked.{are_quiet}
+use Rattle.psm_tablecode.specs.Tests.{are_quiet}
 use Rattle.psm_tablecode.proofs.Windows.{quiet_none, quiet_some}
 use Rattle.psm_tablecode.proofs.asking.is_quiet_at.Goals as goal
 

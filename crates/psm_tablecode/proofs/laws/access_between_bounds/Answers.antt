@@ -1,3 +1,4 @@
+use Rattle.psm_tablecode.proofs.KeyWalks.{rows_bounded}
 use Rattle.psm_tablecode.proofs.Ranges.{bounds_only, bounds_quiet, walked_within}
 use Rattle.psm_tablecode.proofs.laws.access_between_bounds.Goals as goal
 
@@ -9,3 +10,6 @@ returns-clause-only c = λ columns test vars row bounds asks met. bounds_only va
 
 pub returns-clause-walk : goal.returns-clause-walk
 returns-clause-walk c = λ t downward test vars take. walked_within t vars take downward test
+
+pub returns-clause-rows : goal.returns-clause-rows
+returns-clause-rows c = λ t downward test vars bounds k b. rows_bounded t vars downward test bounds k b

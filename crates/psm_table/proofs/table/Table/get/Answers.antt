@@ -10,9 +10,9 @@ use Rattle.psm_table.proofs.table.Table.get.Goals as goal
 
 pub returns-clause-row : goal.returns-clause-row
 returns-clause-row c =
-    c.row_at.ensures ∙ ap (λ k. row_of k c.self.inside.rows.pairs) c.values.ensures ∙ held-find c.self.inside.def c.self.inside.rows c.self.inside.live c.self.inside.indexes.items c.self.invariant.0 c.args.key.now ∙ ap (λ (s : State). keyed s.contents c.args.key.now) c.self.view_is
+    c.row_at.ensures ∙ ap (λ k. row_of k c.self.inside.rows.pairs) c.values.ensures ∙ held-find c.self.inside.def c.self.inside.lists.items c.self.inside.rows c.self.inside.live c.self.inside.indexes.items c.self.invariant.0 c.args.key.now ∙ ap (λ (s : State). keyed s.contents c.args.key.now) c.self.view_is
 
 pub returns-clause-fits : goal.returns-clause-fits
 returns-clause-fits c =
     subst (λ d. IfSome c.row_at.result (λ x. IsRow d x.now)) (ap (λ (s : State). s.contents.def) c.self.view_is)
-    (found_fits c.self.inside.def c.self.inside.rows c.self.inside.live c.self.inside.indexes.items c.self.invariant.0 c.args.key.now c.row_at.result (c.row_at.ensures ∙ ap (λ k. row_of k c.self.inside.rows.pairs) c.values.ensures))
+    (found_fits c.self.inside.def c.self.inside.lists.items c.self.inside.rows c.self.inside.live c.self.inside.indexes.items c.self.invariant.0 c.args.key.now c.row_at.result (c.row_at.ensures ∙ ap (λ k. row_of k c.self.inside.rows.pairs) c.values.ensures))

@@ -13,74 +13,74 @@ invariant_of-self g c =
     let e : c.take_row.new.self.pairs ≡ with_value c.args.key.now None c.self.inside.rows.pairs = c.take_row.ensures.pairs ∙ ap (λ k. with_value k None c.self.inside.rows.pairs) c.values.ensures in
     let none : row_of c.args.key.now c.self.inside.rows.pairs ≡ None = ap (λ k. row_of k c.self.inside.rows.pairs) (sym c.values.ensures) ∙ sym c.in_err-row.ensures.row in
     let same : c.take_row.new.self.pairs ≡ c.self.inside.rows.pairs = e ∙ with_value-none c.args.key.now c.self.inside.rows.pairs c.self.invariant.0.order none in (
-      held-same c.self.inside.def c.self.inside.rows c.take_row.new.self c.self.inside.live c.self.inside.indexes.items c.self.inside.indexes.items same refl refl c.self.invariant.0,
-      counted-same (state_of c.self.inside.def c.self.inside.rows c.self.inside.indexes.items) (state_of c.self.inside.def c.take_row.new.self c.self.inside.indexes.items) c.self.inside.left
-          (state-same c.self.inside.def c.self.inside.rows c.take_row.new.self c.self.inside.indexes.items c.self.inside.indexes.items same refl) c.self.invariant.1,
+      held-same c.self.inside.def c.self.inside.lists.items c.self.inside.rows c.take_row.new.self c.self.inside.live c.self.inside.indexes.items c.self.inside.indexes.items same refl refl c.self.invariant.0,
+      counted-same (state_of c.self.inside.def c.self.inside.lists.items c.self.inside.rows c.self.inside.indexes.items) (state_of c.self.inside.def c.self.inside.lists.items c.take_row.new.self c.self.inside.indexes.items) c.self.inside.left
+          (state-same c.self.inside.def c.self.inside.lists.items c.self.inside.rows c.take_row.new.self c.self.inside.indexes.items c.self.inside.indexes.items same refl) c.self.invariant.1,
     )
 
 pub returns-in_err-row-clause-row : goal.returns-in_err-row-clause-row
 returns-in_err-row-clause-row g c =
     let none : row_of c.args.key.now c.self.inside.rows.pairs ≡ None = ap (λ k. row_of k c.self.inside.rows.pairs) (sym c.values.ensures) ∙ sym c.in_err-row.ensures.row in
-    c.from_residual.ensures ∙ sym none ∙ held-find c.self.inside.def c.self.inside.rows c.self.inside.live c.self.inside.indexes.items c.self.invariant.0 c.args.key.now ∙ ap (λ (s : State). keyed s.contents c.args.key.now) c.self.view_is
+    c.from_residual.ensures ∙ sym none ∙ held-find c.self.inside.def c.self.inside.lists.items c.self.inside.rows c.self.inside.live c.self.inside.indexes.items c.self.invariant.0 c.args.key.now ∙ ap (λ (s : State). keyed s.contents c.args.key.now) c.self.view_is
 
 pub returns-in_err-row-clause-rows : goal.returns-in_err-row-clause-rows
 returns-in_err-row-clause-rows g c =
     let e : c.take_row.new.self.pairs ≡ with_value c.args.key.now None c.self.inside.rows.pairs = c.take_row.ensures.pairs ∙ ap (λ k. with_value k None c.self.inside.rows.pairs) c.values.ensures in
-    contents-taken c.self.inside.def c.self.inside.rows c.take_row.new.self c.self.inside.live c.self.inside.indexes.items c.self.invariant.0 c.args.key.now e ∙ ap (λ (s : State). without_row c.args.key.now s.contents) c.self.view_is
+    contents-taken c.self.inside.def c.self.inside.lists.items c.self.inside.rows c.take_row.new.self c.self.inside.live c.self.inside.indexes.items c.self.invariant.0 c.args.key.now e ∙ ap (λ (s : State). without_row c.args.key.now s.contents) c.self.view_is
 
 pub returns-in_err-row-clause-none : goal.returns-in_err-row-clause-none
 returns-in_err-row-clause-none g c =
     let e : c.take_row.new.self.pairs ≡ with_value c.args.key.now None c.self.inside.rows.pairs = c.take_row.ensures.pairs ∙ ap (λ k. with_value k None c.self.inside.rows.pairs) c.values.ensures in
     let none : row_of c.args.key.now c.self.inside.rows.pairs ≡ None = ap (λ k. row_of k c.self.inside.rows.pairs) (sym c.values.ensures) ∙ sym c.in_err-row.ensures.row in
     let same : c.take_row.new.self.pairs ≡ c.self.inside.rows.pairs = e ∙ with_value-none c.args.key.now c.self.inside.rows.pairs c.self.invariant.0.order none in
-    if_none c.from_residual.result (state_of c.self.inside.def c.take_row.new.self c.self.inside.indexes.items ≡ c.args.self.now) (state-same c.self.inside.def c.self.inside.rows c.take_row.new.self c.self.inside.indexes.items c.self.inside.indexes.items same refl ∙ c.self.view_is)
+    if_none c.from_residual.result (state_of c.self.inside.def c.self.inside.lists.items c.take_row.new.self c.self.inside.indexes.items ≡ c.args.self.now) (state-same c.self.inside.def c.self.inside.lists.items c.self.inside.rows c.take_row.new.self c.self.inside.indexes.items c.self.inside.indexes.items same refl ∙ c.self.view_is)
 
 pub returns-in_err-row-clause-keeps : goal.returns-in_err-row-clause-keeps
 returns-in_err-row-clause-keeps g c =
     let e : c.take_row.new.self.pairs ≡ with_value c.args.key.now None c.self.inside.rows.pairs = c.take_row.ensures.pairs ∙ ap (λ k. with_value k None c.self.inside.rows.pairs) c.values.ensures in
     let none : row_of c.args.key.now c.self.inside.rows.pairs ≡ None = ap (λ k. row_of k c.self.inside.rows.pairs) (sym c.values.ensures) ∙ sym c.in_err-row.ensures.row in
     let same : c.take_row.new.self.pairs ≡ c.self.inside.rows.pairs = e ∙ with_value-none c.args.key.now c.self.inside.rows.pairs c.self.invariant.0.order none in
-    keeps-same c.args.self.now (state_of c.self.inside.def c.take_row.new.self c.self.inside.indexes.items) (state-same c.self.inside.def c.self.inside.rows c.take_row.new.self c.self.inside.indexes.items c.self.inside.indexes.items same refl ∙ c.self.view_is)
+    keeps-same c.args.self.now (state_of c.self.inside.def c.self.inside.lists.items c.take_row.new.self c.self.inside.indexes.items) (state-same c.self.inside.def c.self.inside.lists.items c.self.inside.rows c.take_row.new.self c.self.inside.indexes.items c.self.inside.indexes.items same refl ∙ c.self.view_is)
 
 pub overflow_sub-self : goal.overflow_sub-self
 overflow_sub-self g c =
     let e : c.take_row.new.self.pairs ≡ with_value c.args.key.now None c.self.inside.rows.pairs = c.take_row.ensures.pairs ∙ ap (λ k. with_value k None c.self.inside.rows.pairs) c.values.ensures in
     let some : row_of c.args.key.now c.self.inside.rows.pairs ≡ Some c.in_ok-row.row = ap (λ k. row_of k c.self.inside.rows.pairs) (sym c.values.ensures) ∙ sym c.in_ok-row.ensures.row in
-    some_live c.self.inside.def c.self.inside.rows c.self.inside.live c.self.inside.indexes.items c.self.invariant.0 c.args.key.now c.in_ok-row.row c.take_row.new.self some e c.take_row.ensures.ordered
+    some_live c.self.inside.def c.self.inside.lists.items c.self.inside.rows c.self.inside.live c.self.inside.indexes.items c.self.invariant.0 c.args.key.now c.in_ok-row.row c.take_row.new.self some e c.take_row.ensures.ordered
 
 pub invariant_of-self-2 : goal.invariant_of-self-2
 invariant_of-self-2 g c =
     let e : c.take_row.new.self.pairs ≡ with_value c.args.key.now None c.self.inside.rows.pairs = c.take_row.ensures.pairs ∙ ap (λ k. with_value k None c.self.inside.rows.pairs) c.values.ensures in
     let some : row_of c.args.key.now c.self.inside.rows.pairs ≡ Some c.in_ok-row.row = ap (λ k. row_of k c.self.inside.rows.pairs) (sym c.values.ensures) ∙ sym c.in_ok-row.ensures.row in (
-      held-hidden c.self.inside.def c.self.inside.rows c.self.inside.live c.self.inside.indexes.items c.self.invariant.0 c.args.key.now c.in_ok-row.row c.take_row.new.self some e c.take_row.ensures.ordered,
-      counted-hidden c.self.inside.def c.self.inside.rows c.self.inside.live c.self.inside.indexes.items c.self.invariant.0 c.args.key.now c.in_ok-row.row c.take_row.new.self some e c.take_row.ensures.ordered
+      held-hidden c.self.inside.def c.self.inside.lists.items c.self.inside.rows c.self.inside.live c.self.inside.indexes.items c.self.invariant.0 c.args.key.now c.in_ok-row.row c.take_row.new.self some e c.take_row.ensures.ordered,
+      counted-hidden c.self.inside.def c.self.inside.lists.items c.self.inside.rows c.self.inside.live c.self.inside.indexes.items c.self.invariant.0 c.args.key.now c.in_ok-row.row c.take_row.new.self some e c.take_row.ensures.ordered
           c.self.inside.left c.saturating_add-self-inside.result (λ l. omega (arith, l, c.saturating_add-self-inside.ensures)) c.self.invariant.1,
     )
 
 pub returns-clause-row : goal.returns-clause-row
 returns-clause-row g c =
     let some : row_of c.args.key.now c.self.inside.rows.pairs ≡ Some c.in_ok-row.row = ap (λ k. row_of k c.self.inside.rows.pairs) (sym c.values.ensures) ∙ sym c.in_ok-row.ensures.row in
-    sym some ∙ held-find c.self.inside.def c.self.inside.rows c.self.inside.live c.self.inside.indexes.items c.self.invariant.0 c.args.key.now ∙ ap (λ (s : State). keyed s.contents c.args.key.now) c.self.view_is
+    sym some ∙ held-find c.self.inside.def c.self.inside.lists.items c.self.inside.rows c.self.inside.live c.self.inside.indexes.items c.self.invariant.0 c.args.key.now ∙ ap (λ (s : State). keyed s.contents c.args.key.now) c.self.view_is
 
 pub returns-clause-fits : goal.returns-clause-fits
 returns-clause-fits g c =
     let some : row_of c.args.key.now c.self.inside.rows.pairs ≡ Some c.in_ok-row.row = ap (λ k. row_of k c.self.inside.rows.pairs) (sym c.values.ensures) ∙ sym c.in_ok-row.ensures.row in
-    subst (λ d. IsRow d c.in_ok-row.row) (ap (λ (s : State). s.contents.def) c.self.view_is) (its_row c.self.inside.def c.self.inside.rows c.self.inside.live c.self.inside.indexes.items c.self.invariant.0 c.args.key.now c.in_ok-row.row some)
+    subst (λ d. IsRow d c.in_ok-row.row) (ap (λ (s : State). s.contents.def) c.self.view_is) (its_row c.self.inside.def c.self.inside.lists.items c.self.inside.rows c.self.inside.live c.self.inside.indexes.items c.self.invariant.0 c.args.key.now c.in_ok-row.row some)
 
 pub returns-clause-rows : goal.returns-clause-rows
 returns-clause-rows g c =
     let e : c.take_row.new.self.pairs ≡ with_value c.args.key.now None c.self.inside.rows.pairs = c.take_row.ensures.pairs ∙ ap (λ k. with_value k None c.self.inside.rows.pairs) c.values.ensures in
     let some : row_of c.args.key.now c.self.inside.rows.pairs ≡ Some c.in_ok-row.row = ap (λ k. row_of k c.self.inside.rows.pairs) (sym c.values.ensures) ∙ sym c.in_ok-row.ensures.row in
-    contents-hidden c.self.inside.def c.self.inside.rows c.self.inside.live c.self.inside.indexes.items c.self.invariant.0 c.args.key.now c.in_ok-row.row c.take_row.new.self some e c.take_row.ensures.ordered ∙ ap (λ (s : State). without_row c.args.key.now s.contents) c.self.view_is
+    contents-hidden c.self.inside.def c.self.inside.lists.items c.self.inside.rows c.self.inside.live c.self.inside.indexes.items c.self.invariant.0 c.args.key.now c.in_ok-row.row c.take_row.new.self some e c.take_row.ensures.ordered ∙ ap (λ (s : State). without_row c.args.key.now s.contents) c.self.view_is
 
 pub returns-clause-kept : goal.returns-clause-kept
 returns-clause-kept g c =
     let e : c.take_row.new.self.pairs ≡ with_value c.args.key.now None c.self.inside.rows.pairs = c.take_row.ensures.pairs ∙ ap (λ k. with_value k None c.self.inside.rows.pairs) c.values.ensures in
     let some : row_of c.args.key.now c.self.inside.rows.pairs ≡ Some c.in_ok-row.row = ap (λ k. row_of k c.self.inside.rows.pairs) (sym c.values.ensures) ∙ sym c.in_ok-row.ensures.row in
-    kept-hidden c.self.inside.def c.self.inside.rows c.self.inside.live c.self.inside.indexes.items c.self.invariant.0 c.args.key.now c.in_ok-row.row c.take_row.new.self some e c.take_row.ensures.ordered
+    kept-hidden c.self.inside.def c.self.inside.lists.items c.self.inside.rows c.self.inside.live c.self.inside.indexes.items c.self.invariant.0 c.args.key.now c.in_ok-row.row c.take_row.new.self some e c.take_row.ensures.ordered
 
 pub returns-clause-keeps : goal.returns-clause-keeps
 returns-clause-keeps g c =
     let e : c.take_row.new.self.pairs ≡ with_value c.args.key.now None c.self.inside.rows.pairs = c.take_row.ensures.pairs ∙ ap (λ k. with_value k None c.self.inside.rows.pairs) c.values.ensures in
     let some : row_of c.args.key.now c.self.inside.rows.pairs ≡ Some c.in_ok-row.row = ap (λ k. row_of k c.self.inside.rows.pairs) (sym c.values.ensures) ∙ sym c.in_ok-row.ensures.row in
-    subst (λ s. StillKeeps s (state_of c.self.inside.def c.take_row.new.self c.self.inside.indexes.items)) c.self.view_is (keeps-hidden c.self.inside.def c.self.inside.rows c.self.inside.live c.self.inside.indexes.items c.self.invariant.0 c.args.key.now c.in_ok-row.row c.take_row.new.self some e c.take_row.ensures.ordered)
+    subst (λ s. StillKeeps s (state_of c.self.inside.def c.self.inside.lists.items c.take_row.new.self c.self.inside.indexes.items)) c.self.view_is (keeps-hidden c.self.inside.def c.self.inside.lists.items c.self.inside.rows c.self.inside.live c.self.inside.indexes.items c.self.invariant.0 c.args.key.now c.in_ok-row.row c.take_row.new.self some e c.take_row.ensures.ordered)

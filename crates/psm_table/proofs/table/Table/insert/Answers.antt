@@ -30,7 +30,7 @@ insert_again-requires-clause-absent g c =
     let val : Some c.in-Some.held.now ≡ value_of (values_at c.self.inside.def.key c.args.row) c.self.inside.rows.pairs =
     c.in-Some.ensures ∙ ap (λ (r : List Datum). value_of (values_at c.items.result.now r) c.self.inside.rows.pairs) c.values.ensures ∙ ap (λ (k : List ℕ). value_of (values_at k c.args.row) c.self.inside.rows.pairs) c.items.ensures in
     let none : c.in-Some.held.now ≡ None = no_value c.in-Some.held.now (sym c.is_some.ensures ∙ c.if-is_some.false) in
-    subst (λ (s : State). namesake s.contents c.args.row ≡ None) c.self.view_is (sym (held-find c.self.inside.def c.self.inside.rows c.self.inside.live c.self.inside.indexes.items c.self.invariant.0 (values_at c.self.inside.def.key c.args.row)) ∙ ap the_row (sym val) ∙ none)
+    subst (λ (s : State). namesake s.contents c.args.row ≡ None) c.self.view_is (sym (held-find c.self.inside.def c.self.inside.lists.items c.self.inside.rows c.self.inside.live c.self.inside.indexes.items c.self.invariant.0 (values_at c.self.inside.def.key c.args.row)) ∙ ap the_row (sym val) ∙ none)
 
 pub returns-then-is_some-clause-answer : goal.returns-then-is_some-clause-answer
 returns-then-is_some-clause-answer g c =
@@ -39,7 +39,7 @@ returns-then-is_some-clause-answer g c =
     let found : IsSome c.in-Some.held.now = some_from c.in-Some.held.now (sym c.is_some.ensures ∙ c.if-is_some.true) in (
       omega (arith, c.if-self-eq-MOST_ROWS.false, c.self.invariant.0.count, c.self.invariant.0.table.bound, ap (λ (s : State). length s.contents.rows) c.self.view_is),
       subst (λ (s : State). IsSome (namesake s.contents c.args.row)) c.self.view_is
-          (subst IsSome (ap the_row val ∙ held-find c.self.inside.def c.self.inside.rows c.self.inside.live c.self.inside.indexes.items c.self.invariant.0 (values_at c.self.inside.def.key c.args.row)) found),
+          (subst IsSome (ap the_row val ∙ held-find c.self.inside.def c.self.inside.lists.items c.self.inside.rows c.self.inside.live c.self.inside.indexes.items c.self.invariant.0 (values_at c.self.inside.def.key c.args.row)) found),
       refl,
       refl,
     )

@@ -14,11 +14,11 @@ pub returns-clause-row : goal.returns-clause-row
 returns-clause-row c =
     c.row_at.ensures
     ∙ ap (λ k. row_of (values_at k c.values.result.now) c.self.inside.rows.pairs) c.items.ensures ∙ ap (λ (r : List Datum). row_of (values_at c.self.inside.def.key r) c.self.inside.rows.pairs) c.values.ensures
-    ∙ held-find c.self.inside.def c.self.inside.rows c.self.inside.live c.self.inside.indexes.items c.self.invariant.0 (values_at c.self.inside.def.key c.args.row.now) ∙ ap (λ (s : State). namesake s.contents c.args.row.now) c.self.view_is
+    ∙ held-find c.self.inside.def c.self.inside.lists.items c.self.inside.rows c.self.inside.live c.self.inside.indexes.items c.self.invariant.0 (values_at c.self.inside.def.key c.args.row.now) ∙ ap (λ (s : State). namesake s.contents c.args.row.now) c.self.view_is
 
 pub returns-clause-fits : goal.returns-clause-fits
 returns-clause-fits c =
     subst (λ d. IfSome c.row_at.result (λ x. IsRow d x.now)) (ap (λ (s : State). s.contents.def) c.self.view_is)
-    (found_fits c.self.inside.def c.self.inside.rows c.self.inside.live c.self.inside.indexes.items c.self.invariant.0 (values_at c.self.inside.def.key c.args.row.now) c.row_at.result
+    (found_fits c.self.inside.def c.self.inside.lists.items c.self.inside.rows c.self.inside.live c.self.inside.indexes.items c.self.invariant.0 (values_at c.self.inside.def.key c.args.row.now) c.row_at.result
     (c.row_at.ensures
     ∙ ap (λ k. row_of (values_at k c.values.result.now) c.self.inside.rows.pairs) c.items.ensures ∙ ap (λ (r : List Datum). row_of (values_at c.self.inside.def.key r) c.self.inside.rows.pairs) c.values.ensures))

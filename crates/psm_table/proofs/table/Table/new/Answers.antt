@@ -1,4 +1,4 @@
-use Rattle.std.proofs.Common.{length, length-append, List, [], ◌∷◌, ◌≤◌, ap, sym, subst, arith}
+use Rattle.std.proofs.Common.{length, length-append, List, [], ◌∷◌, ◌≤◌, ap, sym, subst, ◌∙◌, arith}
 use Rattle.std.specs.Prelude.{All}
 use Rattle.psm_table.specs.Held.{entries_of}
 use Rattle.psm_table.proofs.Counts.{Key, Sets, counted-new, empty-pushed, tidy-new}
@@ -7,9 +7,10 @@ use Rattle.psm_table.proofs.table.Table.new.Goals as goal
 
 pub invariant_of-result : goal.invariant_of-result
 invariant_of-result c = (
-  held-new c.args.def c.new-2.result c.loop.indexes.items c.requires c.new-2.ensures.pairs
+  held-new c.args.def c.into_vec-lists.result.items c.new-2.result c.loop.indexes.items c.requires c.new-2.ensures.pairs
+      (c.into_vec-lists.ensures ∙ c.in_ok-copied_lists.ensures ∙ c.items-2.ensures)
       (omega (arith, c.loop.invariant.0, c.loop-test.false, c.loop.auto.index-end, ap length c.items-items.ensures)),
-  counted-new c.args.def c.new-2.result c.loop.indexes.items c.new-2.ensures.pairs c.loop.invariant.1,
+  counted-new c.args.def c.into_vec-lists.result.items c.new-2.result c.loop.indexes.items c.new-2.ensures.pairs c.loop.invariant.1,
 )
 
 pub loop-preserved : goal.loop-preserved
@@ -19,4 +20,4 @@ loop-preserved c = (
 )
 
 pub returns-clause-tidy : goal.returns-clause-tidy
-returns-clause-tidy c = tidy-new c.args.def c.new-2.result c.loop.indexes.items c.new-2.ensures.pairs c.loop.invariant.1
+returns-clause-tidy c = tidy-new c.args.def c.into_vec-lists.result.items c.new-2.result c.loop.indexes.items c.new-2.ensures.pairs c.loop.invariant.1

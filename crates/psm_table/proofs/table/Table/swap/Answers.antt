@@ -24,7 +24,7 @@ returns-in_default-clause-answer g c =
     sym (c.in_default.ensures.row ∙ ap (λ (r : List Datum). is_some (row_of (values_at c.items.result.now r) c.self.inside.rows.pairs)) c.values.ensures
     ∙ ap (λ (k : List ℕ). is_some (row_of (values_at k c.args.row) c.self.inside.rows.pairs)) c.items.ensures) in (
       subst (λ (s : State). namesake s.contents c.args.row ≡ None) c.self.view_is
-          (sym (held-find c.self.inside.def c.self.inside.rows c.self.inside.live c.self.inside.indexes.items c.self.invariant.0 (values_at c.self.inside.def.key c.args.row))
+          (sym (held-find c.self.inside.def c.self.inside.lists.items c.self.inside.rows c.self.inside.live c.self.inside.indexes.items c.self.invariant.0 (values_at c.self.inside.def.key c.args.row))
           ∙ no_value (row_of (values_at c.self.inside.def.key c.args.row) c.self.inside.rows.pairs) none),
       refl,
       refl,
@@ -32,7 +32,7 @@ returns-in_default-clause-answer g c =
 
 pub returns-in_err-enter-clause-keeps : goal.returns-in_err-enter-clause-keeps
 returns-in_err-enter-clause-keeps g c =
-    keeps-same c.args.self.now (state_of c.self.inside.def c.self.inside.rows c.enter.new.indexes.items) (state-same c.self.inside.def c.self.inside.rows c.self.inside.rows c.self.inside.indexes.items c.enter.new.indexes.items refl c.in_err-enter.ensures.refused ∙ c.self.view_is)
+    keeps-same c.args.self.now (state_of c.self.inside.def c.self.inside.lists.items c.self.inside.rows c.enter.new.indexes.items) (state-same c.self.inside.def c.self.inside.lists.items c.self.inside.rows c.self.inside.rows c.self.inside.indexes.items c.enter.new.indexes.items refl c.in_err-enter.ensures.refused ∙ c.self.view_is)
 
 pub invariant_of-self-in-Some-replace_at : goal.invariant_of-self-in-Some-replace_at
 invariant_of-self-in-Some-replace_at g c =
@@ -41,9 +41,9 @@ invariant_of-self-in-Some-replace_at g c =
     let some : row_of (values_at c.self.inside.def.key c.args.row) c.self.inside.rows.pairs ≡ Some c.in-Some-replace_at.was = sym (c.in-Some-replace_at.ensures.row (values_at c.self.inside.def.key c.args.row) stands) in
     let place : IsSome (value_of (values_at c.self.inside.def.key c.args.row) c.self.inside.rows.pairs) = has_place (value_of (values_at c.self.inside.def.key c.args.row) c.self.inside.rows.pairs) c.in-Some-replace_at.was some in
     let e : c.replace_at.new.self.pairs ≡ with_value (values_at c.self.inside.def.key c.args.row) (Some c.args.row) c.self.inside.rows.pairs = c.replace_at.ensures.pairs (values_at c.self.inside.def.key c.args.row) stands in
-    let entered : IsEntered c.self.inside.def (entries_of c.enter.new.indexes.items) c.args.row = subst (λ (r : List Datum). IsEntered c.self.inside.def (entries_of c.enter.new.indexes.items) r) c.values-2.ensures c.in_ok-enter.ensures.entered in (
-      held-over c.self.inside.def c.self.inside.rows c.self.inside.live c.self.inside.indexes.items c.self.invariant.0 c.args.row c.replace_at.new.self c.enter.new.indexes.items fits place e c.enter.ensures.lists c.enter.ensures.grow entered c.replace_at.ensures.ordered c.in-Some-replace_at.was some,
-      counted-over c.self.inside.def c.self.inside.rows c.self.inside.live c.self.inside.indexes.items c.self.invariant.0 c.args.row c.replace_at.new.self c.enter.new.indexes.items fits place e c.enter.ensures.lists c.enter.ensures.grow entered c.replace_at.ensures.ordered c.in-Some-replace_at.was some c.enter.ensures.one c.self.inside.left c.saturating_add-self-inside.result (λ l. omega (arith, l, c.saturating_add-self-inside.ensures)) c.self.invariant.1,
+    let entered : IsEntered c.self.inside.def c.self.inside.lists.items (entries_of c.enter.new.indexes.items) c.args.row = subst (λ (r : List Datum). IsEntered c.self.inside.def c.self.inside.lists.items (entries_of c.enter.new.indexes.items) r) c.values-2.ensures (subst (λ (ls : List (List ℕ)). IsEntered c.self.inside.def ls (entries_of c.enter.new.indexes.items) c.values-2.result.now) c.as_slice.ensures.value c.in_ok-enter.ensures.entered) in (
+      held-over c.self.inside.def c.self.inside.lists.items c.self.inside.rows c.self.inside.live c.self.inside.indexes.items c.self.invariant.0 c.args.row c.replace_at.new.self c.enter.new.indexes.items fits place e c.enter.ensures.lists c.enter.ensures.grow entered c.replace_at.ensures.ordered c.in-Some-replace_at.was some,
+      counted-over c.self.inside.def c.self.inside.lists.items c.self.inside.rows c.self.inside.live c.self.inside.indexes.items c.self.invariant.0 c.args.row c.replace_at.new.self c.enter.new.indexes.items fits place e c.enter.ensures.lists c.enter.ensures.grow entered c.replace_at.ensures.ordered c.in-Some-replace_at.was some c.enter.ensures.one c.self.inside.left c.saturating_add-self-inside.result (λ l. omega (arith, l, c.saturating_add-self-inside.ensures)) c.self.invariant.1,
     )
 
 pub invariant_of-self-in-None : goal.invariant_of-self-in-None
@@ -62,9 +62,9 @@ returns-in-Some-replace_at-clause-answer g c =
     let some : row_of (values_at c.self.inside.def.key c.args.row) c.self.inside.rows.pairs ≡ Some c.in-Some-replace_at.was = sym (c.in-Some-replace_at.ensures.row (values_at c.self.inside.def.key c.args.row) stands) in
     let place : IsSome (value_of (values_at c.self.inside.def.key c.args.row) c.self.inside.rows.pairs) = has_place (value_of (values_at c.self.inside.def.key c.args.row) c.self.inside.rows.pairs) c.in-Some-replace_at.was some in
     let e : c.replace_at.new.self.pairs ≡ with_value (values_at c.self.inside.def.key c.args.row) (Some c.args.row) c.self.inside.rows.pairs = c.replace_at.ensures.pairs (values_at c.self.inside.def.key c.args.row) stands in
-    let entered : IsEntered c.self.inside.def (entries_of c.enter.new.indexes.items) c.args.row = subst (λ (r : List Datum). IsEntered c.self.inside.def (entries_of c.enter.new.indexes.items) r) c.values-2.ensures c.in_ok-enter.ensures.entered in (
-      subst (λ (s : State). namesake s.contents c.args.row ≡ Some c.in-Some-replace_at.was) c.self.view_is (sym (held-find c.self.inside.def c.self.inside.rows c.self.inside.live c.self.inside.indexes.items c.self.invariant.0 (values_at c.self.inside.def.key c.args.row)) ∙ some),
-      contents-put c.self.inside.def c.self.inside.rows c.self.inside.live c.self.inside.indexes.items c.self.invariant.0 c.args.row c.replace_at.new.self c.enter.new.indexes.items fits place e c.enter.ensures.lists c.enter.ensures.grow entered c.replace_at.ensures.ordered ∙ ap (λ (s : State). with_row s.contents c.args.row) c.self.view_is,
+    let entered : IsEntered c.self.inside.def c.self.inside.lists.items (entries_of c.enter.new.indexes.items) c.args.row = subst (λ (r : List Datum). IsEntered c.self.inside.def c.self.inside.lists.items (entries_of c.enter.new.indexes.items) r) c.values-2.ensures (subst (λ (ls : List (List ℕ)). IsEntered c.self.inside.def ls (entries_of c.enter.new.indexes.items) c.values-2.result.now) c.as_slice.ensures.value c.in_ok-enter.ensures.entered) in (
+      subst (λ (s : State). namesake s.contents c.args.row ≡ Some c.in-Some-replace_at.was) c.self.view_is (sym (held-find c.self.inside.def c.self.inside.lists.items c.self.inside.rows c.self.inside.live c.self.inside.indexes.items c.self.invariant.0 (values_at c.self.inside.def.key c.args.row)) ∙ some),
+      contents-put c.self.inside.def c.self.inside.lists.items c.self.inside.rows c.self.inside.live c.self.inside.indexes.items c.self.invariant.0 c.args.row c.replace_at.new.self c.enter.new.indexes.items fits place e c.enter.ensures.lists c.enter.ensures.grow entered c.replace_at.ensures.ordered ∙ ap (λ (s : State). with_row s.contents c.args.row) c.self.view_is,
       c.tick.ensures,
     )
 
@@ -72,7 +72,7 @@ pub returns-in-Some-replace_at-clause-fits : goal.returns-in-Some-replace_at-cla
 returns-in-Some-replace_at-clause-fits g c =
     let stands = stands_by c.items.result.now c.self.inside.def.key c.values.result.now c.args.row c.self.inside.rows.runs c.in-Some.position c.items.ensures c.values.ensures c.in-Some.ensures.at in
     let some : row_of (values_at c.self.inside.def.key c.args.row) c.self.inside.rows.pairs ≡ Some c.in-Some-replace_at.was = sym (c.in-Some-replace_at.ensures.row (values_at c.self.inside.def.key c.args.row) stands) in
-    subst (λ d. IsRow d c.in-Some-replace_at.was) (ap (λ (s : State). s.contents.def) c.self.view_is) (its_row c.self.inside.def c.self.inside.rows c.self.inside.live c.self.inside.indexes.items c.self.invariant.0 (values_at c.self.inside.def.key c.args.row) c.in-Some-replace_at.was some)
+    subst (λ d. IsRow d c.in-Some-replace_at.was) (ap (λ (s : State). s.contents.def) c.self.view_is) (its_row c.self.inside.def c.self.inside.lists.items c.self.inside.rows c.self.inside.live c.self.inside.indexes.items c.self.invariant.0 (values_at c.self.inside.def.key c.args.row) c.in-Some-replace_at.was some)
 
 pub returns-in-Some-replace_at-clause-kept : goal.returns-in-Some-replace_at-clause-kept
 returns-in-Some-replace_at-clause-kept g c =
@@ -81,8 +81,8 @@ returns-in-Some-replace_at-clause-kept g c =
     let some : row_of (values_at c.self.inside.def.key c.args.row) c.self.inside.rows.pairs ≡ Some c.in-Some-replace_at.was = sym (c.in-Some-replace_at.ensures.row (values_at c.self.inside.def.key c.args.row) stands) in
     let place : IsSome (value_of (values_at c.self.inside.def.key c.args.row) c.self.inside.rows.pairs) = has_place (value_of (values_at c.self.inside.def.key c.args.row) c.self.inside.rows.pairs) c.in-Some-replace_at.was some in
     let e : c.replace_at.new.self.pairs ≡ with_value (values_at c.self.inside.def.key c.args.row) (Some c.args.row) c.self.inside.rows.pairs = c.replace_at.ensures.pairs (values_at c.self.inside.def.key c.args.row) stands in
-    let entered : IsEntered c.self.inside.def (entries_of c.enter.new.indexes.items) c.args.row = subst (λ (r : List Datum). IsEntered c.self.inside.def (entries_of c.enter.new.indexes.items) r) c.values-2.ensures c.in_ok-enter.ensures.entered in
-    kept-over c.self.inside.def c.self.inside.rows c.self.inside.live c.self.inside.indexes.items c.self.invariant.0 c.args.row c.replace_at.new.self c.enter.new.indexes.items fits place e c.enter.ensures.lists c.enter.ensures.grow entered c.replace_at.ensures.ordered c.in-Some-replace_at.was some
+    let entered : IsEntered c.self.inside.def c.self.inside.lists.items (entries_of c.enter.new.indexes.items) c.args.row = subst (λ (r : List Datum). IsEntered c.self.inside.def c.self.inside.lists.items (entries_of c.enter.new.indexes.items) r) c.values-2.ensures (subst (λ (ls : List (List ℕ)). IsEntered c.self.inside.def ls (entries_of c.enter.new.indexes.items) c.values-2.result.now) c.as_slice.ensures.value c.in_ok-enter.ensures.entered) in
+    kept-over c.self.inside.def c.self.inside.lists.items c.self.inside.rows c.self.inside.live c.self.inside.indexes.items c.self.invariant.0 c.args.row c.replace_at.new.self c.enter.new.indexes.items fits place e c.enter.ensures.lists c.enter.ensures.grow entered c.replace_at.ensures.ordered c.in-Some-replace_at.was some
 
 pub returns-in-Some-replace_at-clause-keeps : goal.returns-in-Some-replace_at-clause-keeps
 returns-in-Some-replace_at-clause-keeps g c =
@@ -91,8 +91,8 @@ returns-in-Some-replace_at-clause-keeps g c =
     let some : row_of (values_at c.self.inside.def.key c.args.row) c.self.inside.rows.pairs ≡ Some c.in-Some-replace_at.was = sym (c.in-Some-replace_at.ensures.row (values_at c.self.inside.def.key c.args.row) stands) in
     let place : IsSome (value_of (values_at c.self.inside.def.key c.args.row) c.self.inside.rows.pairs) = has_place (value_of (values_at c.self.inside.def.key c.args.row) c.self.inside.rows.pairs) c.in-Some-replace_at.was some in
     let e : c.replace_at.new.self.pairs ≡ with_value (values_at c.self.inside.def.key c.args.row) (Some c.args.row) c.self.inside.rows.pairs = c.replace_at.ensures.pairs (values_at c.self.inside.def.key c.args.row) stands in
-    let entered : IsEntered c.self.inside.def (entries_of c.enter.new.indexes.items) c.args.row = subst (λ (r : List Datum). IsEntered c.self.inside.def (entries_of c.enter.new.indexes.items) r) c.values-2.ensures c.in_ok-enter.ensures.entered in
-    subst (λ s. StillKeeps s (state_of c.self.inside.def c.replace_at.new.self c.enter.new.indexes.items)) c.self.view_is (keeps-put c.self.inside.def c.self.inside.rows c.self.inside.live c.self.inside.indexes.items c.self.invariant.0 c.args.row c.replace_at.new.self c.enter.new.indexes.items fits place e c.enter.ensures.lists c.enter.ensures.grow entered c.replace_at.ensures.ordered)
+    let entered : IsEntered c.self.inside.def c.self.inside.lists.items (entries_of c.enter.new.indexes.items) c.args.row = subst (λ (r : List Datum). IsEntered c.self.inside.def c.self.inside.lists.items (entries_of c.enter.new.indexes.items) r) c.values-2.ensures (subst (λ (ls : List (List ℕ)). IsEntered c.self.inside.def ls (entries_of c.enter.new.indexes.items) c.values-2.result.now) c.as_slice.ensures.value c.in_ok-enter.ensures.entered) in
+    subst (λ s. StillKeeps s (state_of c.self.inside.def c.self.inside.lists.items c.replace_at.new.self c.enter.new.indexes.items)) c.self.view_is (keeps-put c.self.inside.def c.self.inside.lists.items c.self.inside.rows c.self.inside.live c.self.inside.indexes.items c.self.invariant.0 c.args.row c.replace_at.new.self c.enter.new.indexes.items fits place e c.enter.ensures.lists c.enter.ensures.grow entered c.replace_at.ensures.ordered)
 
 pub returns-in-None-clause-answer : goal.returns-in-None-clause-answer
 returns-in-None-clause-answer g c =

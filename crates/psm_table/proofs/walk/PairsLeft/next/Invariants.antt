@@ -1,4 +1,4 @@
-use Rattle.std.proofs.Common.{◌≡◌, length}
+use Rattle.std.proofs.Common.{◌≡◌, ◌+◌, length}
 use Rattle.psm_table.specs.Left.{left_of}
 use Rattle.psm_table.proofs.walk.PairsLeft.next.Given as goal
 
@@ -6,4 +6,4 @@ abbrev pub invariant-runs : goal.invariant-runs
 invariant-runs l = left_of l.self ≡ left_of l.initial.self
 
 abbrev pub decreases-runs : goal.decreases-runs
-decreases-runs l = length l.self.runs.now
+decreases-runs l = length l.self.runs.now + length l.self.last.now

@@ -1,0 +1,203 @@
+-- What a test asks of the columns of a key, column by column and line by line.
+use Rattle.std.proofs.Common.{◌≡◌, ℕ, ◌+◌, ◌-◌, ◌<◌, ◌≤◌, Bool, true, false, List, [], ◌∷◌, ◌++◌, length, drop, get_or, append_assoc, refl, ap, sym, subst, ◌∙◌, arith, Option, Some, None, Result, Ok, Err}
+use Rattle.std.specs.Prelude.{nat_eq, option_map, suc, IfOk, IfSome, if◌then◌else◌}
+use Rattle.std.specs.Option.{option_or}
+use Rattle.std.proofs.Math.Seq.{drop-length}
+use Rattle.std.proofs.lemmas.List.{append-nil}
+use Rattle.psm_value.specs.declared.datum.Datum.{Datum}
+use Rattle.psm_exprcode.specs.declared.op.Line.{Line}
+use Rattle.psm_tablecode.specs.declared.asking.Aim.{Aim}
+use Rattle.psm_tablecode.specs.declared.asking.Aim.TheVariants.{Value}
+use Rattle.psm_tablecode.specs.declared.asking.Found.{Found}
+use Rattle.psm_tablecode.specs.declared.walking.Walk.{Walk}
+use Rattle.psm_tablecode.specs.Aims.{is_of_two, made_for, maker, of_four, of_three, seen, width}
+use Rattle.psm_tablecode.specs.Asked.{each_sought, key_asked, walk_by, with_first}
+use Rattle.psm_tablecode.specs.Bounds.{bounds_asked, bounds_by, bounds_of, bounds_with, end_of, high_sought, low_sought, of_range, Bounds, End}
+use Rattle.psm_tablecode.specs.Tests.{are_quiet, first_four, first_three, fixed, free, is_column, is_equality, made, made_equal, sought}
+use Rattle.psm_tablecode.proofs.Collecting.{first_of}
+use Rattle.psm_tablecode.proofs.Windows as windows
+
+-- ---- what is looked for
+
+module _ (aim : Aim) (c : ℕ) (vars : List Datum) where
+  wide_by : (b : Bool) → 1 ≤ (if b then 4 else 3)
+  wide_by true = omega arith
+  wide_by false = omega arith
+
+  short_three : (ls : List Line) → length ls < 3 → first_three (of_three aim c vars) ls ≡ None
+  short_three [] h = refl
+  short_three (a ∷ []) h = refl
+  short_three (a ∷ b ∷ []) h = refl
+  short_three (a ∷ b ∷ e ∷ ls) h = absurd (omega (arith, h))
+
+  short_four : (ls : List Line) → length ls < 4 → first_four (of_four aim c vars) ls ≡ None
+  short_four [] h = refl
+  short_four (o ∷ []) h = refl
+  short_four (o ∷ a ∷ []) h = refl
+  short_four (o ∷ a ∷ b ∷ []) h = refl
+  short_four (o ∷ a ∷ b ∷ e ∷ ls) h = absurd (omega (arith, h))
+
+  short_by : (t : Bool) (ls : List Line) → length ls < (if t then 4 else 3) → (if t then first_four (of_four aim c vars) ls else first_three (of_three aim c vars) ls) ≡ None
+  short_by true ls h = short_four ls h
+  short_by false ls h = short_three ls h
+
+  module _ (lines : List Line) where
+    abbrev pub made_from : ℕ → Option End
+    made_from at = made (width aim) (maker aim c vars) (drop (at + 1 - width aim) lines)
+
+    pub made_end : (at : ℕ) → at ≡ length lines → None ≡ made_from at
+    made_end at e = windows.made_last (width aim) (maker aim c vars) (wide_by (is_of_two aim)) (short_by (is_of_two aim)) lines at e
+
+    pub made_start : (at : ℕ) → at < width aim → made_from at ≡ made_for aim c vars lines
+    made_start at h = windows.made_first (width aim) (maker aim c vars) (wide_by (is_of_two aim)) (short_by (is_of_two aim)) lines at h
+
+    pub made_back : (at n : ℕ) (found now : Option End) → width aim ≤ at → at ≤ length lines → n ≡ free (drop at lines) → found ≡ made_from at
+        → now ≡ option_or (if nat_eq n 0 then maker aim c vars (drop (at - width aim) lines) else None) found → now ≡ made_from (at - 1)
+    made_back at n found now h b f g e = windows.made_before (width aim) (maker aim c vars) (wide_by (is_of_two aim)) (short_by (is_of_two aim)) lines at n found now h b f g e
+
+-- ---- a value to which a column is made equal
+
+abbrev value_at : Option End → Option Datum
+value_at o = option_map (λ e. e.value) o
+
+equal_by : (i j k : Bool) (a b : Option Datum)
+    → (if k then (if i then b else if j then a else None) else None) ≡ value_at (if i then end_of (if k then Some true else None) b else if j then end_of (if k then Some true else None) a else None)
+equal_by true j true a None = refl
+equal_by true j true a (Some d) = refl
+equal_by true j false a b = refl
+equal_by false true true None b = refl
+equal_by false true true (Some d) b = refl
+equal_by false true false a b = refl
+equal_by false false true a b = refl
+equal_by false false false a b = refl
+
+module _ (c : ℕ) (vars : List Datum) where
+  abbrev Ends : List Line → Option End
+  Ends ls = first_three (of_three Value c vars) ls
+
+  value_first : (ls : List Line) → first_three (made_equal c vars) ls ≡ value_at (Ends ls)
+  value_first [] = refl
+  value_first (a ∷ []) = refl
+  value_first (a ∷ b ∷ []) = refl
+  value_first (a ∷ b ∷ e ∷ ls) = equal_by (is_column c a.op) (is_column c b.op) (is_equality e.op) (fixed vars a.op) (fixed vars b.op)
+
+  value_or : (b : Bool) (o rest : Option End) → option_or (if b then value_at o else None) (value_at rest) ≡ value_at (option_or (if b then o else None) rest)
+  value_or true None rest = refl
+  value_or true (Some e) rest = refl
+  value_or false o rest = refl
+
+  value_made : (lines : List Line) → sought c vars lines ≡ value_at (made 3 (first_three (of_three Value c vars)) lines)
+  value_made [] = refl
+  value_made (l ∷ ls) =
+      (λ i. option_or (if nat_eq (free (drop 3 (l ∷ ls))) 0 then value_first (l ∷ ls) i else None) (value_made ls i))
+      ∙ value_or (nat_eq (free (drop 3 (l ∷ ls))) 0) (Ends (l ∷ ls)) (made 3 (first_three (of_three Value c vars)) ls)
+
+  pub value_sought : (lines : List Line) (o : Option Found) → option_map seen o ≡ made_for Value c vars lines → option_map (λ (f : Found). f.value.now) o ≡ sought c vars lines
+  value_sought lines o e = seen_value o ∙ ap value_at e ∙ sym (value_made lines) where
+    seen_value : (o : Option Found) → option_map (λ (f : Found). f.value.now) o ≡ value_at (option_map seen o)
+    seen_value None = refl
+    seen_value (Some f) = refl
+
+  pub value_some : (lines : List Line) (o : Option Found) (f : Found) → option_map seen o ≡ made_for Value c vars lines → o ≡ Some f → Some f.value.now ≡ sought c vars lines
+  value_some lines o f e i = sym (ap (λ (p : Option Found). option_map (λ (f : Found). f.value.now) p) i) ∙ value_sought lines o e
+
+  pub value_none : (lines : List Line) (o : Option Found) → option_map seen o ≡ made_for Value c vars lines → o ≡ None → None ≡ sought c vars lines
+  value_none lines o e i = sym (ap (λ (p : Option Found). option_map (λ (f : Found). f.value.now) p) i) ∙ value_sought lines o e
+
+-- ---- the columns of a key
+
+module _ (vars : List Datum) (lines : List Line) (columns : List ℕ) where
+  -- with the values so far, those of the other columns are those of all
+  abbrev Seeks : ℕ → List Datum → Type 0
+  Seeks at done = option_map (λ ds. done ++ ds) (each_sought (drop at columns) vars lines) ≡ each_sought columns vars lines
+
+  abbrev after_all : List Datum → Bounds → Bounds
+  after_all done b = bounds_with (done ++ b.firsts) b.low b.high
+
+  abbrev Bounded : ℕ → List Datum → Type 0
+  Bounded at done = bounds_of columns vars lines ≡ after_all done (bounds_of (drop at columns) vars lines)
+
+  pub record Asks (at : ℕ) (done : List Datum) : Type 0 where
+    pub key : Seeks at done
+    pub bounds : Bounded at done
+
+  pub seeks_first : (done : List Datum) → done ≡ [] → Asks 0 done
+  seeks_first done e = subst (λ d. Asks 0 d) (sym e) (record { key = same (each_sought columns vars lines); bounds = refl }) where
+    same : (o : Option (List Datum)) → option_map (λ ds. [] ++ ds) o ≡ o
+    same None = refl
+    same (Some ds) = refl
+
+  with_one : (done : List Datum) (d : Datum) (o : Option (List Datum)) → option_map (λ ds. (done ++ d ∷ []) ++ ds) o ≡ option_map (λ ds. done ++ ds) (with_first (Some d) o)
+  with_one done d None = refl
+  with_one done d (Some ds) = ap Some (append_assoc done (d ∷ []) ds)
+
+  module _ (at c : ℕ) (l : at < length columns) (e : c ≡ get_or columns at c) where
+    rest_is : each_sought (drop at columns) vars lines ≡ with_first (sought c vars lines) (each_sought (drop (at + 1) columns) vars lines)
+    rest_is = ap (λ cs. each_sought cs vars lines) (first_of columns at c l e)
+
+    bounds_are : bounds_of (drop at columns) vars lines ≡ bounds_by (sought c vars lines) (bounds_of (drop (at + 1) columns) vars lines) (of_range (low_sought c vars lines) (high_sought c vars lines))
+    bounds_are = ap (λ cs. bounds_of cs vars lines) (first_of columns at c l e)
+
+    pub key_next : (d : Datum) (done : List Datum) → sought c vars lines ≡ Some d → Seeks at done → Seeks (at + 1) (done ++ d ∷ [])
+    key_next d done s h =
+        with_one done d (each_sought (drop (at + 1) columns) vars lines)
+        ∙ sym (ap (λ (o : Option (List Datum)). option_map (λ ds. done ++ ds) o) (rest_is ∙ ap (λ (o : Option Datum). with_first o (each_sought (drop (at + 1) columns) vars lines)) s)) ∙ h
+
+    pub bounds_next : (d : Datum) (done : List Datum) → sought c vars lines ≡ Some d → Bounded at done → Bounded (at + 1) (done ++ d ∷ [])
+    bounds_next d done s h =
+        let more : Bounds = bounds_of (drop (at + 1) columns) vars lines in
+        h ∙ ap (after_all done) (bounds_are ∙ ap (λ (o : Option Datum). bounds_by o more (of_range (low_sought c vars lines) (high_sought c vars lines))) s)
+        ∙ ap (λ ds. bounds_with ds more.low more.high) (sym (append_assoc done (d ∷ []) more.firsts))
+
+    pub key_none : (done : List Datum) → sought c vars lines ≡ None → Seeks at done → each_sought columns vars lines ≡ None
+    key_none done s h =
+        sym h ∙ ap (λ (o : Option (List Datum)). option_map (λ ds. done ++ ds) o) (rest_is ∙ ap (λ (o : Option Datum). with_first o (each_sought (drop (at + 1) columns) vars lines)) s)
+
+    pub bounds_none : (done : List Datum) → sought c vars lines ≡ None → Bounded at done → bounds_of columns vars lines ≡ bounds_with done (low_sought c vars lines) (high_sought c vars lines)
+    bounds_none done s h =
+        let more : Bounds = bounds_of (drop (at + 1) columns) vars lines in
+        h ∙ ap (after_all done) (bounds_are ∙ ap (λ (o : Option Datum). bounds_by o more (of_range (low_sought c vars lines) (high_sought c vars lines))) s)
+        ∙ ap (λ ds. bounds_with ds (low_sought c vars lines) (high_sought c vars lines)) (append-nil done)
+
+  pub seeks_next : (at c : ℕ) (d : Datum) (done more : List Datum) → at < length columns → c ≡ get_or columns at c → Some d ≡ sought c vars lines → more ≡ done ++ d ∷ [] → Asks at done → Asks (at + 1) more
+  seeks_next at c d done more l e s m h = subst (Asks (at + 1)) (sym m) (record { key = key_next at c l e d done (sym s) h.key; bounds = bounds_next at c l e d done (sym s) h.bounds })
+
+  pub seeks_none : (at c : ℕ) (done : List Datum) (low high : Option End) (downward : Bool) (walk : Walk) → at < length columns → c ≡ get_or columns at c → None ≡ sought c vars lines
+      → low ≡ low_sought c vars lines → high ≡ high_sought c vars lines → walk ≡ walk_by downward None (Some (bounds_with done low high)) → Asks at done
+      → walk ≡ walk_by downward (each_sought columns vars lines) (Some (bounds_of columns vars lines))
+  seeks_none at c done low high downward walk l e s p q w h =
+      w ∙ (λ i. walk_by downward (sym (key_none at c l e done (sym s) h.key) i) (Some (bounds_with done (p i) (q i))))
+      ∙ ap (λ b. walk_by downward (each_sought columns vars lines) (Some b)) (sym (bounds_none at c l e done (sym s) h.bounds))
+
+  pub seeks_end : (done : List Datum) (downward : Bool) → Asks (length columns) done → walk_by downward (Some done) None ≡ walk_by downward (each_sought columns vars lines) (Some (bounds_of columns vars lines))
+  seeks_end done downward h =
+      let whole : each_sought columns vars lines ≡ Some done = sym h.key ∙ ap (λ cs. option_map (λ ds. done ++ ds) (each_sought cs vars lines)) (drop-length columns) ∙ ap Some (append-nil done) in
+      sym (ap (λ (o : Option (List Datum)). walk_by downward o (Some (bounds_of columns vars lines))) whole)
+
+-- a key has a value for each of its columns
+longer : (n : ℕ) (o : Option Datum) (rest : Option (List Datum)) → IfSome rest (λ key. length key ≡ n) → IfSome (with_first o rest) (λ key. length key ≡ suc n)
+longer n None rest h = tt
+longer n (Some d) None h = tt
+longer n (Some d) (Some ds) h = ap suc h
+
+each_long : (columns : List ℕ) (vars : List Datum) (lines : List Line) → IfSome (each_sought columns vars lines) (λ key. length key ≡ length columns)
+each_long [] vars lines = refl
+each_long (c ∷ columns) vars lines = longer (length columns) (sought c vars lines) (each_sought columns vars lines) (each_long columns vars lines)
+
+long_if : (b : Bool) (n : ℕ) (o : Option (List Datum)) → IfSome o (λ key. length key ≡ n) → IfSome (if b then o else None) (λ key. length key ≡ n)
+long_if true n o h = h
+long_if false n o h = tt
+
+asked_long : (columns : List ℕ) (vars : List Datum) (test : Option (List Line)) → IfSome (key_asked columns vars test) (λ key. length key ≡ length columns)
+asked_long columns vars None = tt
+asked_long columns vars (Some lines) = long_if (are_quiet lines) (length columns) (each_sought columns vars lines) (each_long columns vars lines)
+
+pub asked_fits : (columns : List ℕ) (vars : List Datum) (test : Option (List Line)) (n : ℕ) → length columns ≡ n → IfSome (key_asked columns vars test) (λ key. length key ≡ n)
+asked_fits columns vars test n e = subst (λ m. IfSome (key_asked columns vars test) (λ key. length key ≡ m)) e (asked_long columns vars test)
+
+pub walk_fits : {E : Type 0} (columns : List ℕ) (downward : Bool) (vars : List Datum) (test : Option (List Line)) (n : ℕ) → length columns ≡ n → (r : Result Walk E)
+    → IfOk r (λ walk. walk ≡ walk_by downward (key_asked columns vars test) (bounds_asked columns vars test)) → IfOk r (λ walk. IfSome walk.key (λ key. length key ≡ n))
+walk_fits columns downward vars test n e (Ok walk) h =
+    subst (λ (o : Option (List Datum)). IfSome o (λ key. length key ≡ n)) (sym (ap (λ (w : Walk). w.key) h))
+    (asked_fits columns vars test n e)
+walk_fits columns downward vars test n e (Err f) h = tt
