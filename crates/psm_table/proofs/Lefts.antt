@@ -5,7 +5,7 @@ use Rattle.std.specs.List.{cons_option}
 use Rattle.std.specs.declared.cmp.Ordering.TheVariants.{Equal}
 use Rattle.std.specs.Ordering.{is_lt, is_gt}
 use Rattle.std.proofs.lemmas.List.{append-nil, append_assoc, length-drop, map-append, reverse-append}
-use Rattle.std.proofs.lemmas.List.Elements.{All-head, All-tail, filter-append, filter_map-append}
+use Rattle.std.proofs.lemmas.List.Elements.{All-cons, All-head, All-nil, All-tail, filter-append, filter_map-append}
 use Rattle.std.proofs.lemmas.List.Kept.{AllPairs-filter}
 use Rattle.psm_value.specs.declared.datum.Datum.{Datum}
 use Rattle.psm_table.specs.Cuts.{between, is_from, is_past, is_up_to, lies_behind, rows_between}
@@ -15,12 +15,14 @@ use Rattle.psm_table.specs.Key.{key_order, row_order, values_at}
 use Rattle.psm_table.specs.Left.{pairs_between, pairs_left, turned}
 use Rattle.psm_table.specs.Map.{AreAscending}
 use Rattle.psm_table.specs.Queries.{in_walk}
-use Rattle.psm_table.specs.Runs.{joined, IsTurn}
-use Rattle.psm_table.proofs.Filters.{filter-whole}
+use Rattle.psm_table.specs.Runs.{ends, joined, passes, IsTurn}
+use Rattle.psm_table.proofs.Filters.{filter-empty, filter-whole, AllPairs-first, AllPairs-rest}
 use Rattle.psm_table.proofs.Joined.{passed, take-all, unpassed}
 use Rattle.psm_table.proofs.Lives.{Row, Slot}
 use Rattle.psm_table.proofs.Pairs.{Rises}
 use Rattle.psm_table.proofs.Prefixes.{prefix-equal}
+use Rattle.psm_table.proofs.Walks.{last-cons, up-past, Down}
+use Rattle.psm_table.specs.Rows.{last_of}
 
 -- ---- the outermost item
 
@@ -209,3 +211,55 @@ module _ (cut : Option Cut) (c : Cut) (runs : List (List Slot)) (i : ℕ) (d r :
       ap (λ l. joined (take i runs) ++ l) (f ∙ ap (filter (λ p. not (Behind p))) e)
       ∙ sym (unpassed Behind runs i d h)
       ∙ ap (λ o. filter (λ (p : Slot). is_up_to o p.key) (joined runs)) (sym is)
+
+-- ---- where the first pairs end
+
+passes_any : (o : Option Slot) → true ≡ passes (λ (p : Slot). is_up_to None p.key) o
+passes_any None = refl
+passes_any (Some p) = refl
+
+pub end_none : (high : Option Cut) (ps : List Slot) → high ≡ None → true ≡ ends (λ (p : Slot). is_up_to high p.key) ps
+end_none None ps e = passes_any (last_of ps)
+end_none (Some c) ps e = cc
+
+pub end_some : (high : Option Cut) (c : Cut) (ps : List Slot) (p : Slot) → high ≡ Some c → Some p ≡ last_of ps → not (lies_behind c p.key) ≡ ends (λ (q : Slot). is_up_to high q.key) ps
+end_some high c ps p e f =
+    ap (λ o. is_up_to o p.key) (sym e) ∙ ap (passes (λ (q : Slot). is_up_to high q.key)) f
+
+pub end_empty : (high : Option Cut) (ps : List Slot) → None ≡ last_of ps → true ≡ ends (λ (q : Slot). is_up_to high q.key) ps
+end_empty high ps f = ap (passes (λ (q : Slot). is_up_to high q.key)) f
+
+negated : (b : Bool) → not b ≡ false → b ≡ true
+negated true e = refl
+negated false e = cc
+
+-- with a pair that is past a cut each greater one is
+down-up_to : (high : Option Cut) → Down (λ (p : Slot). is_up_to high p.key)
+down-up_to None p q r e = cc
+down-up_to (Some c) p q r e = ap not (up-past c.values.now c.is_behind p q r (negated (lies_behind c p.key) e))
+
+holds : (a b : Bool) → (a ≡ false → b ≡ false) → b ≡ true → a ≡ true
+holds true b h e = refl
+holds false b h e = sym (h refl) ∙ e
+
+module _ (u : Slot → Bool) (down : Down u) where
+  -- where the last of the first pairs doesn't pass, none of the later does
+  none_later : (xs ys : List Slot) → AreAscending (xs ++ ys) → ends u xs ≡ false → All (λ y. u y ≡ false) ys
+  none_later [] ys up e = cc
+  none_later (x ∷ []) ys up e = λ k d l. down x (get_or ys k d) (AllPairs-first Rises x ys up k d l) e
+  none_later (x ∷ y ∷ xs) ys up e =
+      none_later (y ∷ xs) ys (AllPairs-rest Rises x (y ∷ xs ++ ys) up) (sym (ap (passes u) (last-cons x y xs)) ∙ e)
+
+  -- and where it does, each of the first does
+  all_first : (xs : List Slot) → AreAscending xs → ends u xs ≡ true → All (λ x. u x ≡ true) xs
+  all_first [] up e = All-nil (λ x. u x ≡ true)
+  all_first (x ∷ []) up e = All-cons (λ p. u p ≡ true) x [] e (All-nil (λ p. u p ≡ true))
+  all_first (x ∷ y ∷ xs) up e =
+      let h = all_first (y ∷ xs) (AllPairs-rest Rises x (y ∷ xs) up) (sym (ap (passes u) (last-cons x y xs)) ∙ e) in
+      All-cons (λ p. u p ≡ true) x (y ∷ xs) (holds (u x) (u y) (λ f. down x y (AllPairs-first Rises x (y ∷ xs) up 0 x (omega arith)) f) (All-head (λ p. u p ≡ true) y xs h)) h
+
+pub none_after : (high : Option Cut) (first later : List Slot) → AreAscending (first ++ later) → ends (λ (p : Slot). is_up_to high p.key) first ≡ false → [] ≡ filter (λ p. is_up_to high p.key) later
+none_after high first later up e = sym (filter-empty (λ (p : Slot). is_up_to high p.key) later (none_later (λ (p : Slot). is_up_to high p.key) (down-up_to high) first later up e))
+
+pub all_before : (high : Option Cut) (first : List Slot) → AreAscending first → ends (λ (p : Slot). is_up_to high p.key) first ≡ true → first ≡ filter (λ p. is_up_to high p.key) first
+all_before high first up e = sym (filter-whole (λ (p : Slot). is_up_to high p.key) first (all_first (λ (p : Slot). is_up_to high p.key) (down-up_to high) first up e))

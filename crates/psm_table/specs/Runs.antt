@@ -1,10 +1,11 @@
 -- Pairs in ascending order, in runs one after the other.
-use Rattle.std.specs.Prelude.{◌≡◌, ℕ, ◌+◌, ◌-◌, ◌<◌, ◌≤◌, Bool, true, false, List, [], ◌∷◌, ◌++◌, length, take, drop, All, slice_index_or, Option, None}
+use Rattle.std.specs.Prelude.{◌≡◌, ℕ, ◌+◌, ◌-◌, ◌<◌, ◌≤◌, Bool, true, false, List, [], ◌∷◌, ◌++◌, length, take, drop, All, slice_index_or, Option, Some, None}
 use Rattle.std.specs.declared.cmp.Ordering.TheVariants.{Less, Greater}
 use Rattle.psm_value.specs.declared.datum.Datum.{Datum}
 use Rattle.psm_table.specs.declared.map.Pair.{Pair}
 use Rattle.psm_num.specs.Num.{Num}
 use Rattle.psm_table.specs.Key.{key_order, number_of}
+use Rattle.psm_table.specs.Rows.{last_of}
 
 -- a run has memory for n pairs
 abbrev pub most_pairs : ℕ
@@ -40,6 +41,14 @@ module _ {V : Type 0} where
   abbrev pub begins : (Pair V → Bool) → List (Pair V) → Bool
   begins t [] = false
   begins t (p ∷ ps) = t p
+
+  -- whether the last pair, if there is one, passes a test
+  abbrev pub passes : (Pair V → Bool) → Option (Pair V) → Bool
+  passes t None = true
+  passes t (Some p) = t p
+
+  abbrev pub ends : (Pair V → Bool) → List (Pair V) → Bool
+  ends t ps = passes t (last_of ps)
 
   -- no pair of the runs before place i passes a test, and each of those after it does
   pub record IsTurn (t : Pair V → Bool) (runs : List (List (Pair V))) (i : ℕ) : Type 0 where

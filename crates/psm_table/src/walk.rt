@@ -5,11 +5,11 @@ ghost use Rattle.psm_table.specs.Left.{left_of, pairs_between, turned};
 ghost use Rattle.psm_table.specs.Map.{AreAscending};
 ghost use Rattle.psm_table.specs.Queries.{in_walk};
 ghost use Rattle.psm_table.specs.Held.{live_rows};
-ghost use Rattle.psm_table.specs.Runs.{joined, IsRun};
+ghost use Rattle.psm_table.specs.Runs.{ends, joined, IsRun};
 
 use crate::cut::Cut;
 use crate::map::{OrderedMap, Pair};
-use crate::probe::Probe;
+use crate::probe::{Probe, is_past};
 use crate::row::Row;
 use crate::run::{Run, turn};
 use crate::runs::locate_past;
@@ -124,8 +124,12 @@ impl<'a> RowsLeft<'a> {
         ensures { result ≡ in_walk downward (live_rows (pairs_between low.entry high.entry rows.now.pairs)) }
     {
         let (first, later) = pairs_from(rows.runs(), low);
+        if !end_up_to(first, high) {
+            return RowsLeft {
+                pairs: PairsLeft::of(part_up_to(first, high), &[], &[], downward),
+            };
+        }
         let (runs, last) = pairs_up_to(later, high);
-        let first = part_up_to(first, high);
         RowsLeft {
             pairs: PairsLeft::of(first, runs, last, downward),
         }
@@ -185,6 +189,20 @@ fn pairs_up_to<'a>(
     let at = locate_past(runs, probe, cut.is_behind);
     let pairs = runs[at].pairs();
     (&runs[..at], &pairs[..turn(pairs, probe, cut.is_behind)])
+}
+
+/// Whether the last of the pairs, if there is one, isn't past a cut.
+#[tactic(auto, using(crate::proofs::Lefts::end_none, crate::proofs::Lefts::end_some, crate::proofs::Lefts::end_empty))]
+fn end_up_to(pairs: &[Pair<Option<Row>>], high: Option<Cut<'_>>) -> bool
+    ensures { result ≡ ends (λ p. is_up_to high.entry p.key) pairs.now }
+{
+    let Some(cut) = high else {
+        return true;
+    };
+    match pairs.last() {
+        Some(pair) => !is_past(pair.key.values(), Probe::Of(cut.values), cut.is_behind),
+        None => true,
+    }
 }
 
 /// The pairs of some of a run up to a cut.
