@@ -1,5 +1,5 @@
 //! A run of the commands of a script over code and empty tables.
-ghost use Rattle.std.specs.Prelude.{◌≡◌, ℕ, List as Seq, All, IfOk};
+ghost use Rattle.std.specs.Prelude.{◌≡◌, ◌≤◌, ℕ, List as Seq, All, IfOk, length};
 ghost use Rattle.psm_table.specs.Definition.{IsDefinition};
 ghost use Rattle.psm_table.specs.Table.{Contents};
 ghost use Rattle.psm_undostore.specs.Undo.{tables_of};
@@ -12,8 +12,12 @@ use psm_build::{Code, ScriptCode, definitions_of};
 use psm_files::Status;
 use psm_io::Sink;
 use psm_session::{ScriptEnd, run_script};
+use psm_table::ForeignKey;
 use psm_undostore::UndoStore;
 use std::alloc::{AllocError, Global};
+
+/// Where a table has more foreign keys, none is indexed.
+const MOST_OF_A_TABLE: usize = 256;
 
 /// Runs the script over the code and empty tables, with n turns, and puts the piece of each command.
 pub(crate) fn play<K: Sink>(
@@ -52,5 +56,18 @@ pub(crate) fn empty_store(alloc: Global, code: &Code) -> Result<UndoStore, Alloc
     ensures marks { IfOk result (λ s. s.marks ≡ 0) }
 {
     let defs = definitions_of(alloc, code)?;
-    UndoStore::new(alloc, defs, code.keys.items())
+    UndoStore::new(alloc, defs, indexed(code.keys.items()))
+}
+
+/// The foreign keys whose columns are indexed: all, or none where more than 256 are of one table. Those of a table follow one
+/// another. An index is found by a pass over those of its table, so that many of them would cost their square.
+fn indexed(keys: &[ForeignKey]) -> &[ForeignKey]
+    ensures { length result.now ≤ length keys.now }
+{
+    for at in MOST_OF_A_TABLE..keys.len() {
+        if keys[at].from == keys[at - MOST_OF_A_TABLE].from {
+            return &[];
+        }
+    }
+    keys
 }
