@@ -1,16 +1,16 @@
-//! What a test asks of the key of a table (ISO/IEC 9075:1992, 8.2, 8.3 and 8.12).
+//! What a test asks of the key and the UNIQUE lists of a table (ISO/IEC 9075:1992, 8.2, 8.3, 8.9 and 8.12).
 ghost use Rattle.std.specs.Prelude.{◌≡◌, ◌+◌, ◌-◌, ◌≤◌, ◌<◌, ◌^◌, ◌&&◌, ◌++◌, ◌∷◌, [], drop, nat_eq, None, Some, false, true, IfOk, if◌then◌else◌};
 ghost use Rattle.std.specs.Option.{option_copied, option_map, option_or};
 ghost use Rattle.psm_tablecode.specs.Aims.{made_for, maker, of_four, of_three, of_two, seen};
 ghost use Rattle.psm_tablecode.specs.Aims as aims;
-ghost use Rattle.psm_tablecode.specs.Asked.{each_sought, key_asked, over_all, walk_by};
+ghost use Rattle.psm_tablecode.specs.Asked.{each_filled, each_sought, filled, key_asked, over_all, unique_asked, unique_from, walk_by};
 ghost use Rattle.psm_tablecode.specs.Bounds as bounds;
 ghost use Rattle.psm_tablecode.specs.Edges as edges;
 ghost use Rattle.psm_tablecode.specs.Tests as asked;
 
-use crate::walking::{Edge, Walk};
+use crate::walking::{Edge, Unique, Walk};
 use psm_exprcode::{ExprCode, Op, RawExpr};
-use psm_table::{Key, Parts};
+use psm_table::{Key, List, Parts, TableDef};
 use psm_value::Datum;
 use std::alloc::{AllocError, Global};
 
@@ -32,24 +32,25 @@ pub(crate) struct Found<'a> {
     pub is_in: bool,
 }
 
-/// The walk for which a test asks over a table with these columns as its key: to the row of a key, where its predicates
-/// raise no condition and some that have to be true make each of the columns equal to a constant or a variable; else over
-/// the rows between edges, where they do so with the first ones, or give a range of the next one; else over all rows. It
-/// takes memory for the key or the edges alone.
+/// The walk for which a test asks over a table: to the row of a key, where its predicates raise no condition and some that
+/// have to be true make each column of the key equal to a constant or a variable; else to the row with those values in a
+/// UNIQUE list, where they do so with each of its columns; else over the rows between edges, where they do so with the first
+/// columns of the key, or give a range of the next one; else over all rows. It takes memory for the key, the values or the
+/// edges alone.
 pub(crate) fn walk_asked(
     alloc: Global,
     downward: bool,
-    columns: &[u32],
+    def: &TableDef,
     test: Option<&ExprCode>,
     vars: &[Datum],
 ) -> Result<Walk, AllocError>
-    ensures { IfOk result (λ walk. walk ≡ walk_by downward (key_asked columns.now vars.now (option_copied test.entry)) (bounds.bounds_asked columns.now vars.now (option_copied test.entry))) }
+    ensures { IfOk result (λ walk. walk ≡ walk_by downward (key_asked def.now.key vars.now (option_copied test.entry)) (unique_asked def.now.unique vars.now (option_copied test.entry)) (bounds.bounds_asked def.now.key vars.now (option_copied test.entry))) }
 {
     let Some(code) = test else {
         return Ok(over_all(downward));
     };
     if are_quiet(code.lines()) {
-        walk_sought(alloc, downward, columns, code.lines(), vars)
+        walk_sought(alloc, downward, def.key.items(), def.unique.items(), code.lines(), vars)
     } else {
         Ok(over_all(downward))
     }
@@ -61,6 +62,7 @@ fn over_all(downward: bool) -> Walk
     Walk {
         downward,
         key: None,
+        unique: None,
         low: None,
         high: None,
     }
@@ -107,28 +109,141 @@ fn walk_sought(
     alloc: Global,
     downward: bool,
     columns: &[u32],
+    lists: &[List<u32>],
     lines: &RawExpr,
     vars: &[Datum],
 ) -> Result<Walk, AllocError>
-    ensures { IfOk result (λ walk. walk ≡ walk_by downward (each_sought columns.now vars.now lines.now) (Some (bounds.bounds_of columns.now vars.now lines.now))) }
+    ensures { IfOk result (λ walk. walk ≡ walk_by downward (each_sought columns.now vars.now lines.now) (unique_from 0 lists.now vars.now lines.now) (Some (bounds.bounds_of columns.now vars.now lines.now))) }
 {
     let mut firsts = Vec::new(alloc);
     for column in columns {
         match sought(*column, lines, vars) {
             Some(value) => firsts.push(value.copy(alloc)?)?,
             None => {
-                let low = end_sought(Aim::Low, Aim::LowOfTwo, *column, lines, vars);
-                let high = end_sought(Aim::High, Aim::HighOfTwo, *column, lines, vars);
-                return Ok(walk_between(alloc, downward, firsts.as_slice(), low, high)?);
+                let firsts = firsts.as_slice();
+                return Ok(walk_without_key(
+                    alloc, downward, firsts, *column, lists, lines, vars,
+                )?);
             }
         }
     }
     Ok(Walk {
         downward,
         key: Some(Key::of(firsts)),
+        unique: None,
         low: None,
         high: None,
     })
+}
+
+// The same where the key has a column without a value, after some first values.
+fn walk_without_key(
+    alloc: Global,
+    downward: bool,
+    firsts: &[Datum],
+    column: u32,
+    lists: &[List<u32>],
+    lines: &RawExpr,
+    vars: &[Datum],
+) -> Result<Walk, AllocError>
+    ensures { IfOk result (λ walk. walk ≡ walk_by downward None (unique_from 0 lists.now vars.now lines.now) (Some (bounds.bounds_with firsts.now (bounds.low_sought column vars.now lines.now) (bounds.high_sought column vars.now lines.now)))) }
+{
+    match unique_sought(alloc, lists, lines, vars)? {
+        Some(unique) => Ok(walk_to(downward, unique)),
+        None => {
+            let low = end_sought(Aim::Low, Aim::LowOfTwo, column, lines, vars);
+            let high = end_sought(Aim::High, Aim::HighOfTwo, column, lines, vars);
+            walk_between(alloc, downward, firsts, low, high)
+        }
+    }
+}
+
+// ---- UNIQUE lists
+
+fn walk_to(downward: bool, unique: Unique) -> Walk
+    ensures { result ≡ walk_by downward None (Some unique) None }
+{
+    Walk {
+        downward,
+        key: None,
+        unique: Some(unique),
+        low: None,
+        high: None,
+    }
+}
+
+// The first list with a value for each of its columns.
+fn unique_sought(
+    alloc: Global,
+    lists: &[List<u32>],
+    lines: &RawExpr,
+    vars: &[Datum],
+) -> Result<Option<Unique>, AllocError>
+    ensures { IfOk result (λ unique. unique ≡ unique_from 0 lists.now vars.now lines.now) }
+{
+    for list in 0..lists.len() {
+        if let Some(values) = each_filled(alloc, lists[list].items(), lines, vars)? {
+            return Ok(Some(Unique { list, values }));
+        }
+    }
+    Ok(None)
+}
+
+// The values of the columns, if there is one for each and none is null. A list of one column takes no memory but the value's.
+fn each_filled(
+    alloc: Global,
+    columns: &[u32],
+    lines: &RawExpr,
+    vars: &[Datum],
+) -> Result<Option<Key>, AllocError>
+    ensures { IfOk result (λ values. values ≡ each_filled columns.now vars.now lines.now) }
+{
+    match columns {
+        [column] => one_filled(alloc, *column, lines, vars),
+        _ => many_filled(alloc, columns, lines, vars),
+    }
+}
+
+fn one_filled(
+    alloc: Global,
+    column: u32,
+    lines: &RawExpr,
+    vars: &[Datum],
+) -> Result<Option<Key>, AllocError>
+    ensures { IfOk result (λ values. values ≡ each_filled (column ∷ []) vars.now lines.now) }
+{
+    match filled(sought(column, lines, vars)) {
+        Some(value) => Ok(Some(Key::of_parts(Parts::One([value.copy(alloc)?])))),
+        None => Ok(None),
+    }
+}
+
+fn many_filled(
+    alloc: Global,
+    columns: &[u32],
+    lines: &RawExpr,
+    vars: &[Datum],
+) -> Result<Option<Key>, AllocError>
+    ensures { IfOk result (λ values. values ≡ each_filled columns.now vars.now lines.now) }
+{
+    let mut values = Vec::new(alloc);
+    for column in columns {
+        match filled(sought(*column, lines, vars)) {
+            Some(value) => values.push(value.copy(alloc)?)?,
+            None => return Ok(None),
+        }
+    }
+    Ok(Some(Key::of(values)))
+}
+
+// The value, unless it is null.
+fn filled(value: Option<&Datum>) -> Option<&Datum>
+    ensures { option_copied result ≡ filled (option_copied value.entry) }
+{
+    match value {
+        None | Some(Datum::Null) => None,
+        Some(value) => Some(value),
+    }
 }
 
 // ---- edges
@@ -140,11 +255,12 @@ fn walk_between(
     low: Option<Found<'_>>,
     high: Option<Found<'_>>,
 ) -> Result<Walk, AllocError>
-    ensures { IfOk result (λ walk. walk ≡ walk_by downward None (Some (bounds.bounds_with firsts.now (option_map seen low.entry) (option_map seen high.entry)))) }
+    ensures { IfOk result (λ walk. walk ≡ walk_by downward None None (Some (bounds.bounds_with firsts.now (option_map seen low.entry) (option_map seen high.entry)))) }
 {
     Ok(Walk {
         downward,
         key: None,
+        unique: None,
         low: low_edge(alloc, firsts, low)?,
         high: high_edge(alloc, firsts, high)?,
     })

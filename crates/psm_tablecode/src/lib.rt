@@ -10,9 +10,9 @@ mod typing;
 mod walking;
 
 pub use evaluating::{meets, taken, truth, value, values};
-pub use laws::{access_between_bounds, access_by_key};
+pub use laws::{access_between_bounds, access_by_key, access_by_unique};
 pub use psm_cond::DataFault;
 pub use psm_exprcode::{Aggregate, ExprCode, Items, Operand, Query, SetFunction};
 pub use raising::raised;
 pub use typing::{column_letters, gives_truth, gives_value, type_checks};
-pub use walking::{Coming, Edge, Walk, walk_of};
+pub use walking::{Coming, Edge, Unique, Walk, walk_of};

@@ -3,12 +3,12 @@ ghost use Rattle.std.specs.Prelude.{◌≡◌, ◌∷◌, [], All, IfOk, IfSome,
 ghost use Rattle.std.specs.Option.{option_copied, option_map};
 ghost use Rattle.psm_table.specs.Definition.{IsKey, IsRow};
 ghost use Rattle.psm_table.specs.Table.{IsTable};
-ghost use Rattle.psm_tablecode.specs.Asked.{rows_of, walk_for};
+ghost use Rattle.psm_tablecode.specs.Asked.{rows_at, rows_of, walk_for, IsLookUp};
 ghost use Rattle.psm_tablecode.specs.RemainingRows.{cut_edge, rows_coming};
 
 use crate::asking::walk_asked;
 use psm_exprcode::ExprCode;
-use psm_table::{Cut, Key, Row, RowsLeft, Table};
+use psm_table::{Cut, Key, Matching, Row, RowsLeft, Table};
 use psm_value::Datum;
 use std::alloc::{AllocError, Global};
 
@@ -19,6 +19,26 @@ pub struct Edge {
     pub is_behind: bool,
 }
 
+impl Edge {
+    /// Lends the cut. It takes no memory.
+    pub fn cut(&self) -> Cut<'_>
+        ensures { cut_edge result ≡ self.now }
+    {
+        Cut {
+            values: self.values.values(),
+            is_behind: self.is_behind,
+        }
+    }
+}
+
+/// A look-up by a UNIQUE list of a table (ISO/IEC 9075:1992, 8.9): the number of the list, and a value for each of its
+/// columns.
+#[derive(Drop)]
+pub struct Unique {
+    pub list: usize,
+    pub values: Key,
+}
+
 /// Which rows of a table a statement goes over, and in which order.
 #[derive(Drop)]
 pub struct Walk {
@@ -26,15 +46,18 @@ pub struct Walk {
     pub downward: bool,
     /// The key of the one row, if no other comes.
     pub key: Option<Key>,
+    /// The look-up that finds the one row, if it isn't found by its key.
+    pub unique: Option<Unique>,
     /// Where the keys of the rows begin; without it, with the first row.
     pub low: Option<Edge>,
     /// Where they end; without it, with the last row.
     pub high: Option<Edge>,
 }
 
-/// The walk of a statement with a test: over the row of the key for which the test asks, or over the rows between the
-/// bounds for which it asks, or over all rows. What a statement takes of the rows that meet the test, and the first
-/// condition that is raised, are those of a walk over all rows. It takes memory for the key or the edges alone.
+/// The walk of a statement with a test: over the row of the key for which the test asks, or over that with the values for
+/// which it asks in a UNIQUE list, or over the rows between the bounds for which it asks, or over all rows. What a statement
+/// takes of the rows that meet the test, and the first condition that is raised, are those of a walk over all rows. It takes
+/// memory for the key, the values or the edges alone.
 pub fn walk_of(
     alloc: Global,
     table: &Table,
@@ -44,10 +67,11 @@ pub fn walk_of(
 ) -> Result<Walk, AllocError>
     ensures walk { IfOk result (λ walk. walk ≡ walk_for table.now.contents downward vars.now (option_copied test.entry)) }
     ensures fits { IfOk result (λ walk. IfSome walk.key (IsKey table.now.contents.def)) }
+    ensures unique { IfOk result (λ walk. IfSome walk.unique (IsLookUp table.now.contents.def.unique)) }
     ensures table { IsTable table.now.contents }
 {
     ascends(table);
-    walk_asked(alloc, downward, table.def().key.items(), test, vars)
+    walk_asked(alloc, downward, table.def(), test, vars)
 }
 
 /// The rows of a walk that are still to come, in order.
@@ -61,20 +85,34 @@ pub enum Coming<'a> {
 
 impl<'a> Coming<'a> {
     /// All rows of a walk over a table. It takes no memory.
-    #[tactic(auto, using(crate::proofs::RemainingRowsLaws::of_key, crate::proofs::RemainingRowsLaws::of_all, crate::proofs::RemainingRowsLaws::coming_fit))]
+    #[tactic(auto, using(crate::proofs::RemainingRowsLaws::of_key, crate::proofs::RemainingRowsLaws::of_unique, crate::proofs::RemainingRowsLaws::of_all, crate::proofs::RemainingRowsLaws::coming_fit))]
     pub fn of(table: &'a Table, walk: &Walk) -> Coming<'a>
-        requires { IfSome walk.now.key (IsKey table.now.contents.def) }
+        requires key { IfSome walk.now.key (IsKey table.now.contents.def) }
+        requires unique { IfSome walk.now.unique (IsLookUp table.now.contents.def.unique) }
         ensures rows { rows_coming result ≡ rows_of table.now.contents walk.now }
         ensures fit { All (IsRow table.now.contents.def) (rows_of table.now.contents walk.now) }
     {
         ascends(table);
-        match &walk.key {
-            Some(key) => Coming::One(table.get(key)),
-            None => Coming::All(table.rows_between(
+        match (&walk.key, &walk.unique) {
+            (Some(key), _) => Coming::One(table.get(key)),
+            (None, Some(unique)) => Coming::found(table, walk.downward, unique),
+            (None, None) => Coming::All(table.rows_between(
                 cut_at(&walk.low),
                 cut_at(&walk.high),
                 walk.downward,
             )),
+        }
+    }
+
+    // The row that a look-up finds, or all rows where it finds several.
+    fn found(table: &'a Table, downward: bool, unique: &Unique) -> Coming<'a>
+        requires { IsLookUp table.now.contents.def.unique unique.now }
+        ensures { rows_coming result ≡ rows_at table.now.contents downward unique.now }
+    {
+        match table.by_unique(unique.list, unique.values.values()) {
+            Matching::Nothing => Coming::One(None),
+            Matching::One(row) => Coming::One(Some(row)),
+            Matching::Several => Coming::All(table.rows(downward)),
         }
     }
 
@@ -93,10 +131,7 @@ fn cut_at(edge: &Option<Edge>) -> Option<Cut<'_>>
     ensures { option_map cut_edge result ≡ edge.now }
 {
     match edge {
-        Some(edge) => Some(Cut {
-            values: edge.values.values(),
-            is_behind: edge.is_behind,
-        }),
+        Some(edge) => Some(edge.cut()),
         None => None,
     }
 }
