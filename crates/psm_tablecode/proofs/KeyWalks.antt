@@ -13,23 +13,27 @@ use Rattle.psm_value.specs.declared.truth.Truth.TheVariants.{True, False, Unknow
 use Rattle.psm_exprcode.specs.declared.op.Line.{Line}
 use Rattle.psm_table.specs.Evaluator.{and_then, mapped, test_of}
 use Rattle.psm_table.specs.Key.{key_order, row_order, values_at}
+use Rattle.psm_table.specs.Matching.{few, rows_with}
 use Rattle.psm_table.specs.Queries.{in_walk, is_met, taken, walked}
 use Rattle.psm_table.specs.Rows.{row_with, IsAscending}
 use Rattle.psm_table.specs.Table.{Contents}
+use Rattle.psm_table.specs.Unique.{equal_values}
 use Rattle.psm_table.proofs.Filters.{AllPairs-rest, filter-empty}
 use Rattle.psm_table.proofs.Undo.{after_equal}
-use Rattle.psm_tablecode.specs.Asked.{key_asked, rows_from, rows_of, walk_by, walk_for}
+use Rattle.psm_tablecode.specs.Asked.{columns_in, few_or, key_asked, rows_at, rows_from, rows_of, unique_asked, walk_by, walk_for}
 use Rattle.psm_tablecode.specs.Bounds.{bounds_asked, bounds_of, rows_within, Bounds}
 use Rattle.psm_tablecode.specs.Codes.{over}
 use Rattle.psm_tablecode.specs.Edges.{lies_within, rows_between}
 use Rattle.psm_tablecode.specs.Tests.{are_quiet}
 use Rattle.psm_tablecode.specs.declared.walking.Edge.{Edge}
+use Rattle.psm_tablecode.specs.declared.walking.Unique.{Unique}
 use Rattle.psm_tablecode.specs.declared.walking.Walk.{Walk}
 use Rattle.psm_tablecode.proofs.EdgeLaws.{rows_all, rows_among}
 use Rattle.psm_tablecode.proofs.Ranges.{asked_by, walked_within}
 use Rattle.psm_tablecode.proofs.Stepped.{filter-reverse}
 use Rattle.psm_tablecode.proofs.Results.{mapped-same}
 use Rattle.psm_tablecode.proofs.Sought.{asked_only, asked_quiet}
+use Rattle.psm_tablecode.proofs.UniqueWalks.{walked_at}
 
 -- ---- the rows of a key
 
@@ -89,16 +93,21 @@ module _ {A : Type 0} (t : Contents) (vars : List Datum) (test : Option (List Li
   Walked lines rows = walked (test_of (over vars) (Some lines)) take rows
 
   for_bounds : (downward : Bool) (lines : List Line) (b : Bool) → are_quiet lines ≡ b
-      → Walked lines (rows_of t (walk_by downward None (if b then Some (bounds_of t.def.key vars lines) else None))) ≡ Walked lines (in_walk downward t.rows)
+      → Walked lines (rows_of t (walk_by downward None None (if b then Some (bounds_of t.def.key vars lines) else None))) ≡ Walked lines (in_walk downward t.rows)
   for_bounds downward lines false e = ap (λ rows. Walked lines (in_walk downward rows)) (rows_all t.def.key t.rows)
   for_bounds downward lines true e =
       ap (Walked lines) (rows_among t.def.key vars lines downward t.rows)
       ∙ sym (ap (λ (b : Bool). Walked lines (rows_within t downward (if b then Some (bounds_of t.def.key vars lines) else None))) e)
       ∙ walked_within t vars take downward (Some lines)
 
+  for_unique : (downward : Bool) (lines : List Line) (o : Option Unique) → unique_asked t.def.unique vars (Some lines) ≡ o
+      → Walked lines (rows_of t (walk_by downward None o (bounds_asked t.def.key vars (Some lines)))) ≡ Walked lines (in_walk downward t.rows)
+  for_unique downward lines None e = for_bounds downward lines (are_quiet lines) refl
+  for_unique downward lines (Some unique) e = walked_at t vars lines take downward unique e
+
   for_key : (downward : Bool) (lines : List Line) (o : Option (List Datum)) → key_asked t.def.key vars (Some lines) ≡ o
-      → Walked lines (rows_of t (walk_by downward o (bounds_asked t.def.key vars (Some lines)))) ≡ Walked lines (in_walk downward t.rows)
-  for_key downward lines None e = for_bounds downward lines (are_quiet lines) refl
+      → Walked lines (rows_of t (walk_by downward o (unique_asked t.def.unique vars (Some lines)) (bounds_asked t.def.key vars (Some lines)))) ≡ Walked lines (in_walk downward t.rows)
+  for_key downward lines None e = for_unique downward lines (unique_asked t.def.unique vars (Some lines)) refl
   for_key downward lines (Some key) e =
       walked-key t.def.key key (test_of (over vars) (Some lines)) take (λ row. asked_quiet row vars t.def.key lines key e) (λ row. asked_only row vars t.def.key lines key e) downward t.rows up
 
@@ -112,17 +121,22 @@ module _ {A : Type 0} (t : Contents) (vars : List Datum) (test : Option (List Li
   pub walked_by : (downward : Bool) (walk : Walk) → walk ≡ walk_for t downward vars test → walked (test_of (over vars) test) take (rows_of t walk) ≡ walked (test_of (over vars) test) take (in_walk downward t.rows)
   walked_by downward walk e = ap (λ (w : Walk). walked (test_of (over vars) test) take (rows_of t w)) e ∙ walked_for downward
 
--- where a test asks for bounds and not for a key, the walk is over the rows between them
-bounded : (t : Contents) (vars : List Datum) (downward : Bool) (lines : List Line) (bounds : Bounds) → key_asked t.def.key vars (Some lines) ≡ None → bounds_asked t.def.key vars (Some lines) ≡ Some bounds
-    → bounds_of t.def.key vars lines ≡ bounds → rows_of t (walk_for t downward vars (Some lines)) ≡ rows_within t downward (Some bounds)
-bounded t vars downward lines bounds k b e =
-    (λ i. rows_of t (walk_by downward (k i) (b i))) ∙ ap (λ (x : Bounds). rows_of t (walk_by downward None (Some x))) (sym e)
+-- where a test asks for bounds and for nothing else, the walk is over the rows between them
+bounded : (t : Contents) (vars : List Datum) (downward : Bool) (lines : List Line) (bounds : Bounds) → key_asked t.def.key vars (Some lines) ≡ None → unique_asked t.def.unique vars (Some lines) ≡ None
+    → bounds_asked t.def.key vars (Some lines) ≡ Some bounds → bounds_of t.def.key vars lines ≡ bounds → rows_of t (walk_for t downward vars (Some lines)) ≡ rows_within t downward (Some bounds)
+bounded t vars downward lines bounds k u b e =
+    (λ i. rows_of t (walk_by downward (k i) (u i) (b i))) ∙ ap (λ (x : Bounds). rows_of t (walk_by downward None None (Some x))) (sym e)
     ∙ rows_among t.def.key vars lines downward t.rows ∙ ap (λ (x : Bounds). rows_within t downward (Some x)) e
 
-pub rows_bounded : (t : Contents) (vars : List Datum) (downward : Bool) (test : Option (List Line)) (bounds : Bounds) → key_asked t.def.key vars test ≡ None → bounds_asked t.def.key vars test ≡ Some bounds
-    → rows_of t (walk_for t downward vars test) ≡ rows_within t downward (Some bounds)
-rows_bounded t vars downward None bounds k b = absurd (cc)
-rows_bounded t vars downward (Some lines) bounds k b = bounded t vars downward lines bounds k b (asked_by (are_quiet lines) (bounds_of t.def.key vars lines) bounds b).1
+pub rows_bounded : (t : Contents) (vars : List Datum) (downward : Bool) (test : Option (List Line)) (bounds : Bounds) → key_asked t.def.key vars test ≡ None → unique_asked t.def.unique vars test ≡ None
+    → bounds_asked t.def.key vars test ≡ Some bounds → rows_of t (walk_for t downward vars test) ≡ rows_within t downward (Some bounds)
+rows_bounded t vars downward None bounds k u b = absurd (cc)
+rows_bounded t vars downward (Some lines) bounds k u b = bounded t vars downward lines bounds k u b (asked_by (are_quiet lines) (bounds_of t.def.key vars lines) bounds b).1
+
+-- where it asks for values in a UNIQUE list and for no key, the walk is over the row with them
+pub rows_looked : (t : Contents) (vars : List Datum) (downward : Bool) (test : Option (List Line)) (unique : Unique) → key_asked t.def.key vars test ≡ None → unique_asked t.def.unique vars test ≡ Some unique
+    → rows_of t (walk_for t downward vars test) ≡ rows_at t downward unique
+rows_looked t vars downward test unique k u = λ i. rows_of t (walk_by downward (k i) (u i) (bounds_asked t.def.key vars test))
 
 -- no walk has more rows than the table
 found_few : (p : List Datum → Bool) (row : List Datum) (rows : List (List Datum)) (b : Bool) → length (cons_option (find p rows) []) ≤ length rows → length (cons_option (cond b (Some row) (find p rows)) []) ≤ length (row ∷ rows)
@@ -141,11 +155,23 @@ filter_few : (p : List Datum → Bool) (rows : List (List Datum)) → length (fi
 filter_few p [] = omega arith
 filter_few p (row ∷ rows) = kept_few p row rows (p row) (filter_few p rows)
 
-from_few : (t : Contents) (downward : Bool) (o : Option (List Datum)) (low high : Option Edge) → length (rows_from t downward o low high) ≤ length t.rows
-from_few t true None low high =
-    omega (arith, length-reverse (rows_between t.def.key low high t.rows), filter_few (λ row. lies_within low high (values_at t.def.key row)) t.rows)
-from_few t false None low high = filter_few (λ row. lies_within low high (values_at t.def.key row)) t.rows
-from_few t downward (Some key) low high = find_few (λ row. is_eq (row_order t.def.key key row)) t.rows
+walk_few : (downward : Bool) (rows : List (List Datum)) → length (in_walk downward rows) ≡ length rows
+walk_few true rows = length-reverse rows
+walk_few false rows = refl
+
+few_few : (n : ℕ) (xs all : List (List Datum)) → length xs ≤ n → length all ≤ n → length (few_or (few xs) all) ≤ n
+few_few n [] all h g = h
+few_few n (row ∷ []) all h g = h
+few_few n (row ∷ other ∷ xs) all h g = g
+
+from_few : (t : Contents) (downward : Bool) (o : Option (List Datum)) (u : Option Unique) (low high : Option Edge) → length (rows_from t downward o u low high) ≤ length t.rows
+from_few t downward None None low high =
+    omega (arith, walk_few downward (rows_between t.def.key low high t.rows), filter_few (λ row. lies_within low high (values_at t.def.key row)) t.rows)
+from_few t downward None (Some u) low high =
+    let columns : List ℕ = columns_in t.def.unique u.list in
+    let all : length (in_walk downward t.rows) ≡ length t.rows = walk_few downward t.rows in
+    few_few (length t.rows) (rows_with columns u.values t.rows) (in_walk downward t.rows) (filter_few (λ row. equal_values u.values (values_at columns row)) t.rows) (omega (arith, all))
+from_few t downward (Some key) u low high = find_few (λ row. is_eq (row_order t.def.key key row)) t.rows
 
 pub rows_few : (t : Contents) (walk : Walk) → length (rows_of t walk) ≤ length t.rows
-rows_few t walk = from_few t walk.downward walk.key walk.low walk.high
+rows_few t walk = from_few t walk.downward walk.key walk.unique walk.low walk.high

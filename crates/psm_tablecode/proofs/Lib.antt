@@ -13,3 +13,5 @@ pub mod Sought
 pub mod Stepped
 pub mod WalkLaws
 pub mod Windows
+pub mod LookUps
+pub mod UniqueWalks

@@ -11,18 +11,28 @@ use Rattle.psm_table.specs.Definition.{IsRow}
 use Rattle.psm_table.specs.Cuts as cuts
 use Rattle.psm_table.specs.declared.cut.Cut.{Cut}
 use Rattle.psm_table.specs.Key.{row_order, values_at}
+use Rattle.psm_table.specs.Matching.{few, rows_with}
 use Rattle.psm_table.specs.Queries.{in_walk}
 use Rattle.psm_table.specs.Table.{keyed, Contents, IsTable}
-use Rattle.psm_tablecode.specs.Asked.{rows_from, rows_of}
+use Rattle.psm_table.specs.Unique.{equal_values}
+use Rattle.psm_tablecode.specs.Asked.{columns_in, few_or, rows_at, rows_from, rows_of}
 use Rattle.psm_tablecode.specs.Edges.{lies_within, rows_between}
 use Rattle.psm_tablecode.specs.RemainingRows.{cut_edge}
 use Rattle.psm_tablecode.specs.declared.walking.Edge.{Edge}
+use Rattle.psm_tablecode.specs.declared.walking.Unique.{Unique}
 use Rattle.psm_tablecode.specs.declared.walking.Walk.{Walk}
 
 -- ---- what is walked over
 
 pub of_key : (t : Contents) (walk : Walk) (key : List Datum) (o : Option (List Datum)) → walk.key ≡ Some key → o ≡ keyed t key → cons_option o [] ≡ rows_of t walk
-of_key t walk key o e f = ap (λ (r : Option (List Datum)). cons_option r []) f ∙ sym (ap (λ (k : Option (List Datum)). rows_from t walk.downward k walk.low walk.high) e)
+of_key t walk key o e f = ap (λ (r : Option (List Datum)). cons_option r []) f ∙ sym (ap (λ (k : Option (List Datum)). rows_from t walk.downward k walk.unique walk.low walk.high) e)
+
+pub of_unique : (t : Contents) (walk : Walk) (unique : Unique) (rows : List (List Datum)) → walk.key ≡ None → walk.unique ≡ Some unique → rows ≡ rows_at t walk.downward unique → rows ≡ rows_of t walk
+of_unique t walk unique rows e u f = f ∙ sym (λ i. rows_from t walk.downward (e i) (u i) walk.low walk.high)
+
+pub of_found : (t : Contents) (downward : Bool) (unique : Unique) (o : Option (List (List Datum))) → o ≡ few (rows_with (columns_in t.def.unique unique.list) unique.values t.rows)
+    → few_or o (in_walk downward t.rows) ≡ rows_at t downward unique
+of_found t downward unique o e = ap (λ r. few_or r (in_walk downward t.rows)) e
 
 -- rows between cuts are those between the edges that they are made from
 cut_rows : (columns : List ℕ) (low high : Option Cut) (rows : List (List Datum)) → cuts.rows_between columns low high rows ≡ rows_between columns (option_map cut_edge low) (option_map cut_edge high) rows
@@ -31,10 +41,10 @@ cut_rows columns None (Some h) rows = refl
 cut_rows columns (Some l) None rows = refl
 cut_rows columns (Some l) (Some h) rows = refl
 
-pub of_all : (t : Contents) (walk : Walk) (low high : Option Cut) (rows : List (List Datum)) → walk.key ≡ None → option_map cut_edge low ≡ walk.low → option_map cut_edge high ≡ walk.high
+pub of_all : (t : Contents) (walk : Walk) (low high : Option Cut) (rows : List (List Datum)) → walk.key ≡ None → walk.unique ≡ None → option_map cut_edge low ≡ walk.low → option_map cut_edge high ≡ walk.high
     → rows ≡ in_walk walk.downward (cuts.rows_between t.def.key low high t.rows) → rows ≡ rows_of t walk
-of_all t walk low high rows e l h f =
-    f ∙ ap (λ rs. in_walk walk.downward rs) (cut_rows t.def.key low high t.rows) ∙ (λ i. rows_from t walk.downward None (l i) (h i)) ∙ sym (ap (λ (k : Option (List Datum)). rows_from t walk.downward k walk.low walk.high) e)
+of_all t walk low high rows e u l h f =
+    f ∙ ap (λ rs. in_walk walk.downward rs) (cut_rows t.def.key low high t.rows) ∙ (λ i. rows_from t walk.downward None None (l i) (h i)) ∙ sym (λ i. rows_from t walk.downward (e i) (u i) walk.low walk.high)
 
 module _ (P : List Datum → Type 0) where
   all-reverse : (rows : List (List Datum)) → All P rows → All P (reverse rows)
@@ -59,14 +69,24 @@ module _ (P : List Datum → Type 0) where
   filter_all p [] h = All-nil P
   filter_all p (row ∷ rows) h = kept_all p row rows (p row) (All-head P row rows h) (filter_all p rows (All-tail P row rows h))
 
-from_fit : (t : Contents) (downward : Bool) (o : Option (List Datum)) (low high : Option Edge) → All (IsRow t.def) t.rows → All (IsRow t.def) (rows_from t downward o low high)
-from_fit t true None low high h =
-    all-reverse (IsRow t.def) (rows_between t.def.key low high t.rows) (filter_all (IsRow t.def) (λ row. lies_within low high (values_at t.def.key row)) t.rows h)
-from_fit t false None low high h = filter_all (IsRow t.def) (λ row. lies_within low high (values_at t.def.key row)) t.rows h
-from_fit t downward (Some key) low high h = find_all (IsRow t.def) (λ row. is_eq (row_order t.def.key key row)) t.rows h
+walk_all : (P : List Datum → Type 0) (downward : Bool) (rows : List (List Datum)) → All P rows → All P (in_walk downward rows)
+walk_all P true rows h = all-reverse P rows h
+walk_all P false rows h = h
+
+few_all : (P : List Datum → Type 0) (xs all : List (List Datum)) → All P xs → All P all → All P (few_or (few xs) all)
+few_all P [] all h g = h
+few_all P (row ∷ []) all h g = h
+few_all P (row ∷ other ∷ xs) all h g = g
+
+from_fit : (t : Contents) (downward : Bool) (o : Option (List Datum)) (u : Option Unique) (low high : Option Edge) → All (IsRow t.def) t.rows → All (IsRow t.def) (rows_from t downward o u low high)
+from_fit t downward None None low high h = walk_all (IsRow t.def) downward (rows_between t.def.key low high t.rows) (filter_all (IsRow t.def) (λ row. lies_within low high (values_at t.def.key row)) t.rows h)
+from_fit t downward None (Some u) low high h =
+    let columns : List ℕ = columns_in t.def.unique u.list in
+    few_all (IsRow t.def) (rows_with columns u.values t.rows) (in_walk downward t.rows) (filter_all (IsRow t.def) (λ row. equal_values u.values (values_at columns row)) t.rows h) (walk_all (IsRow t.def) downward t.rows h)
+from_fit t downward (Some key) u low high h = find_all (IsRow t.def) (λ row. is_eq (row_order t.def.key key row)) t.rows h
 
 pub coming_fit : (t : Contents) (walk : Walk) → IsTable t → All (IsRow t.def) (rows_of t walk)
-coming_fit t walk h = from_fit t walk.downward walk.key walk.low walk.high h.fit
+coming_fit t walk h = from_fit t walk.downward walk.key walk.unique walk.low walk.high h.fit
 
 -- ---- one row after another
 

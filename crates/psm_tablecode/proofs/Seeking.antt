@@ -11,7 +11,8 @@ use Rattle.psm_tablecode.specs.declared.asking.Aim.TheVariants.{Value}
 use Rattle.psm_tablecode.specs.declared.asking.Found.{Found}
 use Rattle.psm_tablecode.specs.declared.walking.Walk.{Walk}
 use Rattle.psm_tablecode.specs.Aims.{is_of_two, made_for, maker, of_four, of_three, seen, width}
-use Rattle.psm_tablecode.specs.Asked.{each_sought, key_asked, walk_by, with_first}
+use Rattle.psm_tablecode.specs.declared.walking.Unique.{Unique}
+use Rattle.psm_tablecode.specs.Asked.{each_of, each_sought, key_asked, unique_from, walk_by, with_first}
 use Rattle.psm_tablecode.specs.Bounds.{bounds_asked, bounds_by, bounds_of, bounds_with, end_of, high_sought, low_sought, of_range, Bounds, End}
 use Rattle.psm_tablecode.specs.Tests.{are_quiet, first_four, first_three, fixed, free, is_column, is_equality, made, made_equal, sought}
 use Rattle.psm_tablecode.proofs.Collecting.{first_of}
@@ -104,25 +105,15 @@ module _ (c : ℕ) (vars : List Datum) where
   pub value_none : (lines : List Line) (o : Option Found) → option_map seen o ≡ made_for Value c vars lines → o ≡ None → None ≡ sought c vars lines
   value_none lines o e i = sym (ap (λ (p : Option Found). option_map (λ (f : Found). f.value.now) p) i) ∙ value_sought lines o e
 
--- ---- the columns of a key
+-- ---- the values of some columns, one after another
 
-module _ (vars : List Datum) (lines : List Line) (columns : List ℕ) where
+module _ (value : ℕ → Option Datum) (columns : List ℕ) where
   -- with the values so far, those of the other columns are those of all
-  abbrev Seeks : ℕ → List Datum → Type 0
-  Seeks at done = option_map (λ ds. done ++ ds) (each_sought (drop at columns) vars lines) ≡ each_sought columns vars lines
+  abbrev pub Seeks : ℕ → List Datum → Type 0
+  Seeks at done = option_map (λ ds. done ++ ds) (each_of value (drop at columns)) ≡ each_of value columns
 
-  abbrev after_all : List Datum → Bounds → Bounds
-  after_all done b = bounds_with (done ++ b.firsts) b.low b.high
-
-  abbrev Bounded : ℕ → List Datum → Type 0
-  Bounded at done = bounds_of columns vars lines ≡ after_all done (bounds_of (drop at columns) vars lines)
-
-  pub record Asks (at : ℕ) (done : List Datum) : Type 0 where
-    pub key : Seeks at done
-    pub bounds : Bounded at done
-
-  pub seeks_first : (done : List Datum) → done ≡ [] → Asks 0 done
-  seeks_first done e = subst (λ d. Asks 0 d) (sym e) (record { key = same (each_sought columns vars lines); bounds = refl }) where
+  pub each_first : Seeks 0 []
+  each_first = same (each_of value columns) where
     same : (o : Option (List Datum)) → option_map (λ ds. [] ++ ds) o ≡ o
     same None = refl
     same (Some ds) = refl
@@ -132,26 +123,46 @@ module _ (vars : List Datum) (lines : List Line) (columns : List ℕ) where
   with_one done d (Some ds) = ap Some (append_assoc done (d ∷ []) ds)
 
   module _ (at c : ℕ) (l : at < length columns) (e : c ≡ get_or columns at c) where
-    rest_is : each_sought (drop at columns) vars lines ≡ with_first (sought c vars lines) (each_sought (drop (at + 1) columns) vars lines)
-    rest_is = ap (λ cs. each_sought cs vars lines) (first_of columns at c l e)
+    rest_is : each_of value (drop at columns) ≡ with_first (value c) (each_of value (drop (at + 1) columns))
+    rest_is = ap (each_of value) (first_of columns at c l e)
 
+    pub each_next : (d : Datum) (done : List Datum) → value c ≡ Some d → Seeks at done → Seeks (at + 1) (done ++ d ∷ [])
+    each_next d done s h =
+        with_one done d (each_of value (drop (at + 1) columns))
+        ∙ sym (ap (λ (o : Option (List Datum)). option_map (λ ds. done ++ ds) o) (rest_is ∙ ap (λ (o : Option Datum). with_first o (each_of value (drop (at + 1) columns))) s)) ∙ h
+
+    pub each_none : (done : List Datum) → value c ≡ None → Seeks at done → each_of value columns ≡ None
+    each_none done s h =
+        sym h ∙ ap (λ (o : Option (List Datum)). option_map (λ ds. done ++ ds) o) (rest_is ∙ ap (λ (o : Option Datum). with_first o (each_of value (drop (at + 1) columns))) s)
+
+  pub each_end : (done : List Datum) → Seeks (length columns) done → each_of value columns ≡ Some done
+  each_end done h = sym h ∙ ap (λ cs. option_map (λ ds. done ++ ds) (each_of value cs)) (drop-length columns) ∙ ap Some (append-nil done)
+
+-- ---- the columns of a key
+
+module _ (vars : List Datum) (lines : List Line) (columns : List ℕ) where
+  abbrev after_all : List Datum → Bounds → Bounds
+  after_all done b = bounds_with (done ++ b.firsts) b.low b.high
+
+  abbrev Bounded : ℕ → List Datum → Type 0
+  Bounded at done = bounds_of columns vars lines ≡ after_all done (bounds_of (drop at columns) vars lines)
+
+  pub record Asks (at : ℕ) (done : List Datum) : Type 0 where
+    pub key : Seeks (λ c. sought c vars lines) columns at done
+    pub bounds : Bounded at done
+
+  pub seeks_first : (done : List Datum) → done ≡ [] → Asks 0 done
+  seeks_first done e = subst (λ d. Asks 0 d) (sym e) (record { key = each_first (λ c. sought c vars lines) columns; bounds = refl })
+
+  module _ (at c : ℕ) (l : at < length columns) (e : c ≡ get_or columns at c) where
     bounds_are : bounds_of (drop at columns) vars lines ≡ bounds_by (sought c vars lines) (bounds_of (drop (at + 1) columns) vars lines) (of_range (low_sought c vars lines) (high_sought c vars lines))
     bounds_are = ap (λ cs. bounds_of cs vars lines) (first_of columns at c l e)
-
-    pub key_next : (d : Datum) (done : List Datum) → sought c vars lines ≡ Some d → Seeks at done → Seeks (at + 1) (done ++ d ∷ [])
-    key_next d done s h =
-        with_one done d (each_sought (drop (at + 1) columns) vars lines)
-        ∙ sym (ap (λ (o : Option (List Datum)). option_map (λ ds. done ++ ds) o) (rest_is ∙ ap (λ (o : Option Datum). with_first o (each_sought (drop (at + 1) columns) vars lines)) s)) ∙ h
 
     pub bounds_next : (d : Datum) (done : List Datum) → sought c vars lines ≡ Some d → Bounded at done → Bounded (at + 1) (done ++ d ∷ [])
     bounds_next d done s h =
         let more : Bounds = bounds_of (drop (at + 1) columns) vars lines in
         h ∙ ap (after_all done) (bounds_are ∙ ap (λ (o : Option Datum). bounds_by o more (of_range (low_sought c vars lines) (high_sought c vars lines))) s)
         ∙ ap (λ ds. bounds_with ds more.low more.high) (sym (append_assoc done (d ∷ []) more.firsts))
-
-    pub key_none : (done : List Datum) → sought c vars lines ≡ None → Seeks at done → each_sought columns vars lines ≡ None
-    key_none done s h =
-        sym h ∙ ap (λ (o : Option (List Datum)). option_map (λ ds. done ++ ds) o) (rest_is ∙ ap (λ (o : Option Datum). with_first o (each_sought (drop (at + 1) columns) vars lines)) s)
 
     pub bounds_none : (done : List Datum) → sought c vars lines ≡ None → Bounded at done → bounds_of columns vars lines ≡ bounds_with done (low_sought c vars lines) (high_sought c vars lines)
     bounds_none done s h =
@@ -160,19 +171,20 @@ module _ (vars : List Datum) (lines : List Line) (columns : List ℕ) where
         ∙ ap (λ ds. bounds_with ds (low_sought c vars lines) (high_sought c vars lines)) (append-nil done)
 
   pub seeks_next : (at c : ℕ) (d : Datum) (done more : List Datum) → at < length columns → c ≡ get_or columns at c → Some d ≡ sought c vars lines → more ≡ done ++ d ∷ [] → Asks at done → Asks (at + 1) more
-  seeks_next at c d done more l e s m h = subst (Asks (at + 1)) (sym m) (record { key = key_next at c l e d done (sym s) h.key; bounds = bounds_next at c l e d done (sym s) h.bounds })
+  seeks_next at c d done more l e s m h =
+      subst (Asks (at + 1)) (sym m) (record { key = each_next (λ c. sought c vars lines) columns at c l e d done (sym s) h.key; bounds = bounds_next at c l e d done (sym s) h.bounds })
 
-  pub seeks_none : (at c : ℕ) (done : List Datum) (low high : Option End) (downward : Bool) (walk : Walk) → at < length columns → c ≡ get_or columns at c → None ≡ sought c vars lines
-      → low ≡ low_sought c vars lines → high ≡ high_sought c vars lines → walk ≡ walk_by downward None (Some (bounds_with done low high)) → Asks at done
-      → walk ≡ walk_by downward (each_sought columns vars lines) (Some (bounds_of columns vars lines))
-  seeks_none at c done low high downward walk l e s p q w h =
-      w ∙ (λ i. walk_by downward (sym (key_none at c l e done (sym s) h.key) i) (Some (bounds_with done (p i) (q i))))
-      ∙ ap (λ b. walk_by downward (each_sought columns vars lines) (Some b)) (sym (bounds_none at c l e done (sym s) h.bounds))
+  pub seeks_none : (at c : ℕ) (done : List Datum) (downward : Bool) (lists : List (List ℕ)) (walk : Walk) → at < length columns → c ≡ get_or columns at c → None ≡ sought c vars lines
+      → walk ≡ walk_by downward None (unique_from 0 lists vars lines) (Some (bounds_with done (low_sought c vars lines) (high_sought c vars lines))) → Asks at done
+      → walk ≡ walk_by downward (each_sought columns vars lines) (unique_from 0 lists vars lines) (Some (bounds_of columns vars lines))
+  seeks_none at c done downward lists walk l e s w h =
+      w ∙ (λ i. walk_by downward (sym (each_none (λ c. sought c vars lines) columns at c l e done (sym s) h.key) i) (unique_from 0 lists vars lines) (Some (bounds_with done (low_sought c vars lines) (high_sought c vars lines))))
+      ∙ ap (λ b. walk_by downward (each_sought columns vars lines) (unique_from 0 lists vars lines) (Some b)) (sym (bounds_none at c l e done (sym s) h.bounds))
 
-  pub seeks_end : (done : List Datum) (downward : Bool) → Asks (length columns) done → walk_by downward (Some done) None ≡ walk_by downward (each_sought columns vars lines) (Some (bounds_of columns vars lines))
-  seeks_end done downward h =
-      let whole : each_sought columns vars lines ≡ Some done = sym h.key ∙ ap (λ cs. option_map (λ ds. done ++ ds) (each_sought cs vars lines)) (drop-length columns) ∙ ap Some (append-nil done) in
-      sym (ap (λ (o : Option (List Datum)). walk_by downward o (Some (bounds_of columns vars lines))) whole)
+  pub seeks_end : (done : List Datum) (downward : Bool) (lists : List (List ℕ)) → Asks (length columns) done
+      → walk_by downward (Some done) None None ≡ walk_by downward (each_sought columns vars lines) (unique_from 0 lists vars lines) (Some (bounds_of columns vars lines))
+  seeks_end done downward lists h =
+      sym (ap (λ (o : Option (List Datum)). walk_by downward o (unique_from 0 lists vars lines) (Some (bounds_of columns vars lines))) (each_end (λ c. sought c vars lines) columns done h.key))
 
 -- a key has a value for each of its columns
 longer : (n : ℕ) (o : Option Datum) (rest : Option (List Datum)) → IfSome rest (λ key. length key ≡ n) → IfSome (with_first o rest) (λ key. length key ≡ suc n)
@@ -180,9 +192,9 @@ longer n None rest h = tt
 longer n (Some d) None h = tt
 longer n (Some d) (Some ds) h = ap suc h
 
-each_long : (columns : List ℕ) (vars : List Datum) (lines : List Line) → IfSome (each_sought columns vars lines) (λ key. length key ≡ length columns)
-each_long [] vars lines = refl
-each_long (c ∷ columns) vars lines = longer (length columns) (sought c vars lines) (each_sought columns vars lines) (each_long columns vars lines)
+pub each_long : (value : ℕ → Option Datum) (columns : List ℕ) → IfSome (each_of value columns) (λ key. length key ≡ length columns)
+each_long value [] = refl
+each_long value (c ∷ columns) = longer (length columns) (value c) (each_of value columns) (each_long value columns)
 
 long_if : (b : Bool) (n : ℕ) (o : Option (List Datum)) → IfSome o (λ key. length key ≡ n) → IfSome (if b then o else None) (λ key. length key ≡ n)
 long_if true n o h = h
@@ -190,14 +202,14 @@ long_if false n o h = tt
 
 asked_long : (columns : List ℕ) (vars : List Datum) (test : Option (List Line)) → IfSome (key_asked columns vars test) (λ key. length key ≡ length columns)
 asked_long columns vars None = tt
-asked_long columns vars (Some lines) = long_if (are_quiet lines) (length columns) (each_sought columns vars lines) (each_long columns vars lines)
+asked_long columns vars (Some lines) = long_if (are_quiet lines) (length columns) (each_sought columns vars lines) (each_long (λ c. sought c vars lines) columns)
 
 pub asked_fits : (columns : List ℕ) (vars : List Datum) (test : Option (List Line)) (n : ℕ) → length columns ≡ n → IfSome (key_asked columns vars test) (λ key. length key ≡ n)
 asked_fits columns vars test n e = subst (λ m. IfSome (key_asked columns vars test) (λ key. length key ≡ m)) e (asked_long columns vars test)
 
-pub walk_fits : {E : Type 0} (columns : List ℕ) (downward : Bool) (vars : List Datum) (test : Option (List Line)) (n : ℕ) → length columns ≡ n → (r : Result Walk E)
-    → IfOk r (λ walk. walk ≡ walk_by downward (key_asked columns vars test) (bounds_asked columns vars test)) → IfOk r (λ walk. IfSome walk.key (λ key. length key ≡ n))
-walk_fits columns downward vars test n e (Ok walk) h =
+pub walk_fits : {E : Type 0} (columns : List ℕ) (downward : Bool) (vars : List Datum) (test : Option (List Line)) (unique : Option Unique) (n : ℕ) → length columns ≡ n → (r : Result Walk E)
+    → IfOk r (λ walk. walk ≡ walk_by downward (key_asked columns vars test) unique (bounds_asked columns vars test)) → IfOk r (λ walk. IfSome walk.key (λ key. length key ≡ n))
+walk_fits columns downward vars test unique n e (Ok walk) h =
     subst (λ (o : Option (List Datum)). IfSome o (λ key. length key ≡ n)) (sym (ap (λ (w : Walk). w.key) h))
     (asked_fits columns vars test n e)
-walk_fits columns downward vars test n e (Err f) h = tt
+walk_fits columns downward vars test unique n e (Err f) h = tt

@@ -134,7 +134,7 @@ module _ (row vars : List Datum) where
       let same : d ∷ ds ≡ key = cc in
       ap (key_order (x ∷ xs)) (sym same) ∙ ap (λ (o : Ordering). ordering_then o (key_order xs ds)) (f d refl) ∙ g ds refl
 
-  each_equal : (columns : List ℕ) (lines : List Line) (key : List Datum) → are_quiet lines ≡ true → Meets row vars 0 lines [] → each_sought columns vars lines ≡ Some key → row_order columns key row ≡ Equal
+  pub each_equal : (columns : List ℕ) (lines : List Line) (key : List Datum) → are_quiet lines ≡ true → Meets row vars 0 lines [] → each_sought columns vars lines ≡ Some key → row_order columns key row ≡ Equal
   each_equal [] lines key h m e = let same : [] ≡ key = cc in ap (key_order []) (sym same)
   each_equal (c ∷ columns) lines key h m e =
       each_by (slice_index_or row c Null) (values_at columns row) (sought c vars lines) (each_sought columns vars lines) key e

@@ -24,10 +24,14 @@ with_first None key = None
 with_first (Some d) None = None
 with_first (Some d) (Some key) = Some (d ∷ key)
 
--- those values of some columns, if there is one for each
+-- the values of some columns, if there is one for each
+abbrev pub each_of : (ℕ → Option Datum) → List ℕ → Option (List Datum)
+each_of value [] = Some []
+each_of value (c ∷ columns) = with_first (value c) (each_of value columns)
+
+-- those to which a test makes them equal
 abbrev pub each_sought : List ℕ → List Datum → List Line → Option (List Datum)
-each_sought [] vars lines = Some []
-each_sought (c ∷ columns) vars lines = with_first (sought c vars lines) (each_sought columns vars lines)
+each_sought columns vars lines = each_of (λ c. sought c vars lines) columns
 
 -- the key for which a test asks, of a table whose key is those columns
 abbrev pub key_asked : List ℕ → List Datum → Option (List Line) → Option (List Datum)
@@ -41,10 +45,9 @@ abbrev pub filled : Option Datum → Option Datum
 filled None = None
 filled (Some d) = if is_null d then None else Some d
 
--- the values of some columns, if there is one for each and none is null
+-- those to which a test makes some columns equal, if none is null
 abbrev pub each_filled : List ℕ → List Datum → List Line → Option (List Datum)
-each_filled [] vars lines = Some []
-each_filled (c ∷ columns) vars lines = with_first (filled (sought c vars lines)) (each_filled columns vars lines)
+each_filled columns vars lines = each_of (λ c. filled (sought c vars lines)) columns
 
 abbrev pub unique_with : ℕ → List Datum → Unique
 unique_with list values = record { list = list; values = values }

@@ -50,7 +50,14 @@ pub(crate) fn walk_asked(
         return Ok(over_all(downward));
     };
     if are_quiet(code.lines()) {
-        walk_sought(alloc, downward, def.key.items(), def.unique.items(), code.lines(), vars)
+        walk_sought(
+            alloc,
+            downward,
+            def.key.items(),
+            def.unique.items(),
+            code.lines(),
+            vars,
+        )
     } else {
         Ok(over_all(downward))
     }
@@ -121,9 +128,7 @@ fn walk_sought(
             Some(value) => firsts.push(value.copy(alloc)?)?,
             None => {
                 let firsts = firsts.as_slice();
-                return Ok(walk_without_key(
-                    alloc, downward, firsts, *column, lists, lines, vars,
-                )?);
+                return Ok(walk_without_key(alloc, downward, firsts, *column, lists, lines, vars)?);
             }
         }
     }
@@ -173,6 +178,7 @@ fn walk_to(downward: bool, unique: Unique) -> Walk
 }
 
 // The first list with a value for each of its columns.
+#[tactic(auto, using(crate::proofs::LookUps::unique_first, crate::proofs::LookUps::unique_some, crate::proofs::LookUps::unique_next, crate::proofs::LookUps::unique_end))]
 fn unique_sought(
     alloc: Global,
     lists: &[List<u32>],
@@ -212,12 +218,13 @@ fn one_filled(
 ) -> Result<Option<Key>, AllocError>
     ensures { IfOk result (λ values. values ≡ each_filled (column ∷ []) vars.now lines.now) }
 {
-    match filled(sought(column, lines, vars)) {
+    match filled(column, lines, vars) {
         Some(value) => Ok(Some(Key::of_parts(Parts::One([value.copy(alloc)?])))),
         None => Ok(None),
     }
 }
 
+#[tactic(auto, using(crate::proofs::LookUps::filled_first, crate::proofs::LookUps::filled_next, crate::proofs::LookUps::filled_none, crate::proofs::LookUps::filled_end))]
 fn many_filled(
     alloc: Global,
     columns: &[u32],
@@ -228,7 +235,7 @@ fn many_filled(
 {
     let mut values = Vec::new(alloc);
     for column in columns {
-        match filled(sought(*column, lines, vars)) {
+        match filled(*column, lines, vars) {
             Some(value) => values.push(value.copy(alloc)?)?,
             None => return Ok(None),
         }
@@ -236,11 +243,11 @@ fn many_filled(
     Ok(Some(Key::of(values)))
 }
 
-// The value, unless it is null.
-fn filled(value: Option<&Datum>) -> Option<&Datum>
-    ensures { option_copied result ≡ filled (option_copied value.entry) }
+// The first value to which the lines make a column equal, unless it is null.
+fn filled<'a>(column: u32, lines: &'a RawExpr, vars: &'a [Datum]) -> Option<&'a Datum>
+    ensures { option_copied result ≡ filled (asked.sought column vars.now lines.now) }
 {
-    match value {
+    match sought(column, lines, vars) {
         None | Some(Datum::Null) => None,
         Some(value) => Some(value),
     }

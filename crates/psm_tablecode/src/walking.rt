@@ -93,19 +93,21 @@ impl<'a> Coming<'a> {
         ensures fit { All (IsRow table.now.contents.def) (rows_of table.now.contents walk.now) }
     {
         ascends(table);
-        match (&walk.key, &walk.unique) {
-            (Some(key), _) => Coming::One(table.get(key)),
-            (None, Some(unique)) => Coming::found(table, walk.downward, unique),
-            (None, None) => Coming::All(table.rows_between(
-                cut_at(&walk.low),
-                cut_at(&walk.high),
-                walk.downward,
-            )),
+        match &walk.key {
+            Some(key) => Coming::One(table.get(key)),
+            None => match &walk.unique {
+                Some(unique) => Coming::found(table, unique, walk.downward),
+                None => Coming::All(table.rows_between(
+                    cut_at(&walk.low),
+                    cut_at(&walk.high),
+                    walk.downward,
+                )),
+            },
         }
     }
 
     // The row that a look-up finds, or all rows where it finds several.
-    fn found(table: &'a Table, downward: bool, unique: &Unique) -> Coming<'a>
+    fn found(table: &'a Table, unique: &Unique, downward: bool) -> Coming<'a>
         requires { IsLookUp table.now.contents.def.unique unique.now }
         ensures { rows_coming result ≡ rows_at table.now.contents downward unique.now }
     {

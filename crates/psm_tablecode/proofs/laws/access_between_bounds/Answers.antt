@@ -12,4 +12,4 @@ pub returns-clause-walk : goal.returns-clause-walk
 returns-clause-walk c = λ t downward test vars take. walked_within t vars take downward test
 
 pub returns-clause-rows : goal.returns-clause-rows
-returns-clause-rows c = λ t downward test vars bounds k b. rows_bounded t vars downward test bounds k b
+returns-clause-rows c = λ t downward test vars bounds k u b. rows_bounded t vars downward test bounds k u b
