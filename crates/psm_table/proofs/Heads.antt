@@ -42,6 +42,12 @@ module _ {V : Type 0} where
   head-insert [] (suc i) p l = absurd (omega arith)
   head-insert (x ∷ pairs) (suc i) p l = let e : nat_eq (suc i) 0 ≡ false = eqb-suc-zero i in rw e refl
 
+  -- a pair is written over another
+  pub head-write : (pairs : List (Pair V)) (i : ℕ) (p : Pair V) → i < length pairs → head_of (set pairs i p) ≡ (if nat_eq i 0 then number_of p.key else head_of pairs)
+  head-write [] i p l = absurd (omega arith)
+  head-write (x ∷ pairs) zero p l = refl
+  head-write (x ∷ pairs) (suc i) p l = let e : nat_eq (suc i) 0 ≡ false = eqb-suc-zero i in rw e refl
+
   pub head-append : (xs ys : List (Pair V)) → 0 < length xs → head_of (xs ++ ys) ≡ head_of xs
   head-append [] ys l = absurd (omega arith)
   head-append (x ∷ xs) ys l = refl

@@ -89,15 +89,17 @@ impl<V: Drop> Run<V> {
         }
     }
 
-    /// Puts a pair in, whose key the run doesn't have. It takes no memory.
+    /// Puts a pair in, in the place of that of its key if there is one. It takes no memory.
     pub(crate) fn insert(&mut self, key: Key, value: V)
-        requires room { length self.old < most_pairs }
-        requires absent { value_of key self.old ≡ None }
+        requires { length self.old < most_pairs }
         ensures pairs { self.new ≡ with_pair (record { key = key; value = value }) self.old }
-        ensures size { length self.new ≡ length self.old + 1 }
+        ensures some { 0 < length self.new }
     {
         match self.find(Probe::Of(key.values())) {
-            Ok(_) => {}
+            Ok(at) => {
+                self.head = head_with(self.head, at, &key);
+                self.pairs[at] = Pair { key, value };
+            }
             Err(at) => {
                 self.head = head_with(self.head, at, &key);
                 insert_reserved(&mut self.pairs, at, Pair { key, value });
