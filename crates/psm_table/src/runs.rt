@@ -22,11 +22,12 @@ pub(crate) fn locate<V: Drop>(runs: &[Run<V>], probe: Probe<'_>) -> usize
     ensures { 0 < length runs.now → IsIn (probe_key probe.entry) runs.now result }
 {
     let sought = probe.narrowed();
+    let leading = sought.leading_number();
     let mut low = 0;
     let mut high = runs.len();
     while low < high {
         let middle = low + (high - low) / 2;
-        if runs[middle].begins_above(sought) {
+        if runs[middle].begins_above(sought, &leading) {
             high = middle;
         } else {
             low = middle + 1;
@@ -42,11 +43,12 @@ pub(crate) fn locate_past<V: Drop>(runs: &[Run<V>], probe: Probe<'_>, is_behind:
     requires runs { All IsRun runs.now }
     ensures { 0 < length runs.now → IsTurn (λ p. is_past (probe_key probe.entry) is_behind p.key) runs.now result }
 {
+    let leading = probe.leading_number();
     let mut low = 0;
     let mut high = runs.len();
     while low < high {
         let middle = low + (high - low) / 2;
-        if runs[middle].begins_past(probe, is_behind) {
+        if runs[middle].begins_past(probe, &leading, is_behind) {
             high = middle;
         } else {
             low = middle + 1;
