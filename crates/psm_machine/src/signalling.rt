@@ -148,15 +148,24 @@ fn with_message(alloc: Global, run: &mut Run, entry: Entry) -> Result<Entry, Sto
 {
     let value = pop(run)?;
     let message = message_text(alloc, value)?;
-    Ok(Entry { message, ..entry })
+    Ok(carrying(entry, message))
 }
 
-fn message_text(alloc: Global, value: Datum) -> Result<Message, Stop>
+fn carrying(entry: Entry, message: Text) -> Entry
+    ensures { result ≡ record entry { message = message } }
+{
+    Entry {
+        message: Message::own(message),
+        ..entry
+    }
+}
+
+fn message_text(alloc: Global, value: Datum) -> Result<Text, Stop>
     ensures { Finds (message_text value) result }
 {
     match value {
-        Datum::Null => Ok(Message::own(spelled(alloc, "")?)),
+        Datum::Null => Ok(spelled(alloc, "")?),
         Datum::Num(_) => Err(Stop::Stuck),
-        Datum::Text(text) => Ok(Message::own(text)),
+        Datum::Text(text) => Ok(text),
     }
 }

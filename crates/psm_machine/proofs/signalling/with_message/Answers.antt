@@ -1,4 +1,5 @@
-use Rattle.std.proofs.Common.{refl}
+use Rattle.std.proofs.Common.{ap, sym}
+use Rattle.psm_code.specs.Steps.{got}
 use Rattle.psm_unwind.specs.View.{machine_of}
 use Rattle.psm_machine.proofs.ActSequences.{stopped}
 use Rattle.psm_machine.proofs.signalling.with_message.Goals as goal
@@ -12,4 +13,4 @@ returns-in_err-message-clause-due c = λ tables at.
     (stopped _ _ _ c.in_err-message.field-0.0 c.from_residual-in_err-message.result c.from_residual-in_err-message.ensures.1 (c.in_err-message.ensures (machine_of tables at c.pop.new.run)))
 
 pub returns-clause-due : goal.returns-clause-due
-returns-clause-due c = λ tables at. rw (c.in_ok-value.ensures.due tables at, c.in_ok-message.ensures (machine_of tables at c.pop.new.run)) refl
+returns-clause-due c = λ tables at. rw (c.in_ok-value.ensures.due tables at, c.in_ok-message.ensures (machine_of tables at c.pop.new.run)) (ap (λ e. got e (machine_of tables at c.pop.new.run)) (sym c.carrying.ensures))
