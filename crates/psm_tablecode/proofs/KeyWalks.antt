@@ -9,12 +9,12 @@ use Rattle.std.proofs.lemmas.List.{length-reverse}
 use Rattle.psm_sqlstate.specs.declared.state.SqlState.{SqlState}
 use Rattle.psm_value.specs.declared.datum.Datum.{Datum}
 use Rattle.psm_value.specs.declared.truth.Truth.{Truth}
-use Rattle.psm_value.specs.declared.truth.Truth.TheVariants.{True, False, Unknown}
+use Rattle.psm_value.specs.declared.truth.Truth.TheVariants.{True}
 use Rattle.psm_exprcode.specs.declared.op.Line.{Line}
-use Rattle.psm_table.specs.Evaluator.{and_then, mapped, test_of}
+use Rattle.psm_table.specs.Evaluator.{test_of}
 use Rattle.psm_table.specs.Key.{key_order, row_order, values_at}
 use Rattle.psm_table.specs.Matching.{few, rows_with}
-use Rattle.psm_table.specs.Queries.{in_walk, is_met, taken, walked}
+use Rattle.psm_table.specs.Queries.{in_walk, walked}
 use Rattle.psm_table.specs.Rows.{row_with, IsAscending}
 use Rattle.psm_table.specs.Table.{Contents}
 use Rattle.psm_table.specs.Unique.{equal_values}
@@ -29,9 +29,8 @@ use Rattle.psm_tablecode.specs.declared.walking.Edge.{Edge}
 use Rattle.psm_tablecode.specs.declared.walking.Unique.{Unique}
 use Rattle.psm_tablecode.specs.declared.walking.Walk.{Walk}
 use Rattle.psm_tablecode.proofs.EdgeLaws.{rows_all, rows_among}
-use Rattle.psm_tablecode.proofs.Ranges.{asked_by, walked_within}
+use Rattle.psm_tablecode.proofs.Ranges.{asked_by, walked-where, walked_within}
 use Rattle.psm_tablecode.proofs.Stepped.{filter-reverse}
-use Rattle.psm_tablecode.proofs.Results.{mapped-same}
 use Rattle.psm_tablecode.proofs.Sought.{asked_only, asked_quiet}
 use Rattle.psm_tablecode.proofs.UniqueWalks.{walked_at}
 
@@ -67,24 +66,9 @@ module _ (columns : List ℕ) (key : List Datum) where
 
   module _ {A : Type 0} (test : List Datum → Result Truth SqlState) (take : List Datum → Result A SqlState)
       (quiet : (row : List Datum) → (t : Truth) × (test row ≡ Ok t)) (only : (row : List Datum) → test row ≡ Ok True → row_order columns key row ≡ Equal) where
-    passed_over : (row : List Datum) (t : Truth) → test row ≡ Ok t → Has row ≡ false → taken test take row ≡ Ok None
-    passed_over row True e n = let has : Has row ≡ true = ap is_eq (only row e) in cc
-    passed_over row False e n = ap (λ (r : Result Truth SqlState). and_then r (λ met. if is_met met then mapped (λ a. Some a) (take row) else Ok None)) e
-    passed_over row Unknown e n = ap (λ (r : Result Truth SqlState). and_then r (λ met. if is_met met then mapped (λ a. Some a) (take row) else Ok None)) e
-
-    walked_first : (row : List Datum) (rows : List (List Datum)) (b : Bool) → Has row ≡ b → walked test take rows ≡ walked test take (filter Has rows)
-        → walked test take (row ∷ rows) ≡ walked test take (cond b (row ∷ filter Has rows) (filter Has rows))
-    walked_first row rows true e h = ap (λ w. and_then (taken test take row) (λ a. mapped (λ more. cons_option a more) w)) h
-    walked_first row rows false e h =
-        ap (λ (t : Result (Option A) SqlState). and_then t (λ a. mapped (λ more. cons_option a more) (walked test take rows))) (passed_over row (quiet row).0 (quiet row).1 e)
-        ∙ mapped-same (walked test take rows) ∙ h
-
-    walked-has : (rows : List (List Datum)) → walked test take rows ≡ walked test take (filter Has rows)
-    walked-has [] = refl
-    walked-has (row ∷ rows) = walked_first row rows (Has row) refl (walked-has rows)
-
     pub walked-key : (downward : Bool) (rows : List (List Datum)) → IsAscending columns rows → walked test take (cons_option (row_with columns key rows) []) ≡ walked test take (in_walk downward rows)
-    walked-key downward rows up = sym (walked-has (in_walk downward rows) ∙ ap (walked test take) (has-walk downward rows up))
+    walked-key downward rows up =
+        sym (walked-where Has test take quiet (λ row e. ap is_eq (only row e)) (in_walk downward rows) ∙ ap (walked test take) (has-walk downward rows up))
 
 -- ---- walks
 

@@ -1,5 +1,5 @@
 -- What a test asks of a UNIQUE list: values that aren't null, and the first list for whose columns it has them.
-use Rattle.std.proofs.Common.{◌≡◌, ℕ, zero, suc, ◌+◌, ◌<◌, Bool, true, false, ◌||◌, List, [], ◌∷◌, ◌++◌, length, drop, get_or, refl, ap, sym, subst, ◌∙◌, arith, Option, Some, None, Result, Ok, Err}
+use Rattle.std.proofs.Common.{◌≡◌, ℕ, suc, ◌+◌, ◌<◌, Bool, true, false, ◌||◌, List, [], ◌∷◌, ◌++◌, length, drop, get_or, refl, ap, sym, subst, ◌∙◌, arith, Option, Some, None, Result, Ok, Err}
 use Rattle.std.specs.Prelude.{IfOk, IfSome, if◌then◌else◌}
 use Rattle.std.proofs.Math.Seq.{drop-length}
 use Rattle.psm_value.specs.declared.datum.Datum.{Datum}
@@ -7,7 +7,7 @@ use Rattle.psm_exprcode.specs.declared.op.Line.{Line}
 use Rattle.psm_table.specs.Unique.{has_null, is_null}
 use Rattle.psm_tablecode.specs.declared.walking.Unique.{Unique}
 use Rattle.psm_tablecode.specs.declared.walking.Walk.{Walk}
-use Rattle.psm_tablecode.specs.Asked.{columns_in, each_filled, each_of, each_sought, filled, unique_asked, unique_by, unique_from, unique_or, unique_with, walk_by, with_first, IsLookUp}
+use Rattle.psm_tablecode.specs.Asked.{columns_in, each_filled, each_sought, filled, unique_asked, unique_by, unique_from, unique_or, unique_with, walk_by, with_first, IsLookUp}
 use Rattle.psm_tablecode.specs.Bounds.{Bounds}
 use Rattle.psm_tablecode.specs.Tests.{are_quiet, sought}
 use Rattle.psm_tablecode.proofs.Collecting.{first_of}

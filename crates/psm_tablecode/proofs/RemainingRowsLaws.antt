@@ -30,10 +30,6 @@ of_key t walk key o e f = ap (λ (r : Option (List Datum)). cons_option r []) f 
 pub of_unique : (t : Contents) (walk : Walk) (unique : Unique) (rows : List (List Datum)) → walk.key ≡ None → walk.unique ≡ Some unique → rows ≡ rows_at t walk.downward unique → rows ≡ rows_of t walk
 of_unique t walk unique rows e u f = f ∙ sym (λ i. rows_from t walk.downward (e i) (u i) walk.low walk.high)
 
-pub of_found : (t : Contents) (downward : Bool) (unique : Unique) (o : Option (List (List Datum))) → o ≡ few (rows_with (columns_in t.def.unique unique.list) unique.values t.rows)
-    → few_or o (in_walk downward t.rows) ≡ rows_at t downward unique
-of_found t downward unique o e = ap (λ r. few_or r (in_walk downward t.rows)) e
-
 -- rows between cuts are those between the edges that they are made from
 cut_rows : (columns : List ℕ) (low high : Option Cut) (rows : List (List Datum)) → cuts.rows_between columns low high rows ≡ rows_between columns (option_map cut_edge low) (option_map cut_edge high) rows
 cut_rows columns None None rows = refl

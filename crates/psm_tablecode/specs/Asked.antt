@@ -9,7 +9,6 @@ use Rattle.psm_table.specs.Matching.{few, rows_with}
 use Rattle.psm_table.specs.Queries.{in_walk}
 use Rattle.psm_table.specs.Table.{keyed, Contents}
 use Rattle.psm_table.specs.Unique.{has_null, is_null}
-use Rattle.psm_table.specs.declared.definition.TableDef.{TableDef}
 use Rattle.psm_tablecode.specs.declared.walking.Edge.{Edge}
 use Rattle.psm_tablecode.specs.declared.walking.Unique.{Unique}
 use Rattle.psm_tablecode.specs.declared.walking.Walk.{Walk}
