@@ -1,13 +1,13 @@
 -- What a test asks of a UNIQUE list: values that aren't null, and the first list for whose columns it has them.
 use Rattle.std.proofs.Common.{◌≡◌, ℕ, suc, ◌+◌, ◌<◌, Bool, true, false, ◌||◌, List, [], ◌∷◌, ◌++◌, length, drop, get_or, refl, ap, sym, subst, ◌∙◌, arith, Option, Some, None, Result, Ok, Err}
-use Rattle.std.specs.Prelude.{IfOk, IfSome, if◌then◌else◌}
+use Rattle.std.specs.Prelude.{nat_le, IfOk, IfSome, if◌then◌else◌}
 use Rattle.std.proofs.Math.Seq.{drop-length}
 use Rattle.psm_value.specs.declared.datum.Datum.{Datum}
 use Rattle.psm_exprcode.specs.declared.op.Line.{Line}
 use Rattle.psm_table.specs.Unique.{has_null, is_null}
 use Rattle.psm_tablecode.specs.declared.walking.Unique.{Unique}
 use Rattle.psm_tablecode.specs.declared.walking.Walk.{Walk}
-use Rattle.psm_tablecode.specs.Asked.{columns_in, each_filled, each_sought, filled, unique_asked, unique_by, unique_from, unique_or, unique_with, walk_by, with_first, IsLookUp}
+use Rattle.psm_tablecode.specs.Asked.{columns_in, each_filled, each_sought, filled, most_lists, unique_asked, unique_by, unique_from, unique_in, unique_or, unique_with, walk_by, with_first, IsLookUp}
 use Rattle.psm_tablecode.specs.Bounds.{Bounds}
 use Rattle.psm_tablecode.specs.Tests.{are_quiet, sought}
 use Rattle.psm_tablecode.proofs.Collecting.{first_of}
@@ -122,16 +122,21 @@ module _ (vars : List Datum) (lines : List Line) where
       long = long_of (columns_in lists unique.list) (each_filled (columns_in lists unique.list) vars lines) (each_long (λ c. filled (sought c vars lines)) (columns_in lists unique.list)) values_found;
     }
 
-pub quiet_by : (b : Bool) (o : Option Unique) (unique : Unique) → (if b then o else None) ≡ Some unique → (b ≡ true) × (o ≡ Some unique)
-quiet_by true o unique e = (refl, e)
-quiet_by false o unique e = absurd (cc)
+if_some : (b : Bool) (o : Option Unique) (unique : Unique) → (if b then o else None) ≡ Some unique → (b ≡ true) × (o ≡ Some unique)
+if_some true o unique e = (refl, e)
+if_some false o unique e = absurd (cc)
+
+pub asked_from : (lists : List (List ℕ)) (vars : List Datum) (lines : List Line) (unique : Unique) → unique_asked lists vars (Some lines) ≡ Some unique → (are_quiet lines ≡ true) × (unique_from 0 lists vars lines ≡ Some unique)
+asked_from lists vars lines unique e =
+    let quiet = if_some (are_quiet lines) (unique_in lists vars lines) unique e in
+    (quiet.0, (if_some (nat_le (length lists) most_lists) (unique_from 0 lists vars lines) unique quiet.1).1)
 
 -- ---- walks
 
 asked_looks : (lists : List (List ℕ)) (vars : List Datum) (test : Option (List Line)) (o : Option Unique) → unique_asked lists vars test ≡ o → IfSome o (IsLookUp lists)
 asked_looks lists vars test None e = tt
 asked_looks lists vars None (Some unique) e = absurd (cc)
-asked_looks lists vars (Some lines) (Some unique) e = looks_up vars lines lists unique (quiet_by (are_quiet lines) (unique_from 0 lists vars lines) unique e).1
+asked_looks lists vars (Some lines) (Some unique) e = looks_up vars lines lists unique (asked_from lists vars lines unique e).1
 
 walked_looks : (lists : List (List ℕ)) (key : Option (List Datum)) (o : Option Unique) → IfSome o (IsLookUp lists) → IfSome (unique_by key o) (IsLookUp lists)
 walked_looks lists None o h = h

@@ -12,7 +12,7 @@ use Rattle.psm_tablecode.specs.declared.asking.Found.{Found}
 use Rattle.psm_tablecode.specs.declared.walking.Walk.{Walk}
 use Rattle.psm_tablecode.specs.Aims.{is_of_two, made_for, maker, of_four, of_three, seen, width}
 use Rattle.psm_tablecode.specs.declared.walking.Unique.{Unique}
-use Rattle.psm_tablecode.specs.Asked.{each_of, each_sought, key_asked, unique_from, walk_by, with_first}
+use Rattle.psm_tablecode.specs.Asked.{each_of, each_sought, key_asked, unique_in, walk_by, with_first}
 use Rattle.psm_tablecode.specs.Bounds.{bounds_asked, bounds_by, bounds_of, bounds_with, end_of, high_sought, low_sought, of_range, Bounds, End}
 use Rattle.psm_tablecode.specs.Tests.{are_quiet, first_four, first_three, fixed, free, is_column, is_equality, made, made_equal, sought}
 use Rattle.psm_tablecode.proofs.Collecting.{first_of}
@@ -175,16 +175,16 @@ module _ (vars : List Datum) (lines : List Line) (columns : List ℕ) where
       subst (Asks (at + 1)) (sym m) (record { key = each_next (λ c. sought c vars lines) columns at c l e d done (sym s) h.key; bounds = bounds_next at c l e d done (sym s) h.bounds })
 
   pub seeks_none : (at c : ℕ) (done : List Datum) (downward : Bool) (lists : List (List ℕ)) (walk : Walk) → at < length columns → c ≡ get_or columns at c → None ≡ sought c vars lines
-      → walk ≡ walk_by downward None (unique_from 0 lists vars lines) (Some (bounds_with done (low_sought c vars lines) (high_sought c vars lines))) → Asks at done
-      → walk ≡ walk_by downward (each_sought columns vars lines) (unique_from 0 lists vars lines) (Some (bounds_of columns vars lines))
+      → walk ≡ walk_by downward None (unique_in lists vars lines) (Some (bounds_with done (low_sought c vars lines) (high_sought c vars lines))) → Asks at done
+      → walk ≡ walk_by downward (each_sought columns vars lines) (unique_in lists vars lines) (Some (bounds_of columns vars lines))
   seeks_none at c done downward lists walk l e s w h =
-      w ∙ (λ i. walk_by downward (sym (each_none (λ c. sought c vars lines) columns at c l e done (sym s) h.key) i) (unique_from 0 lists vars lines) (Some (bounds_with done (low_sought c vars lines) (high_sought c vars lines))))
-      ∙ ap (λ b. walk_by downward (each_sought columns vars lines) (unique_from 0 lists vars lines) (Some b)) (sym (bounds_none at c l e done (sym s) h.bounds))
+      w ∙ (λ i. walk_by downward (sym (each_none (λ c. sought c vars lines) columns at c l e done (sym s) h.key) i) (unique_in lists vars lines) (Some (bounds_with done (low_sought c vars lines) (high_sought c vars lines))))
+      ∙ ap (λ b. walk_by downward (each_sought columns vars lines) (unique_in lists vars lines) (Some b)) (sym (bounds_none at c l e done (sym s) h.bounds))
 
   pub seeks_end : (done : List Datum) (downward : Bool) (lists : List (List ℕ)) → Asks (length columns) done
-      → walk_by downward (Some done) None None ≡ walk_by downward (each_sought columns vars lines) (unique_from 0 lists vars lines) (Some (bounds_of columns vars lines))
+      → walk_by downward (Some done) None None ≡ walk_by downward (each_sought columns vars lines) (unique_in lists vars lines) (Some (bounds_of columns vars lines))
   seeks_end done downward lists h =
-      sym (ap (λ (o : Option (List Datum)). walk_by downward o (unique_from 0 lists vars lines) (Some (bounds_of columns vars lines))) (each_end (λ c. sought c vars lines) columns done h.key))
+      sym (ap (λ (o : Option (List Datum)). walk_by downward o (unique_in lists vars lines) (Some (bounds_of columns vars lines))) (each_end (λ c. sought c vars lines) columns done h.key))
 
 -- a key has a value for each of its columns
 longer : (n : ℕ) (o : Option Datum) (rest : Option (List Datum)) → IfSome rest (λ key. length key ≡ n) → IfSome (with_first o rest) (λ key. length key ≡ suc n)

@@ -25,7 +25,7 @@ use Rattle.psm_tablecode.specs.Asked.{columns_in, few_or, rows_at, unique_asked,
 use Rattle.psm_tablecode.specs.Codes.{over}
 use Rattle.psm_tablecode.specs.Tests.{are_quiet}
 use Rattle.psm_tablecode.proofs.Conjunctions.{raises_nothing}
-use Rattle.psm_tablecode.proofs.LookUps.{each_known, quiet_by, values_found}
+use Rattle.psm_tablecode.proofs.LookUps.{asked_from, each_known, values_found}
 use Rattle.psm_tablecode.proofs.Ranges.{walked-where}
 use Rattle.psm_tablecode.proofs.Sought.{each_equal, met_truth, quiet_truth}
 use Rattle.psm_tablecode.proofs.Stepped.{filter-reverse}
@@ -72,7 +72,7 @@ alike values xs ys e f =
 
 module _ (lists : List (List ℕ)) (vars : List Datum) (lines : List Line) (unique : Unique) (asks : unique_asked lists vars (Some lines) ≡ Some unique) where
   asked : (are_quiet lines ≡ true) × (unique_from 0 lists vars lines ≡ Some unique)
-  asked = quiet_by (are_quiet lines) (unique_from 0 lists vars lines) unique asks
+  asked = asked_from lists vars lines unique asks
 
   pub unique_quiet : (row : List Datum) → (t : Truth) × (test_of (over vars) (Some lines) row ≡ Ok t)
   unique_quiet row = quiet_truth row vars (evaluated lines row vars) (λ s e. raises_nothing row vars 0 lines [] s asked.0 e)

@@ -1,7 +1,7 @@
 -- The key for which a test asks: no predicate in it raises a condition, and it is true only where each column of the key is
 -- equal to a constant or a variable (ISO/IEC 9075:1992, 8.2 and 8.12). The same of a UNIQUE list (8.9). And the walk of a
 -- statement with a test.
-use Rattle.std.specs.Prelude.{◌≡◌, ◌<◌, Bool, false, ℕ, suc, List, [], ◌∷◌, length, slice_index_or, Option, Some, None, if◌then◌else◌}
+use Rattle.std.specs.Prelude.{◌≡◌, ◌<◌, Bool, false, ℕ, suc, List, [], ◌∷◌, length, nat_le, slice_index_or, Option, Some, None, if◌then◌else◌}
 use Rattle.std.specs.List.{cons_option}
 use Rattle.psm_value.specs.declared.datum.Datum.{Datum}
 use Rattle.psm_exprcode.specs.declared.op.Line.{Line}
@@ -60,10 +60,17 @@ abbrev pub unique_from : ℕ → List (List ℕ) → List Datum → List Line �
 unique_from list [] vars lines = None
 unique_from list (columns ∷ lists) vars lines = unique_or list (each_filled columns vars lines) (unique_from (suc list) lists vars lines)
 
+-- the most lists that are gone through: each costs a pass over the test, so that many would cost the square of a module file
+abbrev pub most_lists : ℕ
+most_lists = 256
+
+abbrev pub unique_in : List (List ℕ) → List Datum → List Line → Option Unique
+unique_in lists vars lines = if nat_le (length lists) most_lists then unique_from 0 lists vars lines else None
+
 -- the look-up for which a test asks, of a table with those UNIQUE lists
 abbrev pub unique_asked : List (List ℕ) → List Datum → Option (List Line) → Option Unique
 unique_asked lists vars None = None
-unique_asked lists vars (Some lines) = if are_quiet lines then unique_from 0 lists vars lines else None
+unique_asked lists vars (Some lines) = if are_quiet lines then unique_in lists vars lines else None
 
 -- the columns of a UNIQUE list of a table
 abbrev pub columns_in : List (List ℕ) → ℕ → List ℕ

@@ -3,7 +3,7 @@ ghost use Rattle.std.specs.Prelude.{◌≡◌, ◌+◌, ◌-◌, ◌≤◌, ◌<
 ghost use Rattle.std.specs.Option.{option_copied, option_map, option_or};
 ghost use Rattle.psm_tablecode.specs.Aims.{made_for, maker, of_four, of_three, of_two, seen};
 ghost use Rattle.psm_tablecode.specs.Aims as aims;
-ghost use Rattle.psm_tablecode.specs.Asked.{each_filled, each_sought, filled, key_asked, over_all, unique_asked, unique_from, walk_by};
+ghost use Rattle.psm_tablecode.specs.Asked.{each_filled, each_sought, filled, key_asked, over_all, unique_asked, unique_from, unique_in, walk_by};
 ghost use Rattle.psm_tablecode.specs.Bounds as bounds;
 ghost use Rattle.psm_tablecode.specs.Edges as edges;
 ghost use Rattle.psm_tablecode.specs.Tests as asked;
@@ -13,6 +13,9 @@ use psm_exprcode::{ExprCode, Op, RawExpr};
 use psm_table::{Key, List, Parts, TableDef};
 use psm_value::Datum;
 use std::alloc::{AllocError, Global};
+
+/// The most UNIQUE lists that are gone through for a test.
+const MOST_LISTS: usize = 256;
 
 /// What is looked for in a test: a value to which it makes a column equal, or an end of the range in which it has it, from
 /// a comparison with one value or from BETWEEN.
@@ -120,7 +123,7 @@ fn walk_sought(
     lines: &RawExpr,
     vars: &[Datum],
 ) -> Result<Walk, AllocError>
-    ensures { IfOk result (λ walk. walk ≡ walk_by downward (each_sought columns.now vars.now lines.now) (unique_from 0 lists.now vars.now lines.now) (Some (bounds.bounds_of columns.now vars.now lines.now))) }
+    ensures { IfOk result (λ walk. walk ≡ walk_by downward (each_sought columns.now vars.now lines.now) (unique_in lists.now vars.now lines.now) (Some (bounds.bounds_of columns.now vars.now lines.now))) }
 {
     let mut firsts = Vec::new(alloc);
     for column in columns {
@@ -151,7 +154,7 @@ fn walk_without_key(
     lines: &RawExpr,
     vars: &[Datum],
 ) -> Result<Walk, AllocError>
-    ensures { IfOk result (λ walk. walk ≡ walk_by downward None (unique_from 0 lists.now vars.now lines.now) (Some (bounds.bounds_with firsts.now (bounds.low_sought column vars.now lines.now) (bounds.high_sought column vars.now lines.now)))) }
+    ensures { IfOk result (λ walk. walk ≡ walk_by downward None (unique_in lists.now vars.now lines.now) (Some (bounds.bounds_with firsts.now (bounds.low_sought column vars.now lines.now) (bounds.high_sought column vars.now lines.now)))) }
 {
     match unique_sought(alloc, lists, lines, vars)? {
         Some(unique) => Ok(walk_to(downward, unique)),
@@ -177,9 +180,24 @@ fn walk_to(downward: bool, unique: Unique) -> Walk
     }
 }
 
-// The first list with a value for each of its columns.
-#[tactic(auto, using(crate::proofs::LookUps::unique_first, crate::proofs::LookUps::unique_some, crate::proofs::LookUps::unique_next, crate::proofs::LookUps::unique_end))]
+// The first list with a value for each of its columns, unless there are too many lists.
 fn unique_sought(
+    alloc: Global,
+    lists: &[List<u32>],
+    lines: &RawExpr,
+    vars: &[Datum],
+) -> Result<Option<Unique>, AllocError>
+    ensures { IfOk result (λ unique. unique ≡ unique_in lists.now vars.now lines.now) }
+{
+    if lists.len() <= MOST_LISTS {
+        first_filled(alloc, lists, lines, vars)
+    } else {
+        Ok(None)
+    }
+}
+
+#[tactic(auto, using(crate::proofs::LookUps::unique_first, crate::proofs::LookUps::unique_some, crate::proofs::LookUps::unique_next, crate::proofs::LookUps::unique_end))]
+fn first_filled(
     alloc: Global,
     lists: &[List<u32>],
     lines: &RawExpr,
