@@ -102,7 +102,6 @@ fn is_after(downward: bool, key: Option<&Key>, asked: &Key) -> bool
 
 // The same where the test asks for values in a UNIQUE list: the row that has them, if it is after the key and meets the test.
 // Where several have them, which is in the middle of a statement alone, it is the first of all rows after the key that does.
-#[tactic(auto, using(crate::proofs::UniqueMet::due_nothing, crate::proofs::UniqueMet::due_found))]
 fn met_by_unique<'a>(
     alloc: Global,
     table: &'a Table,
@@ -140,7 +139,7 @@ fn met_if_after<'a>(
     requires type_checks { TypeChecksTable query.now vars.now table.now.contents.def }
     requires fits { IsRow table.now.contents.def row.now }
     ensures row { Finds (first_met (test_of (over vars.now) query.now.test) (filter (lies_past table.now.contents.def.key query.now.downward (option_copied key.entry)) (row.now ∷ []))) result }
-    ensures same { IfOk result (λ o. IfSome o (λ r. r.now ≡ row.now)) }
+    ensures fits { IfOk result (λ o. IfSome o (λ r. IsRow table.now.contents.def r.now)) }
 {
     if !is_row_after(alloc, table, query.downward, key, row)? {
         return Ok(None);
