@@ -51,7 +51,8 @@ forbid psm_wellformed psm_tree psm_scope psm_store psm_io
 forbid psm_script_code psm_check_stmt psm_io psm_undostore
 forbid psm_session_simulation psm_tree psm_scope psm_machine psm_io
 forbid psm_code_session psm_store psm_undostore psm_io
-forbid psm_build psm_undostore psm_verify_line psm_verify
+forbid psm_faults psm_parse_file psm_resolve psm_codegen psm_store psm_io
+forbid psm_build psm_check_stmt psm_undostore psm_verify_line psm_verify
 # shellcheck disable=SC2086
 {
     # The program and its commands know arguments, files, stores and statuses: no token, value or tree, and none of the crates of

@@ -1,5 +1,5 @@
 -- The trees of a file's bytes, and why the bytes have none.
-use Rattle.std.specs.Prelude.{◌≡◌, ℕ, ◌⊎◌, List, Some, None, Ok, Err}
+use Rattle.std.specs.Prelude.{◌≡◌, ℕ, ◌⊎◌, List, Some, None, Result, Ok, Err}
 use Rattle.psm_token.specs.declared.fault.LexFault.{LexFault}
 use Rattle.psm_token.specs.declared.token.Placed.{Placed}
 use Rattle.psm_token.specs.Listed.{Tokens}
@@ -16,10 +16,10 @@ use Rattle.psm_rules.specs.FileFaults.{file_fault}
 use Rattle.psm_rules.specs.declared.fault.Fault.{Fault as RuleFault}
 use Rattle.psm_check_script.specs.Known.{Known}
 use Rattle.psm_check_script.specs.ScriptFaults.{script_fault}
-use Rattle.psm_build.specs.Reported.{reported_of_rule, reported_of_tokens, reported_of_tree}
-use Rattle.psm_build.specs.declared.fault.Fault.{Fault}
-use Rattle.psm_build.specs.declared.fault.BuildFault.{BuildFault}
-use Rattle.psm_build.specs.declared.fault.BuildFault.TheVariants.{Refused}
+use Rattle.psm_faults.specs.Reported.{reported_of_rule, reported_of_tokens, reported_of_tree}
+use Rattle.psm_faults.specs.declared.fault.Fault.{Fault}
+use Rattle.psm_faults.specs.declared.fault.BuildFault.{BuildFault}
+use Rattle.psm_faults.specs.declared.fault.BuildFault.TheVariants.{Refused, Memory}
 
 -- the tokens of module files, and of scripts, with their trees
 abbrev pub module_files : Lang Placed FileTree
@@ -69,6 +69,12 @@ pub record IsRuleFault (bytes : List ℕ) (reported : BuildFault) : Type 0 where
 -- no part of the tree has a fault
 abbrev pub IsAccepted : FileTree → Type 0
 IsAccepted tree = file_fault tree ≡ None
+
+-- the tree is accepted, or its first fault
+abbrev pub Accepts : FileTree → Result (Unit {0}) BuildFault → Type 0
+Accepts tree (Ok u) = IsAccepted tree
+Accepts tree (Err (Refused line column fault)) = BreaksRule tree (Refused line column fault)
+Accepts tree (Err Memory) = Unit {0}
 
 -- ---- the rules of a script, over what it may name
 

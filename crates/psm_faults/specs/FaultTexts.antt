@@ -1,10 +1,10 @@
 -- What is said of a file that is refused.
 use Rattle.std.specs.Prelude.{ℕ, List, [], codes}
 use Rattle.psm_rules.specs.Texts as rules
-use Rattle.psm_build.specs.declared.fault.Fault.{Fault}
-use Rattle.psm_build.specs.declared.fault.Fault.TheVariants.{BadUtf8, BadChar, OpenText, OpenName, LongText, LongNumber, LongName, ManyTokens, Syntax, Deep, Broken}
-use Rattle.psm_build.specs.declared.fault.BuildFault.{BuildFault}
-use Rattle.psm_build.specs.declared.fault.BuildFault.TheVariants.{Refused, Memory}
+use Rattle.psm_faults.specs.declared.fault.Fault.{Fault}
+use Rattle.psm_faults.specs.declared.fault.Fault.TheVariants.{BadUtf8, BadChar, OpenText, OpenName, LongText, LongNumber, LongName, ManyTokens, Syntax, Deep, Broken}
+use Rattle.psm_faults.specs.declared.fault.BuildFault.{BuildFault}
+use Rattle.psm_faults.specs.declared.fault.BuildFault.TheVariants.{Refused, Memory}
 
 -- what its fault is
 abbrev pub text_of : Fault → List ℕ

@@ -7,10 +7,10 @@ use Rattle.psm_tree.specs.declared.fault.ParseFault.TheVariants as parse
 use Rattle.psm_rules.specs.declared.fault.Fault.{Fault as RuleFault}
 use Rattle.psm_check_script.specs.declared.check.CheckFault.{CheckFault}
 use Rattle.psm_check_script.specs.declared.check.CheckFault.TheVariants as checks
-use Rattle.psm_build.specs.declared.fault.Fault.{Fault}
-use Rattle.psm_build.specs.declared.fault.Fault.TheVariants as faults
-use Rattle.psm_build.specs.declared.fault.BuildFault.{BuildFault}
-use Rattle.psm_build.specs.declared.fault.BuildFault.TheVariants.{Refused, Memory}
+use Rattle.psm_faults.specs.declared.fault.Fault.{Fault}
+use Rattle.psm_faults.specs.declared.fault.Fault.TheVariants as faults
+use Rattle.psm_faults.specs.declared.fault.BuildFault.{BuildFault}
+use Rattle.psm_faults.specs.declared.fault.BuildFault.TheVariants.{Refused, Memory}
 
 -- a fault at a place
 abbrev pub reported_at : Place → Fault → BuildFault

@@ -2,8 +2,8 @@
 ghost use Rattle.std.specs.Prelude.{◌≡◌};
 ghost use Rattle.psm_token.specs.FaultTexts as tokens;
 ghost use Rattle.psm_tree.specs.FaultTexts as trees;
-ghost use Rattle.psm_build.specs.FaultTexts.{text_of, refusal_text};
-ghost use Rattle.psm_build.specs.Reported.{reported_at, reported_of_rule, reported_of_script, reported_of_tokens, reported_of_tree};
+ghost use Rattle.psm_faults.specs.FaultTexts.{text_of, refusal_text};
+ghost use Rattle.psm_faults.specs.Reported.{reported_at, reported_of_rule, reported_of_script, reported_of_tokens, reported_of_tree};
 
 use psm_check_script::CheckFault;
 use psm_rules::{Fault as RuleFault, Rule};
@@ -85,7 +85,7 @@ impl Fault {
 }
 
 /// The refusal of a file whose tokens have that fault. Its text is theirs.
-pub(crate) fn refused_tokens(fault: LexFault) -> BuildFault
+pub fn refused_tokens(fault: LexFault) -> BuildFault
     ensures reported { result ≡ reported_of_tokens fault }
     ensures text { refusal_text result ≡ tokens.fault_text fault }
 {
@@ -103,7 +103,7 @@ pub(crate) fn refused_tokens(fault: LexFault) -> BuildFault
 }
 
 /// The refusal of a file whose tokens have no tree for that reason. Its text is that of the reason.
-pub(crate) fn refused_tree(fault: ParseFault) -> BuildFault
+pub fn refused_tree(fault: ParseFault) -> BuildFault
     ensures reported { result ≡ reported_of_tree fault }
     ensures text { refusal_text result ≡ trees.fault_text fault }
 {
@@ -122,7 +122,7 @@ pub(crate) fn refused_rule(fault: RuleFault) -> BuildFault
 }
 
 /// The refusal of a script that isn't accepted for that reason.
-pub(crate) fn refused_script(fault: CheckFault) -> BuildFault
+pub fn refused_script(fault: CheckFault) -> BuildFault
     ensures { result ≡ reported_of_script fault }
 {
     match fault {
