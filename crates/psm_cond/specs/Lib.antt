@@ -6,5 +6,6 @@ pub mod Handlers
 pub mod Index
 pub mod Item
 pub mod Keys
+pub mod Message
 pub mod Tables
 pub mod WellFormed

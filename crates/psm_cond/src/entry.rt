@@ -1,9 +1,9 @@
 //! What a condition tells of one SQLSTATE.
 ghost use Rattle.std.specs.Prelude.{◌≡◌, IfOk};
 ghost use Rattle.std.specs.Str.{IsAscii, chars};
-ghost use Rattle.psm_sqlstate.specs.Message.{message_of};
 ghost use Rattle.psm_cond.specs.Entry.{entry_of, name_text, without_own};
 
+use crate::message::Message;
 use psm_sqlstate::SqlState;
 use psm_text::{Name, Text};
 use std::alloc::{AllocError, Global};
@@ -16,7 +16,7 @@ pub struct Entry {
     pub own: Option<u32>,
     /// The name of the condition that was signalled.
     pub identifier: Text,
-    pub message: Text,
+    pub message: Message,
     pub table: Text,
     pub cursor: Text,
 }
@@ -30,7 +30,7 @@ impl Entry {
             state,
             own: None,
             identifier: ascii_text(alloc, "")?,
-            message: ascii_text(alloc, message(state))?,
+            message: Message::of_state(state),
             table: ascii_text(alloc, "")?,
             cursor: ascii_text(alloc, "")?,
         })
@@ -56,13 +56,6 @@ impl Entry {
     {
         Entry { own: None, ..self }
     }
-}
-
-fn message(state: SqlState) -> &'static str
-    ensures value { result.now ≡ message_of state }
-    ensures ascii { IsAscii result.now }
-{
-    state.message()
 }
 
 /// The text of ASCII characters.

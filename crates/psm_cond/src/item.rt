@@ -68,8 +68,8 @@ impl ConditionItem {
             ConditionItem::ConditionNumber => Ok(whole(number)),
             ConditionItem::ReturnedSqlstate => state_text(alloc, entry),
             ConditionItem::ConditionIdentifier => Ok(Datum::Text(entry.identifier.copy(alloc)?)),
-            ConditionItem::MessageText => Ok(Datum::Text(entry.message.copy(alloc)?)),
-            ConditionItem::MessageLength => Ok(whole(entry.message.len())),
+            ConditionItem::MessageText => Ok(Datum::Text(entry.message.text(alloc)?)),
+            ConditionItem::MessageLength => Ok(whole(entry.message.text(alloc)?.len())),
             ConditionItem::TableName => Ok(Datum::Text(entry.table.copy(alloc)?)),
             ConditionItem::CursorName => Ok(Datum::Text(entry.cursor.copy(alloc)?)),
         }

@@ -12,6 +12,7 @@ mod index;
 mod item;
 mod key;
 mod laws;
+mod message;
 
 pub use area::Area;
 pub use choice::choose;
@@ -23,3 +24,4 @@ pub use handlers::{
 };
 pub use item::{ConditionItem, DiagnosticsArea, StatementItem};
 pub use laws::{choice_is_innermost, choice_is_most_specific, scopes_go_outward};
+pub use message::Message;

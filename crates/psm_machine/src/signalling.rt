@@ -10,7 +10,7 @@ ghost use Rattle.psm_machine.specs.ActResults.{Does, Finds};
 use crate::operands::pop;
 use crate::stop::{Stop, stop_at, stop_with};
 use psm_code::RawRoutine;
-use psm_cond::{Condition, Declared, Entry};
+use psm_cond::{Condition, Declared, Entry, Message};
 use psm_sqlstate::SqlState;
 use psm_text::{Name, Text};
 use psm_unwind::{Run, activating};
@@ -151,12 +151,12 @@ fn with_message(alloc: Global, run: &mut Run, entry: Entry) -> Result<Entry, Sto
     Ok(Entry { message, ..entry })
 }
 
-fn message_text(alloc: Global, value: Datum) -> Result<Text, Stop>
+fn message_text(alloc: Global, value: Datum) -> Result<Message, Stop>
     ensures { Finds (message_text value) result }
 {
     match value {
-        Datum::Null => Ok(spelled(alloc, "")?),
+        Datum::Null => Ok(Message::own(spelled(alloc, "")?)),
         Datum::Num(_) => Err(Stop::Stuck),
-        Datum::Text(text) => Ok(text),
+        Datum::Text(text) => Ok(Message::own(text)),
     }
 }

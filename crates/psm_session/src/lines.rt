@@ -10,7 +10,7 @@ use psm_cond::{Condition, Entry};
 use psm_store::Row;
 use psm_text::Name;
 use psm_value::Datum;
-use std::alloc::AllocError;
+use std::alloc::{AllocError, Global};
 
 // ---- first and last lines
 
@@ -41,22 +41,26 @@ pub(crate) fn put_ok(out: &mut Vec<u8>) -> Result<(), AllocError>
 // ---- conditions
 
 /// A line for each entry of a condition.
-pub(crate) fn put_condition(out: &mut Vec<u8>, condition: &Condition) -> Result<(), AllocError>
+pub(crate) fn put_condition(
+    alloc: Global,
+    out: &mut Vec<u8>,
+    condition: &Condition,
+) -> Result<(), AllocError>
     ensures { OnOk result (out.new.items ≡ out.old.items ++ condition_lines condition.now) }
 {
-    put_entry(out, condition.first())?;
+    put_entry(alloc, out, condition.first())?;
     for entry in condition.others() {
-        put_entry(out, entry)?;
+        put_entry(alloc, out, entry)?;
     }
     Ok(())
 }
 
-fn put_entry(out: &mut Vec<u8>, entry: &Entry) -> Result<(), AllocError>
+fn put_entry(alloc: Global, out: &mut Vec<u8>, entry: &Entry) -> Result<(), AllocError>
     ensures { OnOk result (out.new.items ≡ out.old.items ++ entry_line entry.now) }
 {
     out.extend_from_slice(b"SQLSTATE ")?;
     out.extend_from_slice(entry.state.text().as_bytes())?;
-    put_message(out, entry.message.chars())?;
+    put_message(out, entry.message.text(alloc)?.chars())?;
     out.extend_from_slice(b"\n")?;
     Ok(())
 }

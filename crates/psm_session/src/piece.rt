@@ -27,11 +27,12 @@ pub(crate) fn piece_of_call(
 {
     let mut out = Vec::new(alloc);
     put_first_line(&mut out, number, "CALL ", routine.name.as_str())?;
-    put_end_lines(&mut out, routine.parameters.items(), ending)?;
+    put_end_lines(alloc, &mut out, routine.parameters.items(), ending)?;
     Ok(out)
 }
 
 fn put_end_lines(
+    alloc: Global,
     out: &mut Vec<u8>,
     parameters: &[Parameter],
     ending: &Ending,
@@ -43,7 +44,7 @@ fn put_end_lines(
             put_value_lines(out, parameters, values.get().items())?;
             put_ok(out)
         }
-        Ending::Raised(condition) => put_condition(out, condition.get()),
+        Ending::Raised(condition) => put_condition(alloc, out, condition.get()),
         Ending::NoTurns => {
             out.extend_from_slice(b"TURNS USED\n")?;
             Ok(())
@@ -93,7 +94,7 @@ pub(crate) fn put_state(alloc: Global, out: &mut Vec<u8>, state: SqlState) -> Re
     ensures { OnOk result (out.new.items ≡ out.old.items ++ condition_lines (of_state state)) }
 {
     let condition = Condition::raised(alloc, state)?;
-    put_condition(out, condition.get())
+    put_condition(alloc, out, condition.get())
 }
 
 /// The piece of another command: what it is, the name that it names, if any, and the condition that it raises, or OK.
@@ -110,7 +111,7 @@ pub(crate) fn piece_of(
     put_first_line(&mut out, number, word, name)?;
     match raised {
         None => put_ok(&mut out)?,
-        Some(condition) => put_condition(&mut out, condition)?,
+        Some(condition) => put_condition(alloc, &mut out, condition)?,
     }
     Ok(out)
 }

@@ -1,5 +1,5 @@
 -- The entries of a row in the sets of UNIQUE lists.
-use Rattle.std.proofs.Common.{◌≡◌, ℕ, zero, suc, ◌+◌, ◌<◌, ◌≤◌, List, [], ◌∷◌, ◌++◌, length, length-append, below_more, get_or, set, take, false, refl, ap, sym, subst, ◌∙◌, add-one, arith, Some, None}
+use Rattle.std.proofs.Common.{◌≡◌, ℕ, zero, suc, ◌+◌, ◌<◌, ◌≤◌, List, [], ◌∷◌, ◌++◌, length, length-append, below_more, get_or, set, take, true, false, refl, ap, sym, subst, ◌∙◌, add-one, arith, Some, None}
 use Rattle.std.specs.Prelude.{is_some, Option}
 use Rattle.std.specs.List.{AllZip}
 use Rattle.std.proofs.lemmas.List.{map-append, length-map, get_or_append_left, get_or-map, get_or_default, get_or-take}
@@ -167,11 +167,11 @@ put-none old new same = record {
 -- a set that was prepared for an entry
 pub prepared-room : (columns key : List ℕ) (row : List Datum) (m : Mapped (Unit {0})) (o : Option (List Datum)) → IsPrepared columns key row m o → HasRoom m o
 prepared-room columns key row m None h = tt
-prepared-room columns key row m (Some e) h = (h.1, h.2)
+prepared-room columns key row m (Some e) h = h.1
 
 has-put : (def : TableDef) (row : List Datum) (columns : List ℕ) (m new : Mapped (Unit {0})) (o : Option (List Datum)) → IsPrepared columns def.key row m o → IsPut m new o
     → HasEntry def row columns (keys_of new.pairs)
-has-put def row columns m new None p h null = h.grown (entry_of def columns row) (p null)
+has-put def row columns m new None p h null = absurd (let f : true ≡ false = sym p ∙ null in cc)
 has-put def row columns m new (Some e) p h null = ap (λ (k : List Datum). has_key (keys_of new.pairs) k) (sym p.0) ∙ h.there
 
 -- sets that were prepared for a row, and then have its entries

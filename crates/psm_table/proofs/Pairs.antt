@@ -1,9 +1,9 @@
 -- Pairs in ascending order of their keys: one that is found, put in or exchanged.
-use Rattle.std.proofs.Common.{◌≡◌, ℕ, zero, suc, ◌<◌, List, [], ◌∷◌, ◌++◌, length, get_or, set, drop, Bool, true, false, refl, ap, sym, subst, ◌∙◌, arith, Some, None}
-use Rattle.std.specs.Prelude.{All, Option, IsSome, option_map, insert, if◌then◌else◌}
+use Rattle.std.proofs.Common.{◌≡◌, ℕ, zero, suc, ◌<◌, add-one, List, [], ◌∷◌, ◌++◌, length, get_or, set, drop, Bool, true, false, refl, ap, sym, ◌∙◌, arith, Some, None}
+use Rattle.std.specs.Prelude.{All, option_map, insert, if◌then◌else◌}
 use Rattle.std.proofs.lemmas.List.Elements.{All-cons, All-tail, All-head}
 use Rattle.std.proofs.lemmas.List.Kept.{AllPairs-filter, AllPairs-cons}
-use Rattle.std.proofs.lemmas.List.{get_or-map, length-map}
+use Rattle.std.proofs.lemmas.List.{get_or-map, length-map, set_split}
 use Rattle.std.proofs.lemmas.Option.{slice_get-get_or}
 use Rattle.std.specs.declared.cmp.Ordering.TheVariants.{Less, Equal, Greater}
 use Rattle.std.specs.Ordering.{is_lt, is_gt, is_eq, ordering_reverse}
@@ -13,7 +13,7 @@ use Rattle.psm_table.specs.Key.{key_order}
 use Rattle.psm_table.specs.Map.{AreAscending, exchanged, keys_of, pair_with, pairs_above, pairs_below, value_of, with_pair, with_value}
 use Rattle.psm_table.specs.Place.{IsAt, IsGap}
 use Rattle.psm_table.proofs.KeyLaws.{key_order-total}
-use Rattle.psm_table.proofs.Filters.{filtered, find_passes, slice_get_some, AllPairs-first, AllPairs-rest, AllPairs-append, less_is, equal_is, greater_is}
+use Rattle.psm_table.proofs.Filters.{filtered, find_passes, AllPairs-first, AllPairs-rest, AllPairs-append, less_is, equal_is, greater_is}
 use Rattle.psm_table.proofs.Searches.{less_before_equal, greater_after_equal, greater_after_greater}
 
 module _ {V : Type 0} where
@@ -22,16 +22,6 @@ module _ {V : Type 0} where
 
   pub value_found : (key : List Datum) (pairs : List (Pair V)) (i : ℕ) (x : Pair V) → IsAt key pairs i → x ≡ get_or pairs i x → value_of key pairs ≡ Some x.value
   value_found key pairs i x at e = ap (option_map (λ (p : Pair V). p.value)) (at.has ∙ slice_get-get_or pairs i x at.inside ∙ ap Some (sym e))
-
-  some-map : (o : Option (Pair V)) → IsSome o → IsSome (option_map (λ (p : Pair V). p.value) o)
-  some-map None s = s
-  some-map (Some p) s = refl
-
-  pub value_some : (key : List Datum) (pairs : List (Pair V)) (i : ℕ) → IsAt key pairs i → IsSome (value_of key pairs)
-  value_some key pairs i at = some-map (pair_with key pairs) (subst IsSome (sym at.has) (slice_get_some pairs i at.inside))
-
-  pub value_absent : (key : List Datum) (pairs : List (Pair V)) (i : ℕ) → IsGap key pairs i → value_of key pairs ≡ None
-  value_absent key pairs i gap = ap (option_map (λ (p : Pair V). p.value)) gap.has
 
   -- the pairs after one that isn't less than the key are greater than it
   pub after_equal : (key : List Datum) (p : Pair V) (ps : List (Pair V)) → AreAscending (p ∷ ps) → key_order p.key key ≡ Equal → All (λ q. key_order q.key key ≡ Greater) ps
@@ -107,6 +97,10 @@ module _ {V : Type 0} where
   -- a pair that is inserted in its gap is put in
   pub inserted : (p : Pair V) (pairs : List (Pair V)) (i : ℕ) → IsGap p.key pairs i → insert pairs i p ≡ with_pair p pairs
   inserted p pairs i g = ap (λ a. a ++ p ∷ drop i pairs) g.before ∙ ap (λ b. pairs_below p.key pairs ++ p ∷ b) g.after
+
+  -- a pair that is written over that of its key
+  pub overwritten : (p : Pair V) (pairs : List (Pair V)) (i : ℕ) → IsAt p.key pairs i → set pairs i p ≡ with_pair p pairs
+  overwritten p pairs i at = set_split pairs i p at.inside ∙ ap (λ a. a ++ p ∷ drop (suc i) pairs) at.before ∙ ap (λ b. pairs_below p.key pairs ++ p ∷ b) (rw add-one at at.after)
 
   below : (key : List Datum) (pairs : List (Pair V)) → All (λ q. key_order q.key key ≡ Less) (pairs_below key pairs)
   below key pairs = filtered (λ (q : Pair V). is_lt (key_order q.key key)) (λ q. key_order q.key key ≡ Less) (λ q e. less_is (key_order q.key key) e) pairs

@@ -6,7 +6,7 @@ use Rattle.psm_table.specs.declared.definition.TableDef.{TableDef}
 use Rattle.psm_table.specs.declared.map.Pair.{Pair}
 use Rattle.psm_table.specs.Held.{row_of, IsEntered}
 use Rattle.psm_table.specs.Key.{values_at, key_order, AreColumnsOf}
-use Rattle.psm_table.specs.Map.{keys_of, prefix_order, value_of}
+use Rattle.psm_table.specs.Map.{keys_of, prefix_order}
 use Rattle.psm_table.specs.Mapped.{Mapped}
 use Rattle.psm_table.specs.State.{has_key}
 use Rattle.psm_table.specs.Unique.{equal_values, has_null, is_rival}
@@ -19,23 +19,22 @@ Grow old new = (k : ℕ) (d e : List (List Datum)) (key : List Datum) → k < le
 abbrev pub GrowByOne : List (List (List Datum)) → List (List (List Datum)) → Type 0
 GrowByOne old new = (k : ℕ) (d : List (List Datum)) → k < length old → length (slice_index_or new k d) ≤ length (slice_index_or old k d) + 1
 
--- the entry that a set needs of a row and doesn't have, for which it has memory; none if it has a null in the columns or
--- its entry is there
+-- the entry of a row, for which a set has memory; none if the row has a null in the columns
 abbrev pub IsPrepared : List ℕ → List ℕ → List Datum → Mapped (Unit {0}) → Option (List Datum) → Type 0
-IsPrepared columns key row index None = has_null (values_at columns row) ≡ false → has_key (keys_of index.pairs) (values_at columns row ++ values_at key row) ≡ true
-IsPrepared columns key row index (Some entry) = (entry ≡ values_at columns row ++ values_at key row) × (index.ready ≡ true) × (value_of entry index.pairs ≡ None)
+IsPrepared columns key row index None = has_null (values_at columns row) ≡ true
+IsPrepared columns key row index (Some entry) = (entry ≡ values_at columns row ++ values_at key row) × (index.ready ≡ true)
 
--- at the place of each set stands the entry that it needs of a row and doesn't have
+-- at the place of each set stands the entry of a row, unless it needs none
 pub record ArePrepared (def : TableDef) (columns : List (List ℕ)) (row : List Datum) (indexes : List (Mapped (Unit {0}))) (entries : List (Option (List Datum))) : Type 0 where
   pub lists : length entries ≡ length indexes
   pub each : (k : ℕ) (c : List ℕ) (m : Mapped (Unit {0})) (o : Option (List Datum)) → k < length indexes →
       IsPrepared (slice_index_or columns k c) def.key row (slice_index_or indexes k m) (slice_index_or entries k o)
 
--- a set has memory for an entry and lacks it, if there is one
+-- a set has memory for an entry, if there is one
 abbrev pub HasRoom : Mapped (Unit {0}) → Option (List Datum) → Type 0
-HasRoom index entry = IfSome entry (λ e. (index.ready ≡ true) × (value_of e index.pairs ≡ None))
+HasRoom index entry = IfSome entry (λ e. index.ready ≡ true)
 
--- each set has memory for the entry at its place and lacks it
+-- each set has memory for the entry at its place
 abbrev pub HaveRoom : List (Mapped (Unit {0})) → List (Option (List Datum)) → Type 0
 HaveRoom indexes entries = (k : ℕ) (m : Mapped (Unit {0})) (o : Option (List Datum)) → k < length indexes → HasRoom (slice_index_or indexes k m) (slice_index_or entries k o)
 

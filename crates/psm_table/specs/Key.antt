@@ -23,10 +23,9 @@ row_order columns key row = key_order (values_at columns row) key
 abbrev pub AreColumnsOf : List Datum → List ℕ → Type 0
 AreColumnsOf row columns = All (λ c. c < length row) columns
 
--- the number that is the whole key, if it is one
-abbrev pub number_of : List Datum → Option Number
-number_of [] = None
-number_of (Null ∷ vs) = None
-number_of (Num n ∷ []) = Some n
-number_of (Num n ∷ v ∷ vs) = None
-number_of (Text t ∷ vs) = None
+-- the number with which a key begins, if it begins with one
+abbrev pub leading_number : List Datum → Option Number
+leading_number [] = None
+leading_number (Null ∷ vs) = None
+leading_number (Num n ∷ vs) = Some n
+leading_number (Text t ∷ vs) = None

@@ -48,6 +48,6 @@ module _ {V : Type 0} where
   abbrev pub with_value : List Datum → V → List (Pair V) → List (Pair V)
   with_value key value pairs = map (exchanged key value) pairs
 
-  -- the pairs with one more, whose key they don't have
+  -- the pairs with one more, in the place of that of its key if there is one
   abbrev pub with_pair : Pair V → List (Pair V) → List (Pair V)
   with_pair p pairs = pairs_below p.key pairs ++ p ∷ pairs_above p.key pairs

@@ -4,7 +4,7 @@ use Rattle.std.specs.declared.cmp.Ordering.TheVariants.{Less, Greater}
 use Rattle.psm_value.specs.declared.datum.Datum.{Datum}
 use Rattle.psm_table.specs.declared.map.Pair.{Pair}
 use Rattle.psm_num.specs.Num.{Num}
-use Rattle.psm_table.specs.Key.{key_order, number_of}
+use Rattle.psm_table.specs.Key.{key_order, leading_number}
 
 -- a run has memory for n pairs
 abbrev pub most_pairs : ℕ
@@ -16,10 +16,10 @@ module _ {V : Type 0} where
   joined [] = []
   joined (r ∷ rs) = r ++ joined rs
 
-  -- the number that is the first pair's key, if it is one
+  -- the number with which the first pair's key begins, if it begins with one
   abbrev pub head_of : List (Pair V) → Option Num
   head_of [] = None
-  head_of (p ∷ ps) = number_of p.key
+  head_of (p ∷ ps) = leading_number p.key
 
   -- a run has a pair, and room for one more
   pub record IsRun (run : List (Pair V)) : Type 0 where

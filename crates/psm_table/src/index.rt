@@ -6,9 +6,8 @@ ghost use Rattle.psm_value.specs.declared.datum.Datum.TheVariants.{Null};
 ghost use Rattle.psm_table.specs.Held.{entries_of, live_rows, row_of, HasItsKey, IsEntered};
 ghost use Rattle.psm_table.specs.Index.{is_current, is_entry, rival_at, AreEntered, AreHarmless, ArePrepared, ArePut, Grow, GrowByOne, HasRoom, HaveKeys, HaveRoom, IsPrepared, IsPut};
 ghost use Rattle.psm_table.specs.Key.{values_at, AreColumnsOf};
-ghost use Rattle.psm_table.specs.Map.{keys_of, prefix_order, AreAscending};
+ghost use Rattle.psm_table.specs.Map.{prefix_order, AreAscending};
 ghost use Rattle.psm_table.specs.Rows.{IsAscending};
-ghost use Rattle.psm_table.specs.State.{has_key};
 ghost use Rattle.psm_table.specs.Unique.{agree, clashes, conflict, equal_value, has_null, is_null, is_rival};
 
 use crate::definition::TableDef;
@@ -20,7 +19,7 @@ use psm_list::List;
 use psm_value::Datum;
 use std::alloc::{AllocError, Global};
 
-/// Puts the entries of a row into the sets that don't have them. All memory is taken before the first is put in.
+/// Puts the entries of a row into the sets. All memory is taken before the first is put in.
 pub(crate) fn enter(
     alloc: Global,
     indexes: &mut Vec<OrderedMap<()>>,
@@ -41,7 +40,7 @@ pub(crate) fn enter(
     Ok(())
 }
 
-/// The entries of a row that the sets don't have, each at the place of its set, which then has memory for it.
+/// The entries of a row, each at the place of its set, which then has memory for it.
 fn prepare_all(
     alloc: Global,
     indexes: &mut Vec<OrderedMap<()>>,
@@ -64,7 +63,7 @@ fn prepare_all(
     Ok(entries)
 }
 
-/// The entry of a row, if the set needs it and doesn't have it. The set then has memory for it.
+/// The entry of a row, unless it has a null in the columns. The set then has memory for it.
 fn prepare(
     alloc: Global,
     index: &mut OrderedMap<()>,
@@ -77,9 +76,6 @@ fn prepare(
     ensures entry { IfOk result (IsPrepared columns.now key.now row.now index.new) }
 {
     if is_null_in(row, columns) {
-        return Ok(None);
-    }
-    if has_entry(index, columns, key, row) {
         return Ok(None);
     }
     let entry = Key::of_entry(alloc, columns, key, row)?;
@@ -99,7 +95,7 @@ fn put_all(indexes: &mut Vec<OrderedMap<()>>, mut entries: Vec<Option<Key>>)
     }
 }
 
-/// Puts an entry into a set, if there is one.
+/// Puts an entry into a set, if there is one. It takes the place of an equal one.
 fn put(index: &mut OrderedMap<()>, entry: Option<Key>)
     requires { HasRoom index.old entry }
     ensures { IsPut index.old index.new entry }
@@ -107,15 +103,6 @@ fn put(index: &mut OrderedMap<()>, entry: Option<Key>)
     if let Some(entry) = entry {
         index.insert(entry, ());
     }
-}
-
-/// Whether the entry of a row is there.
-fn has_entry(index: &OrderedMap<()>, columns: &[u32], key: &[u32], row: &[Datum]) -> bool
-    requires columns { has_null (values_at columns.now row.now) ≡ false }
-    requires key { AreColumnsOf row.now key.now }
-    ensures { result ≡ has_key (keys_of index.now.pairs) (values_at columns.now row.now ++ values_at key.now row.now) }
-{
-    index.get(Probe::Both { columns, key, row }).is_some()
 }
 
 /// Whether a row has a null in one of the columns. A column that it doesn't have counts as null.

@@ -1,5 +1,5 @@
 ghost use Rattle.std.specs.Prelude.{◌≡◌, ◌++◌, IfOk, OnOk};
-ghost use Rattle.psm_table.specs.Key.{key_order, number_of, values_at, AreColumnsOf};
+ghost use Rattle.psm_table.specs.Key.{key_order, leading_number, values_at, AreColumnsOf};
 ghost use Rattle.psm_table.specs.Parts.{values_of};
 ghost use Rattle.psm_table.specs.Place.{probe_key, FitsProbe};
 
@@ -100,12 +100,12 @@ impl Key {
 }
 
 impl Key {
-    /// The number that is the whole key, if it is one.
-    pub(crate) fn number(&self) -> Option<Dec>
-        ensures { result ≡ number_of self.now }
+    /// The number with which the key begins, if it begins with one.
+    pub(crate) fn leading_number(&self) -> Option<Dec>
+        ensures { result ≡ leading_number self.now }
     {
         match self.values() {
-            [Datum::Num(number)] => Some(*number),
+            [Datum::Num(number), ..] => Some(*number),
             _ => None,
         }
     }

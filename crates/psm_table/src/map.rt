@@ -96,10 +96,9 @@ impl<V: Drop> OrderedMap<V> {
         Ok(())
     }
 
-    /// Puts a pair in, whose key the map doesn't have.
+    /// Puts a pair in, in the place of that of its key if there is one. It searches once.
     pub(crate) fn insert(&mut self, key: Key, value: V)
-        requires ready { self.old.ready ≡ true }
-        requires absent { value_of key self.old.pairs ≡ None }
+        requires { self.old.ready ≡ true }
         ensures pairs { self.new.pairs ≡ with_pair (record { key = key; value = value }) self.old.pairs }
         ensures ordered { AreAscending self.new.pairs }
     {

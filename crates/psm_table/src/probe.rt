@@ -1,10 +1,11 @@
 //! Keys that are looked for, lent from a row or a list of values.
-ghost use Rattle.std.specs.Prelude.{◌≡◌, ◌<◌, ◌++◌, ◌∷◌, [], length, slice_index_or};
+ghost use Rattle.std.specs.Prelude.{◌≡◌, ◌<◌, ◌++◌, ◌∷◌, [], length, slice_get, slice_index_or};
+ghost use Rattle.std.specs.Option.{option_copied};
 ghost use Rattle.psm_value.specs.declared.datum.Datum.TheVariants.{Null};
 ghost use Rattle.psm_num.specs.Order.{order};
 ghost use Rattle.psm_value.specs.Order.{data_order};
 ghost use Rattle.psm_table.specs.Cuts.{is_past};
-ghost use Rattle.psm_table.specs.Key.{key_order};
+ghost use Rattle.psm_table.specs.Key.{key_order, leading_number};
 ghost use Rattle.psm_table.specs.Map.{prefix_order};
 ghost use Rattle.psm_table.specs.Place.{probe_key, FitsProbe};
 
@@ -88,6 +89,50 @@ impl<'a> Probe<'a> {
                     &row[key[i - columns.len()] as usize]
                 }
             }
+        }
+    }
+
+    /// The first value that is looked for, if there is one.
+    fn first(self) -> Option<&'a Datum>
+        requires { FitsProbe self }
+        ensures { option_copied result ≡ slice_get (probe_key self.entry) 0 }
+    {
+        match self {
+            Probe::One(value) => Some(value),
+            Probe::Two(value, _) => Some(value),
+            Probe::Of(values) => values.first(),
+            Probe::In {
+                columns: [column, ..],
+                row,
+            } => Some(&row[*column as usize]),
+            Probe::In { columns: [], .. } => None,
+            Probe::Both {
+                columns: [column, ..],
+                row,
+                ..
+            } => Some(&row[*column as usize]),
+            Probe::Both {
+                columns: [],
+                key: [column, ..],
+                row,
+            } => Some(&row[*column as usize]),
+            Probe::Both {
+                columns: [],
+                key: [],
+                ..
+            } => None,
+        }
+    }
+
+    /// The number with which what is looked for begins, if it begins with one.
+    #[tactic(auto, using(crate::proofs::Heads::leading_first))]
+    pub(crate) fn leading_number(self) -> Option<Dec>
+        requires { FitsProbe self }
+        ensures { result ≡ leading_number (probe_key self.entry) }
+    {
+        match self.first() {
+            Some(Datum::Num(number)) => Some(*number),
+            _ => None,
         }
     }
 

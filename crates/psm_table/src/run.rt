@@ -6,7 +6,7 @@ ghost use Rattle.std.specs.Option.{option_copied};
 ghost use Rattle.std.specs.Ordering.{is_gt};
 ghost use Rattle.psm_table.specs.Cuts.{is_past};
 ghost use Rattle.psm_table.specs.Held.{row_of};
-ghost use Rattle.psm_table.specs.Key.{key_order, number_of, values_at, AreColumnsOf};
+ghost use Rattle.psm_table.specs.Key.{key_order, leading_number, values_at, AreColumnsOf};
 ghost use Rattle.psm_table.specs.Map.{value_of, pairs_from, pairs_above, pairs_below, with_pair, with_value, AreAscending};
 ghost use Rattle.psm_table.specs.Place.{probe_key, FitsProbe, IsAt, IsGap};
 ghost use Rattle.psm_value.specs.declared.datum.Datum.{Datum};
@@ -19,7 +19,6 @@ use crate::map::{Copied, Pair, Test};
 use crate::probe::{Probe, is_past, order_of_numbers};
 use crate::row::Row;
 use psm_num::Dec;
-use psm_value::Datum;
 use std::alloc::{AllocError, Global};
 use std::cmp::Ordering;
 use std::marker::Model;
@@ -32,8 +31,8 @@ pub(crate) const MOST_PAIRS: usize = 64;
 #[derive(Drop)]
 pub(crate) struct Run<V> {
     pairs: Vec<Pair<V>>,
-    /// The number that is the first pair's key, if it is one. A search among runs compares it without a look at
-    /// the pairs, which lie elsewhere.
+    /// The number with which the first pair's key begins, if it begins with one. A search among runs compares it
+    /// without a look at the pairs, which lie elsewhere.
     head: Option<Dec>,
 }
 
@@ -89,15 +88,17 @@ impl<V: Drop> Run<V> {
         }
     }
 
-    /// Puts a pair in, whose key the run doesn't have. It takes no memory.
+    /// Puts a pair in, in the place of that of its key if there is one. It takes no memory.
     pub(crate) fn insert(&mut self, key: Key, value: V)
-        requires room { length self.old < most_pairs }
-        requires absent { value_of key self.old ≡ None }
+        requires { length self.old < most_pairs }
         ensures pairs { self.new ≡ with_pair (record { key = key; value = value }) self.old }
-        ensures size { length self.new ≡ length self.old + 1 }
+        ensures some { 0 < length self.new }
     {
         match self.find(Probe::Of(key.values())) {
-            Ok(_) => {}
+            Ok(at) => {
+                self.head = head_with(self.head, at, &key);
+                self.pairs[at] = Pair { key, value };
+            }
             Err(at) => {
                 self.head = head_with(self.head, at, &key);
                 insert_reserved(&mut self.pairs, at, Pair { key, value });
@@ -150,15 +151,19 @@ impl<V: Drop> Run<V> {
         self.pairs.last()
     }
 
-    /// Whether the first pair has a greater key.
-    pub(crate) fn begins_above(&self, probe: Probe<'_>) -> bool
-        requires { FitsProbe probe }
+    /// Whether the first pair has a greater key. Where the numbers differ with which both begin, these decide.
+    #[tactic(auto, using(crate::proofs::Heads::head_less, crate::proofs::Heads::head_greater))]
+    pub(crate) fn begins_above(&self, probe: Probe<'_>, leading: &Option<Dec>) -> bool
+        requires fits { FitsProbe probe }
+        requires leading { leading.now ≡ leading_number (probe_key probe) }
         ensures { result ≡ begins (λ p. is_gt (key_order p.key (probe_key probe.entry))) self.now }
     {
-        match (self.head, probe) {
-            (Some(first), Probe::One(Datum::Num(sought))) => order_of_numbers(
-                first, *sought,
-            ).is_gt(),
+        match (self.head, leading) {
+            (Some(first), Some(sought)) => match order_of_numbers(first, *sought) {
+                Ordering::Less => false,
+                Ordering::Greater => true,
+                Ordering::Equal => self.first_is_above(probe),
+            },
             _ => self.first_is_above(probe),
         }
     }
@@ -173,8 +178,30 @@ impl<V: Drop> Run<V> {
         }
     }
 
-    /// Whether the first pair's key is past a cut.
-    pub(crate) fn begins_past(&self, probe: Probe<'_>, is_behind: bool) -> bool
+    /// Whether the first pair's key is past a cut. Where the numbers differ with which both begin, these decide.
+    #[tactic(auto, using(crate::proofs::Heads::head_short, crate::proofs::Heads::head_past, crate::proofs::Heads::head_alone))]
+    pub(crate) fn begins_past(
+        &self,
+        probe: Probe<'_>,
+        leading: &Option<Dec>,
+        is_behind: bool,
+    ) -> bool
+        requires fits { FitsProbe probe }
+        requires leading { leading.now ≡ leading_number (probe_key probe) }
+        ensures { result ≡ begins (λ p. is_past (probe_key probe.entry) is_behind p.key) self.now }
+    {
+        match (self.head, leading) {
+            (Some(first), Some(sought)) => match order_of_numbers(first, *sought) {
+                Ordering::Less => false,
+                Ordering::Greater => true,
+                Ordering::Equal if probe.len() == 1 => !is_behind,
+                Ordering::Equal => self.first_is_past(probe, is_behind),
+            },
+            _ => self.first_is_past(probe, is_behind),
+        }
+    }
+
+    fn first_is_past(&self, probe: Probe<'_>, is_behind: bool) -> bool
         requires { FitsProbe probe }
         ensures { result ≡ begins (λ p. is_past (probe_key probe.entry) is_behind p.key) self.now }
     {
@@ -341,21 +368,21 @@ pub(crate) fn turn<V: Drop>(pairs: &[Pair<V>], probe: Probe<'_>, is_behind: bool
     low
 }
 
-/// The number that is the first pair's key, if it is one.
+/// The number with which the first pair's key begins, if it begins with one.
 fn head_of<V: Drop>(pairs: &[Pair<V>]) -> Option<Dec>
     ensures { result ≡ head_of pairs.now }
 {
     match pairs {
-        [first, ..] => first.key.number(),
+        [first, ..] => first.key.leading_number(),
         [] => None,
     }
 }
 
-/// The number that is the first pair's key, if it is one, once a pair is put in at a place.
+/// The number with which the first pair's key begins, once a pair is put in at a place or written over.
 fn head_with(head: Option<Dec>, at: usize, key: &Key) -> Option<Dec>
-    ensures { result ≡ (if nat_eq at 0 then number_of key.now else head) }
+    ensures { result ≡ (if nat_eq at 0 then leading_number key.now else head) }
 {
-    if at == 0 { key.number() } else { head }
+    if at == 0 { key.leading_number() } else { head }
 }
 
 /// Puts an item in at a place. It takes no memory.

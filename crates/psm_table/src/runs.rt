@@ -1,9 +1,9 @@
 //! Runs that follow one another, so that the pairs of all are in ascending order of their keys.
-ghost use Rattle.std.specs.Prelude.{◌≡◌, ◌+◌, ◌<◌, ◌≤◌, [], ◌∷◌, ◌++◌, length, take, drop, All, filter, slice_get, slice_index_or, IfSome, None};
+ghost use Rattle.std.specs.Prelude.{◌≡◌, ◌+◌, ◌<◌, ◌≤◌, [], ◌∷◌, ◌++◌, length, take, drop, All, filter, slice_get, slice_index_or, IfSome};
 ghost use Rattle.std.specs.Option.{option_copied};
 ghost use Rattle.std.specs.Vec.{vec_len, vec_capacity};
 ghost use Rattle.psm_table.specs.Cuts.{is_past};
-ghost use Rattle.psm_table.specs.Map.{value_of, with_pair, AreAscending};
+ghost use Rattle.psm_table.specs.Map.{with_pair, AreAscending};
 ghost use Rattle.psm_table.specs.Place.{probe_key, FitsProbe};
 ghost use Rattle.psm_table.specs.declared.map.Pair.{Pair};
 ghost use Rattle.psm_table.specs.Rows.{last_of};
@@ -22,11 +22,12 @@ pub(crate) fn locate<V: Drop>(runs: &[Run<V>], probe: Probe<'_>) -> usize
     ensures { 0 < length runs.now → IsIn (probe_key probe.entry) runs.now result }
 {
     let sought = probe.narrowed();
+    let leading = sought.leading_number();
     let mut low = 0;
     let mut high = runs.len();
     while low < high {
         let middle = low + (high - low) / 2;
-        if runs[middle].begins_above(sought) {
+        if runs[middle].begins_above(sought, &leading) {
             high = middle;
         } else {
             low = middle + 1;
@@ -42,11 +43,12 @@ pub(crate) fn locate_past<V: Drop>(runs: &[Run<V>], probe: Probe<'_>, is_behind:
     requires runs { All IsRun runs.now }
     ensures { 0 < length runs.now → IsTurn (λ p. is_past (probe_key probe.entry) is_behind p.key) runs.now result }
 {
+    let leading = probe.leading_number();
     let mut low = 0;
     let mut high = runs.len();
     while low < high {
         let middle = low + (high - low) / 2;
-        if runs[middle].begins_past(probe, is_behind) {
+        if runs[middle].begins_past(probe, &leading, is_behind) {
             high = middle;
         } else {
             low = middle + 1;
@@ -76,8 +78,8 @@ pub(crate) fn last_before<V: Drop>(runs: &[Run<V>], at: usize) -> Option<&Pair<V
     if at == 0 { None } else { runs[at - 1].last() }
 }
 
-/// Puts a pair in, whose key no run has. A run that is full then is cut in two, for which there is an empty run;
-/// that is given back if it isn't needed.
+/// Puts a pair in, in the place of that of its key if there is one. A run that is full then is cut in two, for which
+/// there is an empty run; that is given back if it isn't needed.
 pub(crate) fn put<V: Drop>(
     runs: &mut Vec<Run<V>>,
     spare: Run<V>,
@@ -88,7 +90,6 @@ pub(crate) fn put<V: Drop>(
     requires runs { All IsRun runs.old.items }
     requires room { vec_len runs.old < vec_capacity runs.old }
     requires empty { spare ≡ [] }
-    requires absent { value_of key (joined runs.old.items) ≡ None }
     ensures pairs { joined runs.new.items ≡ with_pair (record { key = key; value = value }) (joined runs.old.items) }
     ensures runs { All IsRun runs.new.items }
     ensures empty { IfSome result (λ r. r ≡ []) }

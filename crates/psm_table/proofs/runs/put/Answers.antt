@@ -1,18 +1,10 @@
-use Rattle.std.proofs.Common.{rules, ◌≡◌, ◌<◌, length, set, ap, sym, subst, ◌∙◌, arith}
+use Rattle.std.proofs.Common.{rules, ◌≡◌, ◌<◌, length, set, ap, sym, subst, ◌∙◌}
 use Rattle.std.proofs.lemmas.List.Elements.{All-set}
 use Rattle.psm_table.specs.declared.map.Pair.{Pair}
-use Rattle.psm_table.specs.Map.{value_of, with_pair}
+use Rattle.psm_table.specs.Map.{with_pair}
 use Rattle.psm_table.specs.Runs.{joined, most_pairs, IsIn, IsRun}
-use Rattle.psm_table.proofs.Joined.{value-in, with_pair-in, written}
+use Rattle.psm_table.proofs.Joined.{with_pair-in, written}
 use Rattle.psm_table.proofs.runs.put.Goals as goal
-
-pub insert-requires-clause-absent : goal.insert-requires-clause-absent
-insert-requires-clause-absent g c =
-    let some : 0 < length c.args.runs.now.items = search rules in
-    let here : IsIn c.args.key c.args.runs.now.items c.locate-at.result =
-    subst (λ k. IsIn k c.args.runs.now.items c.locate-at.result) c.values.ensures
-    (subst (λ l. IsIn c.values.result.now l c.locate-at.result) c.as_slice.ensures.value (c.locate-at.ensures (subst (λ l. 0 < length l) (sym c.as_slice.ensures.value) some))) in
-    ap (value_of c.args.key) c.index_mut.ensures.value ∙ sym (value-in c.args.key c.args.runs.now.items c.locate-at.result c.index_mut.result.now here) ∙ c.requires.absent
 
 pub returns-then-is_full-clause-pairs : goal.returns-then-is_full-clause-pairs
 returns-then-is_full-clause-pairs g c =
@@ -42,4 +34,4 @@ returns-clause-runs g c =
     subst (λ l. c.locate-at.result < length l) c.as_slice.ensures.value (c.locate-at.ensures (subst (λ l. 0 < length l) (sym c.as_slice.ensures.value) some)).inside in
     let x : c.index.result.now ≡ c.insert.new.self = written c.args.runs.now.items c.locate-at.result c.insert.new.self c.index.result.now inside c.index.ensures in
     All-set IsRun c.args.runs.now.items c.locate-at.result c.insert.new.self
-    (record { some = omega (arith, c.insert.ensures.size); room = subst (λ r. length r < most_pairs) x c.if-is_full.ensures.room }) c.requires.runs
+    (record { some = c.insert.ensures.some; room = subst (λ r. length r < most_pairs) x c.if-is_full.ensures.room }) c.requires.runs

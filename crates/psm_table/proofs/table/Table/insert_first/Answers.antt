@@ -21,13 +21,6 @@ pub returns-in_err-enter-clause-keeps : goal.returns-in_err-enter-clause-keeps
 returns-in_err-enter-clause-keeps g c =
     keeps-same c.args.self.now (state_of c.self.inside.def c.self.inside.lists.items c.reserve.new.self c.enter.new.indexes.items) (state-same c.self.inside.def c.self.inside.lists.items c.self.inside.rows c.reserve.new.self c.self.inside.indexes.items c.enter.new.indexes.items c.reserve.ensures.pairs c.in_err-enter.ensures.refused ∙ c.self.view_is)
 
-pub insert-requires-clause-absent : goal.insert-requires-clause-absent
-insert-requires-clause-absent g c =
-    let key : c.in_ok-key.key ≡ values_at c.self.inside.def.key c.args.row = c.in_ok-key.ensures ∙ ap (λ (k : List ℕ). values_at k c.args.row) c.items.ensures in
-    let absent : value_of (values_at c.self.inside.def.key c.args.row) c.self.inside.rows.pairs ≡ None =
-    none_there (values_at c.self.inside.def.key c.args.row) c.self.inside.rows.pairs (subst (λ (s : State). has_key s.places (values_at s.contents.def.key c.args.row) ≡ false) (sym c.self.view_is) c.requires.absent) in
-    ap (λ ps. value_of c.in_ok-key.key ps) c.reserve.ensures.pairs ∙ ap (λ k. value_of k c.self.inside.rows.pairs) key ∙ absent
-
 pub invariant_of-self-2 : goal.invariant_of-self-2
 invariant_of-self-2 g c =
     let fits : IsRow c.self.inside.def c.args.row = subst (λ (s : State). IsRow s.contents.def c.args.row) (sym c.self.view_is) c.requires.fits in
