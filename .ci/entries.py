@@ -18,7 +18,7 @@ def rules():
 
 def faults_of_files():
     """Returns the texts of the faults of tokens and of the grammar."""
-    found = re.findall(r'Fault::\w+(?:\([^)]*\))? => "([^"]+)"', read("crates/psm_build/src/fault.rt"))
+    found = re.findall(r'Fault::\w+(?:\([^)]*\))? => "([^"]+)"', read("crates/psm_faults/src/fault.rt"))
     return [it for it in found if not re.match(r"K\d\d", it)]
 
 

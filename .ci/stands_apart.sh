@@ -32,6 +32,7 @@ forbid psm_resolved psm_tree psm_scope psm_store
 for crate in psm_resolve_expr psm_declare psm_resolve; do forbid "$crate" psm_io psm_check_stmt psm_store psm_meaning; done
 forbid psm_declare psm_resolve psm_table
 forbid psm_check_script psm_check_stmt psm_resolve psm_store psm_io
+forbid psm_row_changes psm_exprcode psm_cond psm_tablecode psm_query psm_tree psm_io
 forbid psm_dml psm_query psm_tree
 forbid psm_checker_sound psm_codegen_wellformed psm_store psm_io
 forbid psm_typing psm_tree psm_code psm_store psm_io
@@ -50,7 +51,8 @@ forbid psm_wellformed psm_tree psm_scope psm_store psm_io
 forbid psm_script_code psm_check_stmt psm_io psm_undostore
 forbid psm_session_simulation psm_tree psm_scope psm_machine psm_io
 forbid psm_code_session psm_store psm_undostore psm_io
-forbid psm_build psm_undostore psm_verify_line psm_verify
+forbid psm_faults psm_parse_file psm_resolve psm_codegen psm_store psm_io
+forbid psm_build psm_check_stmt psm_undostore psm_verify_line psm_verify
 # shellcheck disable=SC2086
 {
     # The program and its commands know arguments, files, stores and statuses: no token, value or tree, and none of the crates of
@@ -58,7 +60,7 @@ forbid psm_build psm_undostore psm_verify_line psm_verify
     for crate in psm psm_commands; do
         forbid $crate psm_token psm_value psm_text psm_num psm_grammar psm_tree psm_resolved psm_machine $parsers
         forbid $crate psm_scope psm_rules psm_check_expr psm_symbols psm_check_stmt psm_check_script psm_resolve_expr psm_declare psm_resolve
-        forbid $crate psm_codegen psm_verify_line psm_verify psm_exprcode psm_tablecode psm_store psm_query psm_dml psm_cursor psm_unwind psm_script_code
+        forbid $crate psm_codegen psm_verify_line psm_verify psm_exprcode psm_tablecode psm_store psm_row_changes psm_query psm_dml psm_cursor psm_unwind psm_script_code
     done
     # A program without a compiler can stand on psm_files.
     forbid psm_files psm_build psm_token psm_grammar psm_tree psm_resolved $parsers

@@ -13,14 +13,14 @@ use Rattle.psm_check_script.specs.declared.check.CheckFault.{CheckFault}
 use Rattle.psm_check_script.specs.declared.check.CheckFault.TheVariants as checks
 use Rattle.psm_code.specs.declared.code.RawCode.{RawCode}
 use Rattle.psm_session.specs.declared.command.ScriptCode.{ScriptCode}
-use Rattle.psm_build.specs.Source.{module_files, scripts, IsTreeOf, IsAccepted, IsAcceptedScript}
-use Rattle.psm_build.specs.Reported.{reported_of_script}
+use Rattle.psm_faults.specs.Source.{module_files, scripts, IsTreeOf, IsAccepted, IsAcceptedScript}
+use Rattle.psm_faults.specs.Reported.{reported_of_script}
+use Rattle.psm_faults.specs.declared.fault.BuildFault.{BuildFault}
+use Rattle.psm_faults.specs.declared.fault.Fault.{Fault}
+use Rattle.psm_faults.specs.declared.fault.BuildFault.TheVariants.{Refused, Memory}
 use Rattle.psm_build.specs.Program.{IsModuleFault, IsModuleFile, IsScriptFault, IsScriptFile, StandsFor}
-use Rattle.psm_build.specs.Building.{ReadsTree, Accepts, Compiles, Builds, BuildsScript, BuildsOver, GivesRefusal}
+use Rattle.psm_build.specs.Building.{ReadsTree, Compiles, Builds, BuildsScript, BuildsOver, GivesRefusal}
 use Rattle.psm_build.specs.Outcome.{RunsOver}
-use Rattle.psm_build.specs.declared.fault.BuildFault.{BuildFault}
-use Rattle.psm_build.specs.declared.fault.Fault.{Fault}
-use Rattle.psm_build.specs.declared.fault.BuildFault.TheVariants.{Refused, Memory}
 use Rattle.psm_build.proofs.Compiled.{compiled_stands, fault_over, script_file_over}
 use Rattle.psm_build.proofs.Files.{module_exclusive, script_exclusive}
 use Rattle.psm_build.proofs.Scripts.{runs_over}

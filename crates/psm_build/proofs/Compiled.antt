@@ -14,10 +14,10 @@ use Rattle.psm_code.specs.declared.code.RawCode.{RawCode}
 use Rattle.psm_session.specs.declared.command.ScriptCommand.{ScriptCommand}
 use Rattle.psm_check_script.specs.Known.{Known, known_of}
 use Rattle.psm_script_code.proofs.Heads.{written_known}
-use Rattle.psm_build.specs.Source.{module_files, scripts, IsTreeOf, IsAccepted, IsAcceptedScript}
+use Rattle.psm_faults.specs.Source.{module_files, scripts, IsTreeOf, IsAccepted, IsAcceptedScript}
+use Rattle.psm_faults.specs.declared.fault.Fault.{Fault}
 use Rattle.psm_build.specs.Program.{IsScriptFile, IsScriptFault, IsScriptOf, StandsFor, known_over}
 use Rattle.psm_build.specs.Building.{Compiles}
-use Rattle.psm_build.specs.declared.fault.Fault.{Fault}
 use Rattle.psm_build.proofs.Files.{IsFaultOver}
 
 -- ---- the module

@@ -12,13 +12,13 @@ use Rattle.psm_check_script.specs.Checked.{script_of}
 use Rattle.psm_check_script.specs.Known.{Known}
 use Rattle.psm_check_script.specs.ScriptFaults.{script_fault}
 use Rattle.psm_script_code.specs.FileKnown.{known_of_file}
-use Rattle.psm_build.specs.Reported.{reported_of_rule}
-use Rattle.psm_build.specs.Source.{module_files, scripts, IsTreeOf, IsFaultAt, IsRuleFault, IsAccepted, IsAcceptedScript, IsScriptRuleFault}
+use Rattle.psm_faults.specs.Reported.{reported_of_rule}
+use Rattle.psm_faults.specs.Source.{module_files, scripts, IsTreeOf, IsFaultAt, IsRuleFault, IsAccepted, IsAcceptedScript, IsScriptRuleFault}
+use Rattle.psm_faults.specs.declared.fault.Fault.{Fault}
+use Rattle.psm_faults.specs.declared.fault.BuildFault.{BuildFault}
+use Rattle.psm_faults.specs.declared.fault.BuildFault.TheVariants.{Refused}
 use Rattle.psm_build.specs.Program.{IsModuleFile, IsModuleFault, IsScriptFile, IsScriptFault, EndsIn, known_over}
 use Rattle.psm_build.specs.Once.{Exclusive}
-use Rattle.psm_build.specs.declared.fault.Fault.{Fault}
-use Rattle.psm_build.specs.declared.fault.BuildFault.{BuildFault}
-use Rattle.psm_build.specs.declared.fault.BuildFault.TheVariants.{Refused}
 use Rattle.psm_build.proofs.Sources.{tree_once, tree_excludes, fault_once}
 
 -- ---- first faults

@@ -1,10 +1,10 @@
 -- Code that stands for a module file means what the file means.
 use Rattle.std.proofs.Common.{ℕ, List, sym, ◌∙◌, subst}
-use Rattle.psm_check_script.specs.Known.{Known, known_of}
+use Rattle.psm_check_script.specs.Known.{Known}
 use Rattle.psm_code.specs.declared.code.RawCode.{RawCode}
+use Rattle.psm_faults.specs.declared.fault.Fault.{Fault}
 use Rattle.psm_build.specs.ModuleCode.{IsScriptFaultOver, MeansModule}
 use Rattle.psm_build.specs.Program.{IsScriptFault, StandsFor}
-use Rattle.psm_build.specs.declared.fault.Fault.{Fault}
 use Rattle.psm_build.proofs.Compiled.{fault_over, known_over_code}
 use Rattle.psm_build.proofs.Files.{IsFaultOver, known_once}
 use Rattle.psm_build.proofs.Scripts.{runs_over}

@@ -10,10 +10,10 @@ use Rattle.psm_grammar.specs.Language.{Lang}
 use Rattle.psm_tree.specs.Reading.{ReadsAll}
 use Rattle.psm_tree.specs.declared.fault.ParseFault.{ParseFault}
 use Rattle.psm_tree.specs.declared.fault.ParseFault.TheVariants as parse
-use Rattle.psm_build.specs.Reported.{reported_of_tokens, reported_of_tree}
+use Rattle.psm_faults.specs.Reported.{reported_of_tokens, reported_of_tree}
+use Rattle.psm_faults.specs.declared.fault.BuildFault.{BuildFault}
+use Rattle.psm_faults.specs.declared.fault.BuildFault.TheVariants.{Refused, Memory}
 use Rattle.psm_build.specs.Building.{ReadsTokens, ReadsTree}
-use Rattle.psm_build.specs.declared.fault.BuildFault.{BuildFault}
-use Rattle.psm_build.specs.declared.fault.BuildFault.TheVariants.{Refused, Memory}
 
 pub tokens_refused : (bytes : List ℕ) (fault : LexFault) → OrMemory fault (IsFirstFault bytes fault) → ReadsTokens bytes (Err (reported_of_tokens fault))
 tokens_refused bytes (lex.BadUtf8 p) h = record { fault = lex.BadUtf8 p; first = h; reported_is = refl }

@@ -12,10 +12,10 @@ use Rattle.psm_tree.specs.declared.fault.ParseFault.{ParseFault}
 use Rattle.psm_tree.specs.declared.fault.ParseFault.TheVariants as parse
 use Rattle.psm_tree.proofs.ExprFits.{after}
 use Rattle.psm_parse_file.proofs.Once as once
-use Rattle.psm_build.specs.Reported.{reported_of_tokens, reported_of_tree}
-use Rattle.psm_build.specs.Source.{IsTreeOf, IsTreeFault, IsFaultAt}
-use Rattle.psm_build.specs.declared.fault.Fault.{Fault}
-use Rattle.psm_build.specs.declared.fault.BuildFault.TheVariants.{Refused, Memory}
+use Rattle.psm_faults.specs.Reported.{reported_of_tokens, reported_of_tree}
+use Rattle.psm_faults.specs.Source.{IsTreeOf, IsTreeFault, IsFaultAt}
+use Rattle.psm_faults.specs.declared.fault.Fault.{Fault}
+use Rattle.psm_faults.specs.declared.fault.BuildFault.TheVariants.{Refused, Memory}
 
 refused_not_memory : (line column : ℕ) (fault : Fault) → Memory ≡ Refused line column fault → ⊥
 refused_not_memory line column fault e = cc

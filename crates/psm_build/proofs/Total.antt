@@ -22,11 +22,11 @@ use Rattle.psm_rules.specs.FileFaults.{file_fault}
 use Rattle.psm_rules.specs.declared.fault.Fault.{Fault as RuleFault}
 use Rattle.psm_check_script.specs.Known.{Known}
 use Rattle.psm_check_script.specs.ScriptFaults.{script_fault}
-use Rattle.psm_build.specs.Source.{module_files, scripts, IsTreeOf, IsTokenFault, IsTreeFault, IsFaultAt, IsRuleFault, IsAccepted, IsAcceptedScript, IsScriptRuleFault}
+use Rattle.psm_faults.specs.Source.{module_files, scripts, IsTreeOf, IsTokenFault, IsTreeFault, IsFaultAt, IsRuleFault, IsAccepted, IsAcceptedScript, IsScriptRuleFault}
+use Rattle.psm_faults.specs.declared.fault.Fault.TheVariants as faults
+use Rattle.psm_faults.specs.declared.fault.BuildFault.TheVariants.{Refused}
 use Rattle.psm_build.specs.Program.{IsModuleFile, IsModuleFault, IsScriptFile, IsScriptFault, known_over}
 use Rattle.psm_build.specs.Once.{HasFault, Total}
-use Rattle.psm_build.specs.declared.fault.Fault.TheVariants as faults
-use Rattle.psm_build.specs.declared.fault.BuildFault.TheVariants.{Refused}
 
 -- ---- tokens and trees
 

@@ -13,11 +13,11 @@ use Rattle.psm_codegen.specs.Standing.{CanStand}
 use Rattle.psm_check_script.specs.Known.{known_of}
 use Rattle.psm_code.specs.declared.code.RawCode.{RawCode}
 use Rattle.psm_session.specs.declared.command.ScriptCode.{ScriptCode}
-use Rattle.psm_build.specs.Source.{scripts, IsTreeOf, IsTokenFault, IsFaultAt, IsAccepted, BreaksRule, IsScriptRuleFault}
+use Rattle.psm_faults.specs.Source.{scripts, IsTreeOf, IsTokenFault, IsFaultAt, IsScriptRuleFault}
+use Rattle.psm_faults.specs.declared.fault.BuildFault.{BuildFault}
+use Rattle.psm_faults.specs.declared.fault.Fault.{Fault}
+use Rattle.psm_faults.specs.declared.fault.BuildFault.TheVariants.{Refused, Memory}
 use Rattle.psm_build.specs.Program.{IsModuleFault, IsScriptFault, IsScriptFile, IsScriptOf, StandsFor}
-use Rattle.psm_build.specs.declared.fault.BuildFault.{BuildFault}
-use Rattle.psm_build.specs.declared.fault.Fault.{Fault}
-use Rattle.psm_build.specs.declared.fault.BuildFault.TheVariants.{Refused, Memory}
 
 -- ---- tokens and trees
 
@@ -32,12 +32,6 @@ abbrev pub ReadsTree : {Y : Type 0} → Lang Placed Y → List ℕ → Result Y 
 ReadsTree L bytes (Ok tree) = IsTreeOf L bytes tree
 ReadsTree L bytes (Err (Refused line column fault)) = IsFaultAt L bytes line column fault
 ReadsTree L bytes (Err Memory) = Unit {0}
-
--- the tree is accepted, or its first fault
-abbrev pub Accepts : FileTree → Result (Unit {0}) BuildFault → Type 0
-Accepts tree (Ok u) = IsAccepted tree
-Accepts tree (Err (Refused line column fault)) = BreaksRule tree (Refused line column fault)
-Accepts tree (Err Memory) = Unit {0}
 
 -- ---- the module
 

@@ -1,6 +1,3 @@
-pub mod Reported
-pub mod FaultTexts
-pub mod Source
 pub mod Program
 pub mod ModuleCode
 pub mod Once

@@ -3,11 +3,11 @@ use Rattle.std.specs.Prelude.{◌≡◌, ℕ, ◌⊎◌, List}
 use Rattle.psm_check_script.specs.Known.{known_of}
 use Rattle.psm_code.specs.declared.code.RawCode.{RawCode}
 use Rattle.psm_session.specs.declared.command.ScriptCommand.{ScriptCommand}
+use Rattle.psm_faults.specs.Source.{scripts, IsFaultAt, IsScriptRuleFault}
+use Rattle.psm_faults.specs.declared.fault.Fault.{Fault}
+use Rattle.psm_faults.specs.declared.fault.BuildFault.TheVariants.{Refused}
 use Rattle.psm_build.specs.Outcome.{RunsOver}
 use Rattle.psm_build.specs.Program.{IsModuleFile, IsScriptFault, IsScriptOf, known_over}
-use Rattle.psm_build.specs.Source.{scripts, IsFaultAt, IsScriptRuleFault}
-use Rattle.psm_build.specs.declared.fault.Fault.{Fault}
-use Rattle.psm_build.specs.declared.fault.BuildFault.TheVariants.{Refused}
 
 -- the first fault of the bytes as a script over the code is that one, at that line and column
 abbrev pub IsScriptFaultOver : RawCode → List ℕ → ℕ → ℕ → Fault → Type 0

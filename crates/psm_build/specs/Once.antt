@@ -2,8 +2,8 @@
 use Rattle.std.specs.Prelude.{◌≡◌, ℕ, ◌⊎◌}
 use Rattle.psm_meaning.specs.Acts.{NoTurns, OutOfFuel, Stuck}
 use Rattle.psm_meaning.specs.Session.{End, Cut, Done}
-use Rattle.psm_build.specs.declared.fault.Fault.{Fault}
-use Rattle.psm_build.specs.declared.fault.BuildFault.TheVariants.{Refused}
+use Rattle.psm_faults.specs.declared.fault.Fault.{Fault}
+use Rattle.psm_faults.specs.declared.fault.BuildFault.TheVariants.{Refused}
 
 -- what is a file has no fault, and what has a fault has one, at one line and column
 pub record Exclusive (IsFile : Type 0) (IsFault : ℕ → ℕ → Fault → Type 0) : Type 0 where

@@ -18,9 +18,9 @@ use Rattle.psm_check_script.specs.Known.{Known, known_of}
 use Rattle.psm_session.specs.declared.command.ScriptCommand.{ScriptCommand}
 use Rattle.psm_script_code.specs.FileKnown.{known_of_file}
 use Rattle.psm_script_code.specs.Made.{CommandsMade}
-use Rattle.psm_build.specs.Source.{module_files, scripts, IsTreeOf, IsFaultAt, IsRuleFault, IsAccepted, IsAcceptedScript, IsScriptRuleFault}
-use Rattle.psm_build.specs.declared.fault.Fault.{Fault}
-use Rattle.psm_build.specs.declared.fault.BuildFault.TheVariants.{Refused}
+use Rattle.psm_faults.specs.Source.{module_files, scripts, IsTreeOf, IsFaultAt, IsRuleFault, IsAccepted, IsAcceptedScript, IsScriptRuleFault}
+use Rattle.psm_faults.specs.declared.fault.Fault.{Fault}
+use Rattle.psm_faults.specs.declared.fault.BuildFault.TheVariants.{Refused}
 
 -- ---- a module file
 

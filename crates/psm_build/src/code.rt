@@ -1,16 +1,15 @@
 //! Code of a module file, and scripts over it.
 ghost use Rattle.std.specs.Prelude.{◌<◌, ℕ, List as Seq, length, IfOk, IsOkUnless};
+ghost use Rattle.psm_faults.specs.declared.fault.Fault.{Fault as FirstFault};
 ghost use Rattle.psm_build.specs.Program.{IsModuleFault, IsModuleFile, IsScriptFault, IsScriptFile, StandsFor};
 ghost use Rattle.psm_build.specs.Outcome.{RunsOver};
-ghost use Rattle.psm_build.specs.Building.{Accepts, Builds, BuildsScript, BuildsOver, Compiles, GivesRefusal};
-ghost use Rattle.psm_build.specs.declared.fault.Fault.{Fault as FirstFault};
+ghost use Rattle.psm_build.specs.Building.{Builds, BuildsScript, BuildsOver, Compiles, GivesRefusal};
 
-use crate::fault::{BuildFault, refused_rule, refused_script};
 use crate::read::{module_tree, script_tree};
 use psm_check_script::check_script;
-use psm_check_stmt::file_fault;
 use psm_code::RawCode;
 use psm_codegen::lower;
+use psm_faults::{BuildFault, accept, refused_script};
 use psm_resolve::resolve_file;
 use psm_script_code::lower_script;
 use psm_session::ScriptCode;
@@ -45,17 +44,6 @@ fn code_of(alloc: Global, bytes: &[u8]) -> Result<RawCode, BuildFault>
     let tree = module_tree(alloc, bytes)?;
     accept(alloc, &tree)?;
     compiled(alloc, &tree)
-}
-
-/// The first fault of a module file, if it has one.
-fn accept(alloc: Global, tree: &FileTree) -> Result<(), BuildFault>
-    ensures { Accepts tree.now result }
-{
-    match file_fault(alloc, tree) {
-        Ok(None) => Ok(()),
-        Ok(Some(fault)) => Err(refused_rule(fault)),
-        Err(_) => Err(BuildFault::Memory),
-    }
 }
 
 /// The code that is written for a tree whose names are resolved.

@@ -3,14 +3,13 @@
 #![tactic(auto)]
 
 mod code;
-mod fault;
 mod laws;
 mod read;
 mod tables;
 
 pub use code::{build, build_script};
-pub use fault::{BuildFault, Fault};
 pub use laws::{code_means_its_module, files_are_one_thing, files_are_something};
 pub use psm_code::RawCode as Code;
+pub use psm_faults::{BuildFault, Fault};
 pub use psm_session::ScriptCode;
 pub use tables::definitions_of;

@@ -1,9 +1,9 @@
 //! From the bytes of a file to its tree.
 ghost use Rattle.std.specs.Prelude.{◌<◌, length};
-ghost use Rattle.psm_build.specs.Source.{module_files, scripts};
+ghost use Rattle.psm_faults.specs.Source.{module_files, scripts};
 ghost use Rattle.psm_build.specs.Building.{ReadsTokens, ReadsTree};
 
-use crate::fault::{BuildFault, refused_tokens, refused_tree};
+use psm_faults::{BuildFault, refused_tokens, refused_tree};
 use psm_parse_file::{parse_file, parse_script};
 use psm_token::{TokenList, tokens};
 use psm_tree::{FileTree, ScriptTree};

@@ -13,12 +13,12 @@ use Rattle.psm_session.specs.Ends.{FitsCommand, beginning}
 use Rattle.psm_session.specs.declared.command.ScriptCommand.{ScriptCommand}
 use Rattle.psm_script_code.specs.Made.{CommandsMade}
 use Rattle.psm_script_code.proofs.CodeTables.{code_definitions, commands_ask_code, commands_fit_code}
+use Rattle.psm_faults.specs.Source.{scripts, IsTreeOf, IsFaultAt, IsAcceptedScript, IsScriptRuleFault}
+use Rattle.psm_faults.specs.declared.fault.BuildFault.TheVariants.{Refused}
 use Rattle.psm_build.specs.ModuleCode.{IsScriptFaultOver}
 use Rattle.psm_build.specs.Once.{Exclusive, HasFault, IsEnd, Total}
 use Rattle.psm_build.specs.Outcome.{CanRun, empty_tables}
 use Rattle.psm_build.specs.Program.{IsScriptOf}
-use Rattle.psm_build.specs.Source.{scripts, IsTreeOf, IsFaultAt, IsAcceptedScript, IsScriptRuleFault}
-use Rattle.psm_build.specs.declared.fault.BuildFault.TheVariants.{Refused}
 use Rattle.psm_build.proofs.Compiled.{read_script_stands}
 use Rattle.psm_build.proofs.EmptyTables.{empty_tables_kept}
 use Rattle.psm_build.proofs.Files.{script_excludes, script_fault_once}

@@ -7,10 +7,10 @@ use Rattle.psm_meaning.specs.Session.{Session, End, Cut, Done}
 use Rattle.psm_object.specs.Listing.{listing}
 use Rattle.psm_session.specs.Put.{Sunk, PutFirst, PutSome}
 use Rattle.psm_session.specs.declared.command.ScriptCode.{ScriptCode}
+use Rattle.psm_faults.specs.declared.fault.Fault.{Fault}
 use Rattle.psm_build.specs.ModuleCode.{IsScriptFaultOver, MeansModule}
 use Rattle.psm_build.specs.Once.{IsEnd}
 use Rattle.psm_build.specs.Program.{EndsIn, IsModuleFault, IsScriptFault, StandsFor, session_of}
-use Rattle.psm_build.specs.declared.fault.Fault.{Fault}
 use Rattle.psm_code_session.specs.CodeSession.{CodeEndsIn, EndIn}
 use Rattle.psm_files.specs.Answer.{IsPut, IsPutInPart, IsCut, RunsOut, PutsLine, Says}
 use Rattle.psm_files.specs.Expected.{Expected, with_line}

@@ -3,10 +3,10 @@ use Rattle.std.proofs.Common.{◌≡◌, ℕ, List, [], ◌∷◌, Option, Some,
 use Rattle.std.specs.Prelude.{◌⊎◌, All}
 use Rattle.std.proofs.lemmas.List.Elements.{All-head, All-tail}
 use Rattle.std.proofs.lemmas.Option.{same_Some}
+use Rattle.psm_faults.specs.declared.fault.Fault.{Fault}
 use Rattle.psm_build.specs.ModuleCode.{IsScriptFaultOver}
 use Rattle.psm_build.specs.Once.{Exclusive}
 use Rattle.psm_build.specs.Program.{EndsIn, IsModuleFault, IsModuleFile, IsScriptFault, IsScriptFile}
-use Rattle.psm_build.specs.declared.fault.Fault.{Fault}
 use Rattle.psm_code.specs.declared.code.RawCode.{RawCode}
 use Rattle.psm_code.specs.RoutineRules.{first_fault}
 use Rattle.psm_code_session.specs.CodeSession.{CodeEndsIn, IsScriptOver}

@@ -11,10 +11,10 @@ use Rattle.psm_session.specs.Ends.{EndsWith, RunsOut, beginning, last_or}
 use Rattle.psm_session.specs.Put.{Sunk}
 use Rattle.psm_session.specs.declared.command.ScriptCommand.{ScriptCommand}
 use Rattle.psm_session.specs.declared.silent.SilentEnd.{SilentEnd}
+use Rattle.psm_faults.specs.declared.fault.Fault.{Fault}
 use Rattle.psm_build.specs.ModuleCode.{IsScriptFaultOver, MeansModule}
 use Rattle.psm_build.specs.Outcome.{empty_tables}
 use Rattle.psm_build.specs.Program.{EndsIn, IsModuleFault, IsScriptFault, IsScriptOf, StandsFor}
-use Rattle.psm_build.specs.declared.fault.Fault.{Fault}
 use Rattle.psm_code_session.specs.CodeSession.{CodeEndsIn, EndIn, cut, done}
 use Rattle.psm_files.specs.Answer.{PutsLine, Says}
 use Rattle.psm_files.specs.Expected.{Expected}

@@ -4,12 +4,12 @@ use Rattle.std.specs.Prelude.{◌⊎◌, IfSome}
 use Rattle.psm_io.specs.Count.{Rose}
 use Rattle.psm_code.specs.declared.code.RawCode.{RawCode}
 use Rattle.psm_session.specs.declared.command.ScriptCode.{ScriptCode}
+use Rattle.psm_faults.specs.declared.fault.Fault.{Fault}
+use Rattle.psm_faults.specs.declared.fault.BuildFault.{BuildFault}
+use Rattle.psm_faults.specs.declared.fault.BuildFault.TheVariants as builds
 use Rattle.psm_build.specs.Building.{Builds, BuildsScript}
 use Rattle.psm_build.specs.ModuleCode.{IsScriptFaultOver}
 use Rattle.psm_build.specs.Program.{IsModuleFault, StandsFor}
-use Rattle.psm_build.specs.declared.fault.Fault.{Fault}
-use Rattle.psm_build.specs.declared.fault.BuildFault.{BuildFault}
-use Rattle.psm_build.specs.declared.fault.BuildFault.TheVariants as builds
 use Rattle.psm_files.specs.Expected.{Expected}
 use Rattle.psm_files.specs.Fetches.{Fetches, IsRead, IsUnread, NoneFailed, Tells}
 use Rattle.psm_files.specs.Given.{ForFile, Given, as_fetched}

@@ -1,7 +1,7 @@
 -- The lines of files that are refused for a fault.
 use Rattle.std.specs.Prelude.{ℕ, List, codes}
-use Rattle.psm_build.specs.FaultTexts.{text_of}
-use Rattle.psm_build.specs.declared.fault.Fault.{Fault}
+use Rattle.psm_faults.specs.FaultTexts.{text_of}
+use Rattle.psm_faults.specs.declared.fault.Fault.{Fault}
 use Rattle.psm_files.specs.Message.{fault_line, object_fault_line}
 use Rattle.psm_load.specs.FaultTexts as object
 use Rattle.psm_load.specs.declared.fault.ObjectFault.{ObjectFault}

@@ -1,11 +1,11 @@
 -- What is read of the files of a command, step by step.
 use Rattle.std.specs.Prelude.{◌≡◌, ℕ, ◌⊎◌, List, Option, Some, None, IfSome, Result, Ok, Err}
 use Rattle.std.specs.Global.{Vec}
+use Rattle.psm_faults.specs.declared.fault.Fault.{Fault}
+use Rattle.psm_faults.specs.declared.fault.BuildFault.{BuildFault}
+use Rattle.psm_faults.specs.declared.fault.BuildFault.TheVariants as builds
 use Rattle.psm_build.specs.ModuleCode.{IsScriptFaultOver}
 use Rattle.psm_build.specs.Program.{IsModuleFault, IsScriptFault, IsScriptOf, StandsFor}
-use Rattle.psm_build.specs.declared.fault.Fault.{Fault}
-use Rattle.psm_build.specs.declared.fault.BuildFault.{BuildFault}
-use Rattle.psm_build.specs.declared.fault.BuildFault.TheVariants as builds
 use Rattle.psm_code.specs.declared.code.RawCode.{RawCode}
 use Rattle.psm_files.specs.Expected.{Expected, with_line}
 use Rattle.psm_files.specs.Fetches.{Fetches, IsRead, IsTooLong, IsUnread}

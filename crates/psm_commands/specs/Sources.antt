@@ -1,7 +1,7 @@
 -- What is expected for a file that gives code, and for a script over that.
 use Rattle.std.specs.Prelude.{◌≡◌, ℕ, ◌⊎◌, List}
+use Rattle.psm_faults.specs.declared.fault.Fault.{Fault}
 use Rattle.psm_build.specs.Program.{IsModuleFault}
-use Rattle.psm_build.specs.declared.fault.Fault.{Fault}
 use Rattle.psm_files.specs.Expected.{Expected, with_line}
 use Rattle.psm_files.specs.Given.{ForFile, Given}
 use Rattle.psm_files.specs.declared.status.Status.{Status}

@@ -1,5 +1,5 @@
 -- The row of a key for which the test asks is the one row that can meet it.
-use Rattle.std.proofs.Common.{◌≡◌, ℕ, Bool, true, false, List, [], ◌∷◌, refl, ap, sym, subst, ◌∙◌, Option, Some, None, Result, Ok, Err}
+use Rattle.std.proofs.Common.{◌≡◌, ℕ, Bool, true, false, List, [], ◌∷◌, refl, ap, sym, subst, ◌∙◌, Option, Some, None, Result, Ok, Bor}
 use Rattle.std.specs.Prelude.{cond, filter, slice_get, if◌then◌else◌}
 use Rattle.std.specs.List.{cons_option}
 use Rattle.std.specs.Cmp.{alike_right}
@@ -23,11 +23,9 @@ use Rattle.psm_tablecode.specs.Codes.{over}
 use Rattle.psm_tablecode.proofs.KeyWalks.{walked-key}
 use Rattle.psm_tablecode.proofs.Results.{mapped-same}
 use Rattle.psm_tablecode.proofs.Sought.{asked_only, asked_quiet}
-use Rattle.psm_value.specs.Answer.{Gives}
 use Rattle.psm_value.specs.declared.fault.ValueFault.{ValueFault}
 use Rattle.psm_cursor.specs.Fetching.{Finds}
 use Rattle.psm_cursor.specs.Walking.{is_past}
-use Rattle.psm_cursor.proofs.Meeting.{found, found_fault, passed}
 
 abbrev Test : Type 0
 Test = List Datum → Result Truth SqlState
@@ -156,11 +154,5 @@ module _ (t : Contents) (vars : List Datum) (test : Option (List Line)) (downwar
   pub due_none : true ≡ is_past downward bound key → None ≡ keyed t key → due ≡ Ok None
   due_none e f = is_due true None e f
 
-  pub due_passed : (row : List Datum) → true ≡ is_past downward bound key → Some row ≡ keyed t key → mapped is_met (test_of (over vars) test row) ≡ Ok false → due ≡ Ok None
-  due_passed row e f h = is_due true (Some row) e f ∙ passed (test_of (over vars) test) row [] h
-
-  pub due_met : (row : List Datum) → true ≡ is_past downward bound key → Some row ≡ keyed t key → mapped is_met (test_of (over vars) test row) ≡ Ok true → due ≡ Ok (Some row)
-  due_met row e f h = is_due true (Some row) e f ∙ found (test_of (over vars) test) row [] h
-
-  pub due_fault : (row : List Datum) (fault : ValueFault) → true ≡ is_past downward bound key → Some row ≡ keyed t key → Gives (mapped is_met (test_of (over vars) test row)) (Err fault) → Finds due (Err fault)
-  due_fault row fault e f h = subst (λ (r : Result (Option (List Datum)) SqlState). Finds r (Err fault)) (sym (is_due true (Some row) e f)) (found_fault (test_of (over vars) test) row [] fault h)
+  pub due_there : (row : List Datum) (result : Result (Option (Bor (List Datum))) ValueFault) → true ≡ is_past downward bound key → Some row ≡ keyed t key → Finds (first_met (test_of (over vars) test) (row ∷ [])) result → Finds due result
+  due_there row result e f h = subst (λ (r : Result (Option (List Datum)) SqlState). Finds r result) (sym (is_due true (Some row) e f)) h

@@ -4,4 +4,5 @@ pub mod Meeting
 pub mod Opens
 pub mod Pasts
 pub mod Standing
+pub mod UniqueMet
 pub mod Walks

@@ -19,7 +19,7 @@ module _ (t : Contents) (walk : Walk) (bound : Option (List Datum)) where
   -- rows between the cuts are those of the walk
   pub past_rows : (low high : Option Cut) (rows : List (List Datum)) → option_map cut_edge low ≡ low_edge_past walk.downward walk.low bound → option_map cut_edge high ≡ high_edge_past walk.downward walk.high bound
       → rows ≡ in_walk walk.downward (rows_between t.def.key low high t.rows) → rows ≡ rows_of t (walk_past walk bound)
-  past_rows low high rows l h e = of_all t (walk_past walk bound) low high rows refl l h e
+  past_rows low high rows l h e = of_all t (walk_past walk bound) low high rows refl refl l h e
 
   pub past_fit : (rows : List (List Datum)) → rows ≡ rows_of t (walk_past walk bound) → IsTable t → All (IsRow t.def) rows
   past_fit rows e is = subst (All (IsRow t.def)) (sym e) (coming_fit t (walk_past walk bound) is)

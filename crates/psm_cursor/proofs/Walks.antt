@@ -20,12 +20,13 @@ use Rattle.psm_table.specs.Queries.{in_walk, is_met}
 use Rattle.psm_table.specs.Table.{Contents}
 use Rattle.psm_table.proofs.KeyLaws.{key_order-total}
 use Rattle.psm_table.proofs.RowOrders.{length-values_at}
-use Rattle.psm_tablecode.specs.Asked.{key_asked, rows_of, walk_by, walk_for}
+use Rattle.psm_tablecode.specs.Asked.{key_asked, rows_of, unique_asked, walk_by, walk_for}
 use Rattle.psm_tablecode.specs.Bounds.{bounds_asked, bounds_of, is_between, Bounds}
 use Rattle.psm_tablecode.specs.Codes.{over}
 use Rattle.psm_tablecode.specs.Edges.{is_begun, is_not_ended, lies_within}
 use Rattle.psm_tablecode.specs.Tests.{are_quiet}
 use Rattle.psm_tablecode.specs.declared.walking.Edge.{Edge}
+use Rattle.psm_tablecode.specs.declared.walking.Unique.{Unique}
 use Rattle.psm_tablecode.specs.declared.walking.Walk.{Walk}
 use Rattle.psm_tablecode.proofs.EdgeLaws.{bounds_reach, lies_between}
 use Rattle.psm_tablecode.proofs.Ranges.{bounds_only, bounds_quiet}
@@ -33,7 +34,7 @@ use Rattle.psm_tablecode.proofs.Stepped.{filter-reverse}
 use Rattle.psm_cursor.specs.Walking.{high_edge_past, low_edge_past, walk_past}
 use Rattle.psm_cursor.proofs.Meeting.{passed}
 
-abbrev Test : Type 0
+abbrev pub Test : Type 0
 Test = List Datum → Result Truth SqlState
 
 -- ---- rows that don't meet a test
@@ -52,13 +53,13 @@ module _ (test : Test) (p q : List Datum → Bool) (within : (row : List Datum) 
   met-kept [] = refl
   met-kept (row ∷ rows) = kept_first row rows (p row) (q row) refl refl (met-kept rows)
 
-filter-walk : (p : List Datum → Bool) (downward : Bool) (rows : List (List Datum)) → in_walk downward (filter p rows) ≡ filter p (in_walk downward rows)
+pub filter-walk : (p : List Datum → Bool) (downward : Bool) (rows : List (List Datum)) → in_walk downward (filter p rows) ≡ filter p (in_walk downward rows)
 filter-walk p true rows = filter-reverse p rows
 filter-walk p false rows = refl
 
 -- ---- rows outside the edges of a walk
 
-unmet_by : (test : Test) (row : List Datum) (b : Bool) (truth : Truth) → test row ≡ Ok truth → (test row ≡ Ok True → b ≡ true) → b ≡ false → mapped is_met (test row) ≡ Ok false
+pub unmet_by : (test : Test) (row : List Datum) (b : Bool) (truth : Truth) → test row ≡ Ok truth → (test row ≡ Ok True → b ≡ true) → b ≡ false → mapped is_met (test row) ≡ Ok false
 unmet_by test row b True e only f = let h : b ≡ true = only e in cc
 unmet_by test row b False e only f = ap (mapped is_met) e
 unmet_by test row b Unknown e only f = ap (mapped is_met) e
@@ -70,7 +71,7 @@ module _ (t : Contents) (vars : List Datum) (row : List Datum) where
   abbrev Within : Walk → Bool
   Within walk = lies_within walk.low walk.high its_key
 
-  outside_bounds : (downward : Bool) (lines : List Line) (b : Bool) → are_quiet lines ≡ b → Within (walk_by downward None (if b then Some (bounds_of t.def.key vars lines) else None)) ≡ false
+  outside_bounds : (downward : Bool) (lines : List Line) (b : Bool) → are_quiet lines ≡ b → Within (walk_by downward None None (if b then Some (bounds_of t.def.key vars lines) else None)) ≡ false
       → mapped is_met (test_of (over vars) (Some lines) row) ≡ Ok false
   outside_bounds downward lines false e f = cc
   outside_bounds downward lines true e f =
@@ -80,14 +81,15 @@ module _ (t : Contents) (vars : List Datum) (row : List Datum) where
       let quiet = bounds_quiet vars t.def.key lines bounds asks row in
       unmet_by (test_of (over vars) (Some lines)) row (is_between t.def.key bounds row) quiet.0 quiet.1 (bounds_only vars t.def.key lines bounds asks row) out
 
-  outside_of : (walk : Walk) (downward : Bool) (lines : List Line) (o : Option (List Datum)) → walk ≡ walk_by downward o (bounds_asked t.def.key vars (Some lines)) → walk.key ≡ None → Within walk ≡ false
+  outside_of : (walk : Walk) (downward : Bool) (lines : List Line) (o : Option (List Datum)) (u : Option Unique) → walk ≡ walk_by downward o u (bounds_asked t.def.key vars (Some lines)) → walk.key ≡ None → Within walk ≡ false
       → mapped is_met (test_of (over vars) (Some lines) row) ≡ Ok false
-  outside_of walk downward lines None w k e = outside_bounds downward lines (are_quiet lines) refl (sym (ap (λ (x : Walk). Within x) w) ∙ e)
-  outside_of walk downward lines (Some asked) w k e = let none : Some asked ≡ None = sym (ap (λ (x : Walk). x.key) w) ∙ k in cc
+  outside_of walk downward lines None None w k e = outside_bounds downward lines (are_quiet lines) refl (sym (ap (λ (x : Walk). Within x) w) ∙ e)
+  outside_of walk downward lines None (Some unique) w k e = let all : true ≡ false = sym (ap (λ (x : Walk). Within x) w) ∙ e in cc
+  outside_of walk downward lines (Some asked) u w k e = let none : Some asked ≡ None = sym (ap (λ (x : Walk). x.key) w) ∙ k in cc
 
   outside : (walk : Walk) (downward : Bool) (test : Option (List Line)) → walk ≡ walk_for t downward vars test → walk.key ≡ None → Within walk ≡ false → mapped is_met (test_of (over vars) test row) ≡ Ok false
   outside walk downward None w k e = let all : true ≡ false = sym (ap (λ (x : Walk). Within x) w) ∙ e in cc
-  outside walk downward (Some lines) w k e = outside_of walk downward lines (key_asked t.def.key vars (Some lines)) w k e
+  outside walk downward (Some lines) w k e = outside_of walk downward lines (key_asked t.def.key vars (Some lines)) (unique_asked t.def.unique vars (Some lines)) w k e
 
 -- ---- the cut at a key
 

@@ -24,4 +24,4 @@ high_edge_past downward high (Some bound) = if downward then Some (edge bound fa
 
 -- a walk between edges from a key on: the key stands for the edge with which the walk begins, as no row between the two is left
 abbrev pub walk_past : Walk → Option (List Datum) → Walk
-walk_past walk bound = record { downward = walk.downward; key = None; low = low_edge_past walk.downward walk.low bound; high = high_edge_past walk.downward walk.high bound }
+walk_past walk bound = record { downward = walk.downward; key = None; unique = None; low = low_edge_past walk.downward walk.low bound; high = high_edge_past walk.downward walk.high bound }

@@ -1,25 +1,26 @@
 //! The rows of a table after a key. No row before it is looked at.
-ghost use Rattle.std.specs.Prelude.{◌≡◌, All, None, Some, IfOk, IfSome};
+ghost use Rattle.std.specs.Prelude.{◌≡◌, ◌∷◌, [], All, None, Some, IfOk, IfSome, filter};
 ghost use Rattle.std.specs.Option.{option_copied, option_map, ForSome};
-ghost use Rattle.psm_table.specs.Cursors.{first_met, rows_past};
-ghost use Rattle.psm_table.specs.Definition.{IsKey, IsRow};
+ghost use Rattle.psm_table.specs.Cursors.{first_met, lies_past, rows_past};
+ghost use Rattle.psm_table.specs.Definition.{HasColumns, IsKey, IsRow};
 ghost use Rattle.psm_table.specs.Evaluator.{test_of};
 ghost use Rattle.psm_table.specs.Table.{IsTable};
-ghost use Rattle.psm_tablecode.specs.Asked.{key_asked, rows_of, walk_for};
+ghost use Rattle.psm_tablecode.specs.Asked.{key_asked, rows_of, walk_for, IsLookUp};
 ghost use Rattle.psm_tablecode.specs.Codes.{over};
 ghost use Rattle.psm_tablecode.specs.RemainingRows.{cut_edge};
-ghost use Rattle.psm_tablecode.specs.TypeChecks.{TypeChecksTable};
+ghost use Rattle.psm_tablecode.specs.TypeChecks.{Runs, TypeChecksTable};
 ghost use Rattle.psm_cursor.specs.Fetching.{Finds};
 ghost use Rattle.psm_cursor.specs.Walking.{high_edge_past, is_past, low_edge_past, walk_past};
 
 use psm_exprcode::Query;
-use psm_table::{Cut, Key, Row, RowsLeft, Table};
-use psm_tablecode::{Edge, Walk, meets, walk_of};
+use psm_table::{Cut, Key, Matching, Row, RowsLeft, Table};
+use psm_tablecode::{Edge, Unique, Walk, meets, walk_of};
 use psm_value::{Datum, ValueFault};
-use std::alloc::Global;
+use std::alloc::{AllocError, Global};
 
 /// The first row after a key that meets the test of a query, in the order of its walk; without a key, of all rows. Where
-/// the test asks for a key of its own, no other row is looked at; where it asks for bounds, no row outside them.
+/// the test asks for a key of its own or for values in a UNIQUE list, no other row is looked at; where it asks for bounds, no
+/// row outside them.
 pub(crate) fn next_met<'a>(
     alloc: Global,
     table: &'a Table,
@@ -35,12 +36,15 @@ pub(crate) fn next_met<'a>(
     let walk = walk_of(alloc, table, query.downward, query.test.as_ref(), vars)?;
     match &walk.key {
         Some(asked) => met_at_key(alloc, table, query, vars, key, asked),
-        None => met_past(alloc, table, query, vars, &walk, key),
+        None => match &walk.unique {
+            Some(unique) => met_by_unique(alloc, table, query, vars, &walk, unique, key),
+            None => met_past(alloc, table, query, vars, &walk, key),
+        },
     }
 }
 
 // The row of the key for which the test asks, if it is after the other key and meets the test.
-#[tactic(auto, using(crate::proofs::KeyMet::due_not_after, crate::proofs::KeyMet::due_none, crate::proofs::KeyMet::due_passed, crate::proofs::KeyMet::due_met, crate::proofs::KeyMet::due_fault))]
+#[tactic(auto, using(crate::proofs::KeyMet::due_not_after, crate::proofs::KeyMet::due_none, crate::proofs::KeyMet::due_there))]
 fn met_at_key<'a>(
     alloc: Global,
     table: &'a Table,
@@ -62,6 +66,21 @@ fn met_at_key<'a>(
     let Some(row) = table.get(asked) else {
         return Ok(None);
     };
+    if_met(alloc, query, vars, row)
+}
+
+// The row, if it meets the test.
+#[tactic(auto, using(crate::proofs::Meeting::found, crate::proofs::Meeting::passed, crate::proofs::Meeting::found_fault))]
+fn if_met<'a>(
+    alloc: Global,
+    query: &Query,
+    vars: &[Datum],
+    row: &'a Row,
+) -> Result<Option<&'a Row>, ValueFault>
+    requires { IfSome query.now.test (Runs row.now vars.now) }
+    ensures row { Finds (first_met (test_of (over vars.now) query.now.test) (row.now ∷ [])) result }
+    ensures same { IfOk result (λ o. IfSome o (λ r. r.now ≡ row.now)) }
+{
     let mut stack = Vec::new(alloc);
     if meets(alloc, &mut stack, &query.test, row.values(), vars)? {
         Ok(Some(row))
@@ -78,6 +97,71 @@ fn is_after(downward: bool, key: Option<&Key>, asked: &Key) -> bool
         None => true,
         Some(key) if downward => key.cmp(asked).is_gt(),
         Some(key) => key.cmp(asked).is_lt(),
+    }
+}
+
+// The same where the test asks for values in a UNIQUE list: the row that has them, if it is after the key and meets the test.
+// Where several have them, which is in the middle of a statement alone, it is the first of all rows after the key that does.
+fn met_by_unique<'a>(
+    alloc: Global,
+    table: &'a Table,
+    query: &Query,
+    vars: &[Datum],
+    walk: &Walk,
+    unique: &Unique,
+    key: Option<&Key>,
+) -> Result<Option<&'a Row>, ValueFault>
+    requires type_checks { TypeChecksTable query.now vars.now table.now.contents.def }
+    requires key { ForSome key (λ k. IsKey table.now.contents.def k.now) }
+    requires walk { walk.now ≡ walk_for table.now.contents query.now.downward vars.now query.now.test }
+    requires edges { walk.now.key ≡ None }
+    requires unique { walk.now.unique ≡ Some unique.now }
+    requires looks_up { IsLookUp table.now.contents.def.unique unique.now }
+    ensures row { Finds (first_met (test_of (over vars.now) query.now.test) (rows_past table.now.contents.def.key query.now.downward (option_copied key.entry) table.now.contents.rows)) result }
+    ensures fits { IfOk result (λ o. IfSome o (λ row. IsRow table.now.contents.def row.now)) }
+{
+    match table.by_unique(unique.list, unique.values.values()) {
+        Matching::Nothing => Ok(None),
+        Matching::One(row) => met_if_after(alloc, table, query, vars, row, key),
+        Matching::Several => met_past(alloc, table, query, vars, walk, key),
+    }
+}
+
+// A row, if it is after the key and meets the test.
+fn met_if_after<'a>(
+    alloc: Global,
+    table: &Table,
+    query: &Query,
+    vars: &[Datum],
+    row: &'a Row,
+    key: Option<&Key>,
+) -> Result<Option<&'a Row>, ValueFault>
+    requires type_checks { TypeChecksTable query.now vars.now table.now.contents.def }
+    requires fits { IsRow table.now.contents.def row.now }
+    ensures row { Finds (first_met (test_of (over vars.now) query.now.test) (filter (lies_past table.now.contents.def.key query.now.downward (option_copied key.entry)) (row.now ∷ []))) result }
+    ensures fits { IfOk result (λ o. IfSome o (λ r. IsRow table.now.contents.def r.now)) }
+{
+    if !is_row_after(alloc, table, query.downward, key, row)? {
+        return Ok(None);
+    }
+    if_met(alloc, query, vars, row)
+}
+
+// Whether a row is after a key in the order of a walk; without the key each is. It takes memory for the key of the row alone.
+#[tactic(auto, using(crate::proofs::UniqueMet::lies_by_own))]
+fn is_row_after(
+    alloc: Global,
+    table: &Table,
+    downward: bool,
+    key: Option<&Key>,
+    row: &Row,
+) -> Result<bool, AllocError>
+    requires { HasColumns table.now.contents.def row.now }
+    ensures { IfOk result (λ after. after ≡ lies_past table.now.contents.def.key downward (option_copied key.entry) row.now) }
+{
+    match key {
+        None => Ok(true),
+        Some(_) => Ok(is_after(downward, key, &table.key_of(alloc, row)?)),
     }
 }
 
@@ -126,7 +210,7 @@ fn low_past<'a>(walk: &'a Walk, key: Option<&'a Key>) -> Option<Cut<'a>>
             values: key.values(),
             is_behind: true,
         }),
-        Some(_) | None => cut_at(&walk.low),
+        Some(_) | None => walk.low.as_ref().map(Edge::cut),
     }
 }
 
@@ -139,20 +223,7 @@ fn high_past<'a>(walk: &'a Walk, key: Option<&'a Key>) -> Option<Cut<'a>>
             values: key.values(),
             is_behind: false,
         }),
-        Some(_) | None => cut_at(&walk.high),
-    }
-}
-
-// The cut of an edge.
-fn cut_at(edge: &Option<Edge>) -> Option<Cut<'_>>
-    ensures { option_map cut_edge result ≡ edge.now }
-{
-    match edge {
-        Some(edge) => Some(Cut {
-            values: edge.values.values(),
-            is_behind: edge.is_behind,
-        }),
-        None => None,
+        Some(_) | None => walk.high.as_ref().map(Edge::cut),
     }
 }
 

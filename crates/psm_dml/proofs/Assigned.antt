@@ -25,7 +25,7 @@ use Rattle.psm_exprcode.specs.Evaluated.{evaluated}
 use Rattle.psm_tablecode.specs.Codes.{value_in}
 use Rattle.psm_tablecode.proofs.Collecting.{collected-map, first_of}
 use Rattle.psm_dml.specs.Changes.{row_set, set_of}
-use Rattle.psm_dml.specs.Rows.{IsWhole}
+use Rattle.psm_row_changes.specs.Rows.{IsWhole}
 
 abbrev Row : Type 0
 Row = List Datum

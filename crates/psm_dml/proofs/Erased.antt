@@ -19,7 +19,7 @@ use Rattle.psm_table.proofs.Legal.{legal_alone}
 use Rattle.psm_tablecode.specs.Codes.{over}
 use Rattle.psm_store.specs.RowCalls.{changed_at}
 use Rattle.psm_dml.specs.Ends.{keyed_schema, schema_of, Bears, ErasesByRules, IsDue}
-use Rattle.psm_dml.proofs.Effects.{changed_is}
+use Rattle.psm_row_changes.proofs.Effects.{changed_is}
 
 -- a condition that is due of the table
 pub borne_of : {A : Type 0} (c : Contents) (due : Result A Failure) (condition : Entries) (state : List ℕ) → due ≡ Err (OfTable state) → Bears state c.def (told_as.Raised condition) → IsDue c.def due condition

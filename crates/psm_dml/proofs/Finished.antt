@@ -1,5 +1,5 @@
 -- How a statement with new rows ends.
-use Rattle.std.proofs.Common.{◌≡◌, ℕ, ◌+◌, ◌<◌, ◌≤◌, List, [], ◌++◌, length, Bool, true, false, ◌&&◌, refl, ap, sym, subst, ◌∙◌, Option, Some, Result, Ok, Err}
+use Rattle.std.proofs.Common.{◌≡◌, ℕ, ◌+◌, ◌<◌, ◌≤◌, List, [], ◌++◌, length, Bool, true, false, ◌&&◌, refl, ap, sym, subst, ◌∙◌, Some, Result, Ok, Err}
 use Rattle.std.specs.Prelude.{IfSome, codes, slice_get, slice_set}
 use Rattle.psm_sqlstate.specs.declared.state.SqlState.{SqlState}
 use Rattle.psm_cond.specs.Condition.{Entries}
@@ -18,9 +18,9 @@ use Rattle.psm_table.specs.Table.{most_rows, Contents}
 use Rattle.psm_tablecode.specs.Codes.{over}
 use Rattle.psm_tablecode.specs.Faults.{Tells}
 use Rattle.psm_dml.specs.Ends.{checked, schema_of, schema_with, Bears, Ends, IsDue, Passes}
-use Rattle.psm_dml.specs.Rows.{changed_if, fit_in, with_rows, without_keys}
+use Rattle.psm_row_changes.specs.Rows.{changed_if, fit_in, with_rows, without_keys}
 use Rattle.psm_dml.proofs.Answering.{ends_borne, ends_done}
-use Rattle.psm_dml.proofs.Effects.{changed_is}
+use Rattle.psm_row_changes.proofs.Effects.{changed_is, said, there}
 use Rattle.psm_dml.proofs.Finishing.{ends_broken, ends_false, ends_ok, ends_raised, rows_are, too_many}
 
 abbrev Row : Type 0
@@ -37,13 +37,6 @@ passes_raised def passed (value_fault.Condition s) (told_as.Raised condition) e 
 passes_raised def passed (value_fault.Condition s) told_as.Memory e h = tt
 passes_raised def passed value_fault.Memory (told_as.Raised condition) e h = absurd h
 passes_raised def passed value_fault.Memory told_as.Memory e h = tt
-
--- what holds of the table that is there
-pub there : (P : Contents → Type 0) (o : Option Contents) (c : Contents) → o ≡ Some c → IfSome o P → P c
-there P o c e h = subst (λ q. IfSome q P) e h
-
-pub said : (P : Contents → Type 0) (o : Option Contents) (c : Contents) → o ≡ Some c → P c → IfSome o P
-said P o c e h = subst (λ q. IfSome q P) (sym e) h
 
 module _ (checks : List (List Line)) (keyed : List Row → Bool) (c : Contents) (keys : List (List Datum)) (rows : List Row)
     (legal : IsLegal (over []) (schema_of c.def checks) (without_keys keys c).rows) (few : length (without_keys keys c).rows + length rows ≤ most_rows)

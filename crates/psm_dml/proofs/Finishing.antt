@@ -1,35 +1,21 @@
 -- The end of a statement that has new rows.
-use Rattle.std.proofs.Common.{◌≡◌, ℕ, ◌+◌, ◌<◌, ◌≤◌, List, [], ◌∷◌, ◌++◌, length, length-append, Bool, true, false, ◌&&◌, refl, ap, sym, ◌∙◌, arith, Result, Ok, Err}
+use Rattle.std.proofs.Common.{◌≡◌, ◌+◌, ◌<◌, ◌≤◌, List, [], ◌∷◌, ◌++◌, length, length-append, Bool, true, false, ◌&&◌, refl, ap, sym, ◌∙◌, arith, Result, Ok, Err}
 use Rattle.std.specs.Prelude.{All, codes, nat_lt}
 use Rattle.std.proofs.lemmas.Bool.{and_parts, le-ltb, lt-ltb}
-use Rattle.std.proofs.lemmas.List.Kept.{AllPairs-filter}
-use Rattle.std.specs.Ordering.{is_gt, is_lt}
-use Rattle.std.specs.declared.cmp.Ordering.TheVariants.{Less}
 use Rattle.psm_sqlstate.specs.declared.state.SqlState.{SqlState}
 use Rattle.psm_value.specs.declared.datum.Datum.{Datum}
 use Rattle.psm_table.specs.Changing.{ended, ended_with, in_order, keep_rules, rows_pass, then_of, Failure, IsLegal, OfTable, Raised, Schema}
 use Rattle.psm_table.specs.Evaluator.{Evaluator}
-use Rattle.psm_table.specs.Key.{key_order, row_order, values_at}
-use Rattle.psm_table.specs.Rows.{rows_above, rows_below, without, IsAscending}
+use Rattle.psm_table.specs.Rows.{IsAscending}
 use Rattle.psm_table.specs.Table.{most_rows, with_row, Contents}
 use Rattle.psm_table.proofs.Checks.{passing_rows, Passes}
 use Rattle.psm_table.proofs.Legal.{legal_passes}
-use Rattle.psm_table.proofs.Filters.{AllPairs-append}
 use Rattle.psm_table.proofs.Ordered.{in_order-ascending}
-use Rattle.psm_table.proofs.UniqueLaws.{across-rows}
-use Rattle.psm_dml.specs.Rows.{fit_in, with_rows, without_all}
-use Rattle.psm_dml.proofs.Putting.{all_in, AreIn}
+use Rattle.psm_row_changes.specs.Rows.{fit_in, with_rows}
+use Rattle.psm_row_changes.proofs.Putting.{all_in, AreIn}
 
 abbrev Row : Type 0
 Row = List Datum
-
-abbrev Rises : List ℕ → Row → Row → Type 0
-Rises columns a b = key_order (values_at columns a) (values_at columns b) ≡ Less
-
--- of two tests the second counts where the first holds
-pub and_where : (a b c : Bool) → (a ≡ true → b ≡ c) → (a && b) ≡ (a && c)
-and_where true b c h = h refl
-and_where false b c h = refl
 
 module _ {E : Type 0} (ev : Evaluator E) (schema : Schema E) where
   abbrev ending : List Row → Result Bool SqlState → Result (List Row) Failure
@@ -90,15 +76,3 @@ module _ {E : Type 0} (ev : Evaluator E) (checks : List E) (keyed : List Row →
 pub rows_are : (rows : List Row) (c : Contents) → with_rows rows c ≡ record c { rows = (with_rows rows c).rows }
 rows_are [] c = refl
 rows_are (row ∷ rows) c = rows_are rows (with_row c row)
-
--- rows that are taken out leave the others in order
-ascending-without : (columns : List ℕ) (key : List Datum) (rows : List Row) → IsAscending columns rows → IsAscending columns (without columns key rows)
-ascending-without columns key rows up =
-    AllPairs-append (Rises columns) (rows_below columns key rows) (rows_above columns key rows)
-    (AllPairs-filter (Rises columns) (λ r. is_lt (row_order columns key r)) rows up)
-    (AllPairs-filter (Rises columns) (λ r. is_gt (row_order columns key r)) rows up)
-    (across-rows columns key (Rises columns) rows up up)
-
-pub ascending-all : (columns : List ℕ) (keys : List (List Datum)) (rows : List Row) → IsAscending columns rows → IsAscending columns (without_all columns keys rows)
-ascending-all columns [] rows up = up
-ascending-all columns (key ∷ keys) rows up = ascending-all columns keys (without columns key rows) (ascending-without columns key rows up)

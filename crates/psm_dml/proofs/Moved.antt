@@ -27,13 +27,13 @@ use Rattle.psm_tablecode.specs.Codes.{over}
 use Rattle.psm_dml.specs.Changes.{changing, row_set, set_of}
 use Rattle.psm_dml.specs.declared.planning.Change.{Change}
 use Rattle.psm_dml.specs.Ends.{schema_of, schema_with, Ends, EndsAt, EndsAtRow, IsDue}
-use Rattle.psm_dml.specs.Rows.{without_keys, IsWhole}
+use Rattle.psm_row_changes.specs.Rows.{without_keys, IsWhole}
 use Rattle.psm_value.specs.Answer.{Gives}
 use Rattle.psm_value.specs.declared.fault.ValueFault.{ValueFault}
 use Rattle.psm_value.specs.declared.fault.ValueFault.TheVariants.{Condition, Memory}
 use Rattle.psm_tablecode.specs.Faults.{Tells}
 use Rattle.psm_dml.proofs.Answering.{gives_err}
-use Rattle.psm_dml.proofs.Finished.{said, there as there_is}
+use Rattle.psm_row_changes.proofs.Effects.{said, there as there_is}
 use Rattle.psm_dml.proofs.Updated.{changed_few, changed_keys, changed_legal, changed_whole, row_set_whole}
 
 abbrev Row : Type 0

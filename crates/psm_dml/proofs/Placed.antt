@@ -1,8 +1,7 @@
 -- UPDATE by the rows that it makes, where these are put in the places of the old ones.
-use Rattle.std.proofs.Common.{◌≡◌, ℕ, ◌+◌, ◌<◌, ◌≤◌, Bool, List, [], ◌∷◌, ◌++◌, length, get_or, take, drop, true, refl, ap, sym, subst, ◌∙◌, Option, Some, None, Result, Ok, Err}
-use Rattle.std.specs.Prelude.{All, IfSome, IsSome, map, option_map, slice_get, slice_set}
+use Rattle.std.proofs.Common.{◌≡◌, ℕ, ◌+◌, ◌≤◌, Bool, List, [], ◌∷◌, ◌++◌, length, true, refl, ap, sym, subst, ◌∙◌, Option, Some, Result, Ok, Err}
+use Rattle.std.specs.Prelude.{All, IfSome, IsSome, map, slice_get, slice_set}
 use Rattle.std.specs.List.{list_all}
-use Rattle.std.proofs.lemmas.List.{take-append-drop}
 use Rattle.psm_sqlstate.specs.declared.state.SqlState.{SqlState}
 use Rattle.psm_cond.specs.declared.fault.DataFault.{DataFault}
 use Rattle.psm_exprcode.specs.declared.op.Line.{Line}
@@ -18,43 +17,19 @@ use Rattle.psm_table.specs.Rows.{IsAscending}
 use Rattle.psm_table.specs.Table.{most_rows, namesake, Contents, IsTable}
 use Rattle.psm_table.proofs.Rules.{second_true}
 use Rattle.psm_store.specs.RowCalls.{changed_at}
-use Rattle.psm_store.proofs.Changes.{get-changed_at}
 use Rattle.psm_tablecode.specs.Codes.{over}
-use Rattle.psm_tablecode.proofs.Collecting.{first_of}
 use Rattle.psm_dml.specs.Changes.{changing, keep_places, row_set}
 use Rattle.psm_dml.specs.declared.planning.Change.{Change}
 use Rattle.psm_dml.specs.Ends.{schema_of, schema_with, Ends}
-use Rattle.psm_dml.specs.Rows.{keys_of_rows, with_rows, without_keys, AreInPlace}
-use Rattle.psm_dml.proofs.Effects.{changed_is}
-use Rattle.psm_dml.proofs.Finished.{said, there}
-use Rattle.psm_dml.proofs.Places.{in_place, still_named}
+use Rattle.psm_row_changes.specs.Rows.{keys_of_rows, with_rows, without_keys, AreInPlace}
+use Rattle.psm_row_changes.proofs.Effects.{changed_is, said, there}
+use Rattle.psm_row_changes.proofs.Places.{in_place}
 use Rattle.psm_dml.proofs.Planned.{as_division}
 use Rattle.psm_dml.proofs.Staying.{as_change, row_fits, row_stays, stay_apart, stay_ascending, stay_fitting, stay_named, walk_as, Stays}
 use Rattle.psm_dml.proofs.Updated.{changed_few, changed_legal, division_is, keys_of_changes, rows_of_changes, update_ends, update_of, update_raises}
 
 abbrev Row : Type 0
 Row = List Datum
-
--- ---- rows that are put in their places one after another
-
-pub fit_of : (o : Option Contents) (rows : List Row) → IfSome o (λ c. AreInPlace c rows) → IfSome o (λ c. All (IsRow c.def) rows)
-fit_of None rows h = tt
-fit_of (Some c) rows h = h.fit
-
--- the row of which the turn is has a row in its place
-pub named_at : (old now : List Contents) (t : ℕ) (xs rows : List Row) (row : Row) → now ≡ changed_at (with_rows xs) old t → xs ≡ take (length xs) rows → length xs < length rows → row ≡ get_or rows (length xs) row
-    → IfSome (slice_get old t) (λ c. AreInPlace c rows) → IfSome (slice_get now t) (λ c. IsSome (namesake c row))
-named_at old now t xs rows row e s l r h =
-    let rest : List Row = drop (length xs + 1) rows in
-    let parts : rows ≡ xs ++ row ∷ rest = sym (take-append-drop (length xs) rows) ∙ ap (λ z. z ++ drop (length xs) rows) (sym s) ∙ ap (λ z. xs ++ z) (first_of rows (length xs) row l r) in
-    by rest (slice_get old t) (slice_get now t) (ap (λ k. slice_get k t) e ∙ get-changed_at (with_rows xs) old t) parts h
-  where
-    by : (rest : List Row) (o p : Option Contents) → p ≡ option_map (with_rows xs) o → rows ≡ xs ++ row ∷ rest → IfSome o (λ c. AreInPlace c rows) → IfSome p (λ c. IsSome (namesake c row))
-    by rest None p f q g = subst (λ z. IfSome z (λ c. IsSome (namesake c row))) (sym f) tt
-    by rest (Some c) p f q g =
-        let up : IsAscending c.def.key (xs ++ row ∷ rest) = subst (IsAscending c.def.key) q g.ascend in
-        let here : IsSome (namesake c row) = subst (λ z. IsSome (namesake c z)) (sym r) (g.named (length xs) row l) in
-        subst (λ z. IfSome z (λ d. IsSome (namesake d row))) (sym f) (still_named xs rest row c up here)
 
 -- ---- the end of the statement
 

@@ -20,7 +20,8 @@ use Rattle.psm_table.proofs.KeyLaws.{key_order-refl}
 use Rattle.psm_table.proofs.Undo.{all-above, after_equal, none-below}
 use Rattle.psm_dml.specs.declared.planning.Change.{Change}
 use Rattle.psm_dml.specs.Changes.{changing}
-use Rattle.psm_dml.specs.Rows.{key_in, without_all}
+use Rattle.psm_row_changes.specs.Rows.{without_all}
+use Rattle.psm_dml.specs.Collected.{key_in}
 use Rattle.psm_dml.proofs.Walked.{walked-all, walked-map}
 
 abbrev Row : Type 0

@@ -29,7 +29,7 @@ use Rattle.psm_tablecode.specs.Codes.{over}
 use Rattle.psm_dml.specs.Changes.{changing, keep_places, row_set, set_of, sets_none}
 use Rattle.psm_dml.specs.declared.planning.Change.{Change}
 use Rattle.psm_dml.proofs.Assigned.{set_whole}
-use Rattle.psm_dml.proofs.Places.{found_cons}
+use Rattle.psm_row_changes.proofs.Places.{found_cons}
 use Rattle.psm_dml.proofs.Walked.{walked-map}
 
 abbrev Row : Type 0

@@ -15,7 +15,7 @@ use Rattle.psm_table.specs.declared.definition.TableDef.{TableDef}
 use Rattle.psm_table.specs.Changing.{stored_row, stored_rows}
 use Rattle.psm_table.specs.Definition.{kinds_of, AreOfFamilies, HasColumns}
 use Rattle.psm_table.specs.Evaluator.{and_then, collected, mapped}
-use Rattle.psm_dml.specs.Rows.{IsWhole}
+use Rattle.psm_row_changes.specs.Rows.{IsWhole}
 
 abbrev Row : Type 0
 Row = List Datum

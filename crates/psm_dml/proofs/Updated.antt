@@ -22,9 +22,9 @@ use Rattle.psm_tablecode.specs.Codes.{over}
 use Rattle.psm_dml.specs.Changes.{changing, row_set, set_of}
 use Rattle.psm_dml.specs.declared.planning.Change.{Change}
 use Rattle.psm_dml.specs.Ends.{schema_of, schema_with, Ends}
-use Rattle.psm_dml.specs.Rows.{without_keys, IsWhole}
+use Rattle.psm_row_changes.specs.Rows.{without_keys, IsWhole}
 use Rattle.psm_dml.proofs.Assigned.{set_whole}
-use Rattle.psm_dml.proofs.Finished.{said, there}
+use Rattle.psm_row_changes.proofs.Effects.{said, there}
 use Rattle.psm_dml.proofs.Planned.{as_division, divided_by}
 use Rattle.psm_dml.proofs.Walked.{walked-all}
 

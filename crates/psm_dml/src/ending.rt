@@ -6,13 +6,13 @@ ghost use Rattle.psm_table.specs.Table.{IsTable};
 ghost use Rattle.psm_store.specs.Marks.{AnyMark, Keeps, most_marks};
 ghost use Rattle.psm_tablecode.specs.Codes.{over};
 ghost use Rattle.psm_dml.specs.Ends.{keyed_schema, schema_of, Bears, Ends, Passes};
-ghost use Rattle.psm_dml.specs.Rows.{keys_of_rows, without_keys, AreInPlace, IsWhole, TakesRows};
+ghost use Rattle.psm_row_changes.specs.Rows.{keys_of_rows, without_keys, AreInPlace, IsWhole, TakesRows};
 ghost use Rattle.psm_dml.specs.TypeChecks.{ChecksTypeCheck};
 
 use crate::checking::judge;
-use crate::keying::{change_keyed, replace_keyed};
 use psm_cond::{Condition, DataFault};
 use psm_exprcode::ExprCode;
+use psm_row_changes::{change_keyed, replace_keyed};
 use psm_sqlstate::SqlState;
 use psm_store::{Key, Row, Store, Table};
 use psm_table::ForeignKeys;

@@ -9,7 +9,7 @@ ghost use Rattle.psm_table.specs.Queries.{is_met, taken, walked};
 ghost use Rattle.psm_table.specs.Table.{IsTable};
 ghost use Rattle.psm_tablecode.specs.Codes.{over};
 ghost use Rattle.psm_tablecode.specs.TypeChecks.{Runs};
-ghost use Rattle.psm_dml.specs.Rows.{key_in, with_option};
+ghost use Rattle.psm_dml.specs.Collected.{key_in, with_option};
 ghost use Rattle.psm_dml.specs.TypeChecks.{TypeChecksTest};
 
 use psm_exprcode::{ExprCode, Operand};

@@ -1,20 +1,15 @@
 //! INSERT, UPDATE and DELETE over the tables of a store (ISO/IEC 9075:1992, 13.6 to 13.10).
 #![tactic(auto)]
 
-mod applying;
-mod changing;
 mod checking;
 mod comparing;
 mod deleting;
 mod ending;
-mod filling;
 mod finding;
 mod inserting;
-mod keying;
-mod lookups;
 mod moving;
+mod placing;
 mod planning;
-mod seeking;
 mod setting;
 mod storing;
 mod typing;

@@ -9,7 +9,7 @@ ghost use Rattle.psm_table.specs.Table.{IsTable};
 ghost use Rattle.psm_tablecode.specs.Codes.{over};
 ghost use Rattle.psm_tablecode.specs.TypeChecks.{Runs};
 ghost use Rattle.psm_dml.specs.Changes.{changing, row_set};
-ghost use Rattle.psm_dml.specs.Rows.{with_option};
+ghost use Rattle.psm_dml.specs.Collected.{with_option};
 ghost use Rattle.psm_dml.specs.TypeChecks.{Assigns, SetsTypeCheck, TypeChecksTest};
 
 use crate::finding::meets;

@@ -9,8 +9,8 @@ ghost use Rattle.psm_dml.specs.Changes.{keep_places as places_kept, set_of};
 ghost use Rattle.psm_dml.specs.Ends.{keyed_schema, schema_of, Ends};
 ghost use Rattle.psm_dml.specs.TypeChecks.{ChecksTypeCheck, SetsTypeCheck, TypeChecksTest};
 
-use crate::changing::keep_places;
 use crate::ending::{finish, finish_in_place};
+use crate::placing::keep_places;
 use crate::planning::{Plan, changes, made_rows, split};
 use psm_cond::DataFault;
 use psm_exprcode::{ExprCode, SetItem};

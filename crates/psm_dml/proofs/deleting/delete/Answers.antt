@@ -11,11 +11,11 @@ use Rattle.psm_table.specs.Table.{Contents}
 use Rattle.psm_store.specs.RowCalls.{changed_at}
 use Rattle.psm_tablecode.specs.Codes.{over}
 use Rattle.psm_dml.specs.Ends.{keyed_schema, schema_of, Bears, Ends}
-use Rattle.psm_dml.specs.Rows.{changed_if, key_in, without_all, without_keys}
-use Rattle.psm_dml.proofs.Effects.{changed_is}
+use Rattle.psm_row_changes.specs.Rows.{changed_if, without_all, without_keys}
+use Rattle.psm_dml.specs.Collected.{key_in}
+use Rattle.psm_row_changes.proofs.Effects.{changed_is, said, there}
 use Rattle.psm_dml.proofs.Answering.{borne, told, gives_err}
 use Rattle.psm_dml.proofs.Erased.{erase_done, erase_fails, erase_raises}
-use Rattle.psm_dml.proofs.Finished.{said, there}
 use Rattle.psm_dml.proofs.Planned.{deleted_is, deleted_raises}
 use Rattle.psm_dml.proofs.deleting.delete.Goals as goal
 

@@ -4,9 +4,9 @@ use Rattle.psm_value.specs.declared.datum.Datum.{Datum}
 use Rattle.psm_table.specs.Keyed.{are_keyed_with, rows_in}
 use Rattle.psm_table.specs.Table.{without_row, Contents}
 use Rattle.psm_dml.specs.Ends.{Bears, ErasesByRules}
-use Rattle.psm_dml.specs.Rows.{changed_if, without_keys}
+use Rattle.psm_row_changes.specs.Rows.{changed_if, without_keys}
 use Rattle.psm_dml.proofs.Erased.{erased_done, erased_fails}
-use Rattle.psm_dml.proofs.Finished.{said, there}
+use Rattle.psm_row_changes.proofs.Effects.{said, there}
 use Rattle.psm_dml.proofs.deleting.delete_at.Goals as goal
 
 pub returns-then-branch-clause-answer : goal.returns-then-branch-clause-answer

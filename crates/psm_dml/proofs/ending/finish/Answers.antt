@@ -6,10 +6,11 @@ use Rattle.psm_table.specs.Keyed.{are_keyed_with, rows_in}
 use Rattle.psm_table.specs.Table.{most_rows, Contents}
 use Rattle.psm_tablecode.specs.Codes.{over}
 use Rattle.psm_dml.specs.Ends.{schema_of, schema_with, Bears, Ends, Passes}
-use Rattle.psm_dml.specs.KeyTests.{replaces}
-use Rattle.psm_dml.specs.Rows.{changed_if, with_rows, without_keys}
-use Rattle.psm_dml.proofs.Finished.{finished_broken, finished_fault, finished_ok, there}
-use Rattle.psm_dml.proofs.Finishing.{ascending-all}
+use Rattle.psm_row_changes.specs.KeyTests.{replaces}
+use Rattle.psm_row_changes.specs.Rows.{changed_if, with_rows, without_keys}
+use Rattle.psm_row_changes.proofs.Effects.{there}
+use Rattle.psm_dml.proofs.Finished.{finished_broken, finished_fault, finished_ok}
+use Rattle.psm_row_changes.proofs.Leftover.{ascending-all}
 use Rattle.psm_dml.proofs.ending.finish.Goals as goal
 
 pub returns-in-Err-clause-answer : goal.returns-in-Err-clause-answer

@@ -6,12 +6,13 @@ use Rattle.psm_table.specs.Keyed.{are_keyed_with, rows_in}
 use Rattle.psm_table.specs.Table.{Contents}
 use Rattle.psm_tablecode.specs.Codes.{over}
 use Rattle.psm_dml.specs.Ends.{schema_of, schema_with, Bears, Ends, Passes}
-use Rattle.psm_dml.specs.KeyTests.{changes_all}
-use Rattle.psm_dml.specs.Rows.{changed_if, keys_of_rows, with_rows, without_keys, AreInPlace, IsWhole}
-use Rattle.psm_dml.proofs.Finished.{finished_broken, finished_fault, finished_ok, there}
-use Rattle.psm_dml.proofs.Finishing.{ascending-all}
+use Rattle.psm_row_changes.specs.KeyTests.{changes_all}
+use Rattle.psm_row_changes.specs.Rows.{changed_if, keys_of_rows, with_rows, without_keys, AreInPlace, IsWhole}
+use Rattle.psm_row_changes.proofs.Effects.{there}
+use Rattle.psm_dml.proofs.Finished.{finished_broken, finished_fault, finished_ok}
+use Rattle.psm_row_changes.proofs.Leftover.{ascending-all}
 use Rattle.psm_dml.proofs.Placed.{by_own_keys, placed_tables}
-use Rattle.psm_dml.proofs.Places.{in_place_may}
+use Rattle.psm_row_changes.proofs.Places.{in_place_may}
 use Rattle.psm_dml.proofs.ending.finish_in_place.Goals as goal
 
 pub check-requires-clause-rows : goal.check-requires-clause-rows

@@ -14,7 +14,7 @@ use Rattle.psm_tablecode.proofs.RemainingRowsLaws.{coming_here, coming_none, com
 use Rattle.psm_tablecode.proofs.KeyWalks.{rows_few, walked_by}
 use Rattle.psm_tablecode.proofs.Results.{gives_by}
 use Rattle.psm_tablecode.proofs.Fitting.{row_letters, test_runs}
-use Rattle.psm_dml.specs.Rows.{key_in}
+use Rattle.psm_dml.specs.Collected.{key_in}
 use Rattle.psm_dml.proofs.Walked.{option_all, option_bound, walks_end, walks_fault, walks_next}
 use Rattle.psm_dml.proofs.finding.met_keys.Goals as goal
 use Rattle.psm_dml.proofs.finding.met_keys.Goals.{else-loop-at-test, then-loop-at-test+in_default}

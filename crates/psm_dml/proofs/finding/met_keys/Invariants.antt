@@ -6,7 +6,7 @@ use Rattle.psm_table.specs.Evaluator.{test_of}
 use Rattle.psm_tablecode.specs.Asked.{rows_of}
 use Rattle.psm_tablecode.specs.Codes.{over}
 use Rattle.psm_tablecode.specs.RemainingRows.{rows_coming}
-use Rattle.psm_dml.specs.Rows.{key_in}
+use Rattle.psm_dml.specs.Collected.{key_in}
 use Rattle.psm_dml.proofs.Walked.{Walks}
 use Rattle.psm_dml.proofs.finding.met_keys.Given as goal
 

@@ -7,8 +7,8 @@ use Rattle.psm_table.specs.declared.definition.TableDef.{TableDef}
 use Rattle.psm_table.specs.Changing as changing_of
 use Rattle.psm_table.specs.Definition.{kinds_of, HasColumns}
 use Rattle.psm_table.specs.Table.{Contents}
-use Rattle.psm_dml.specs.Rows.{IsWhole}
-use Rattle.psm_dml.proofs.Finished.{said, there}
+use Rattle.psm_row_changes.specs.Rows.{IsWhole}
+use Rattle.psm_row_changes.proofs.Effects.{said, there}
 use Rattle.psm_dml.proofs.Storings.{are_stored}
 use Rattle.psm_dml.proofs.inserting.insert.Goals as goal
 

@@ -10,8 +10,8 @@ use Rattle.psm_table.specs.Keyed.{are_keyed_with, rows_in}
 use Rattle.psm_table.specs.Table.{most_rows, Contents}
 use Rattle.psm_tablecode.specs.Codes.{over}
 use Rattle.psm_dml.specs.Ends.{schema_of}
-use Rattle.psm_dml.specs.Rows.{without_keys, IsWhole}
-use Rattle.psm_dml.proofs.Finished.{said, there}
+use Rattle.psm_row_changes.specs.Rows.{without_keys, IsWhole}
+use Rattle.psm_row_changes.proofs.Effects.{said, there}
 use Rattle.psm_dml.proofs.Moved.{move_fault, move_few, move_keys, move_legal, move_whole}
 use Rattle.psm_dml.proofs.Updated.{keys_of_changes, rows_of_changes}
 use Rattle.psm_dml.proofs.moving.update_at.Goals as goal

@@ -11,9 +11,9 @@ use Rattle.psm_table.specs.Table.{most_rows, Contents}
 use Rattle.psm_tablecode.specs.Codes.{over}
 use Rattle.psm_dml.specs.Changes.{changing, row_set}
 use Rattle.psm_dml.specs.Ends.{schema_of}
-use Rattle.psm_dml.specs.Rows.{without_keys, IsWhole}
+use Rattle.psm_row_changes.specs.Rows.{without_keys, IsWhole}
 use Rattle.psm_dml.proofs.Answering.{ends_told, gives_err}
-use Rattle.psm_dml.proofs.Finished.{said, there}
+use Rattle.psm_row_changes.proofs.Effects.{said, there}
 use Rattle.psm_dml.proofs.Updated.{changed_few, changed_keys, changed_legal, changed_whole, keys_of_changes, row_set_whole, rows_of_changes, update_ends, update_of, update_raises}
 use Rattle.psm_dml.proofs.updating.update_anew.Goals as goal
 

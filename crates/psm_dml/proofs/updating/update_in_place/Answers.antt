@@ -10,9 +10,9 @@ use Rattle.psm_table.specs.Table.{Contents}
 use Rattle.psm_tablecode.specs.Codes.{over}
 use Rattle.psm_dml.specs.Changes.{keep_places, row_set}
 use Rattle.psm_dml.specs.Ends.{schema_of, schema_with, Ends}
-use Rattle.psm_dml.specs.Rows.{keys_of_rows, without_keys, AreInPlace}
+use Rattle.psm_row_changes.specs.Rows.{keys_of_rows, without_keys, AreInPlace}
 use Rattle.psm_dml.proofs.Answering.{ends_told, gives_err}
-use Rattle.psm_dml.proofs.Finished.{said, there}
+use Rattle.psm_row_changes.proofs.Effects.{said, there}
 use Rattle.psm_dml.proofs.Placed.{are_in_place, placed_ends, placed_legal, placed_raises}
 use Rattle.psm_dml.proofs.Updated.{update_of}
 use Rattle.psm_dml.proofs.updating.update_in_place.Goals as goal

@@ -1,6 +1,0 @@
-use Rattle.std.proofs.Common.{◌≡◌, take}
-use Rattle.psm_dml.specs.Rows.{keys_of_rows}
-use Rattle.psm_dml.proofs.keying.keys_of.Given as goal
-
-abbrev pub invariant-loop-row : goal.invariant-loop-row
-invariant-loop-row l = l.keys.items ≡ keys_of_rows l.table.contents.def (take l.row-index l.rows)

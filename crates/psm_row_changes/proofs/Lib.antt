@@ -1,0 +1,10 @@
+pub mod Effects
+pub mod InPlace
+pub mod KeyTesting
+pub mod KeyValues
+pub mod Leftover
+pub mod Matching
+pub mod NamedConstraints
+pub mod Places
+pub mod Putting
+pub mod Refusing

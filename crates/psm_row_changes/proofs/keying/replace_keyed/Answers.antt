@@ -1,0 +1,27 @@
+use Rattle.std.proofs.Common.{◌≡◌, List, true, ap, sym, subst, ◌∙◌}
+use Rattle.std.specs.Prelude.{All, slice_get}
+use Rattle.std.proofs.lemmas.List.Elements.{All-filter}
+use Rattle.psm_table.specs.declared.definition.ForeignKey.{ForeignKey}
+use Rattle.psm_table.specs.Constraints.{names_table}
+use Rattle.psm_table.specs.Keyed.{are_keyed, defs_in, rows_in, IsKeyOf}
+use Rattle.psm_table.specs.Table.{Contents}
+use Rattle.psm_row_changes.specs.KeyTests.{replaces}
+use Rattle.psm_row_changes.proofs.NamedConstraints.{for_tests, named_held, replaces_named}
+use Rattle.psm_row_changes.proofs.keying.replace_keyed.Goals as goal
+
+pub replace_under-requires-clause-constraints : goal.replace_under-requires-clause-constraints
+replace_under-requires-clause-constraints g c =
+    let old : List Contents = g.S.Store.tables c.args.store.now in
+    subst (All (IsKeyOf (defs_in old))) (sym c.of.ensures) (All-filter (names_table c.args.t) (IsKeyOf (defs_in old)) c.args.constraints.now c.requires.constraints)
+
+pub replace_under-requires-clause-lawful : goal.replace_under-requires-clause-lawful
+replace_under-requires-clause-lawful g c =
+    let old : List Contents = g.S.Store.tables c.args.store.now in
+    subst (λ (keys : List ForeignKey). are_keyed keys (rows_in old) ≡ true) (sym c.of.ensures) (named_held c.args.constraints.now old c.args.t c.requires.lawful)
+
+pub returns-clause-answer : goal.returns-clause-answer
+returns-clause-answer g c =
+    let old : List Contents = g.S.Store.tables c.args.store.now in
+    for_tests (replaces c.of.result.now old c.args.t c.args.keys.now c.args.rows.items) (replaces c.args.constraints.now old c.args.t c.args.keys.now c.args.rows.items)
+    (λ x. ap (λ (keys : List ForeignKey). replaces keys old c.args.t c.args.keys.now c.args.rows.items x) c.of.ensures ∙ replaces_named c.args.constraints.now old c.args.t c.requires.lawful c.args.keys.now c.args.rows.items x)
+    c.replace_under.result (slice_get old c.args.t) c.replace_under.ensures.answer
