@@ -11,6 +11,7 @@ use Rattle.psm_table.specs.Table.{most_rows, with_row, Contents}
 use Rattle.psm_table.proofs.Checks.{passing_rows, Passes}
 use Rattle.psm_table.proofs.Legal.{legal_passes}
 use Rattle.psm_table.proofs.Ordered.{in_order-ascending}
+use Rattle.psm_row_changes.proofs.Leftover.{and_where}
 use Rattle.psm_row_changes.specs.Rows.{fit_in, with_rows}
 use Rattle.psm_row_changes.proofs.Putting.{all_in, AreIn}
 
