@@ -13,7 +13,7 @@ use Rattle.psm_check_script.specs.declared.check.CheckFault.{CheckFault}
 use Rattle.psm_check_script.specs.declared.check.CheckFault.TheVariants as checks
 use Rattle.psm_code.specs.declared.code.RawCode.{RawCode}
 use Rattle.psm_session.specs.declared.command.ScriptCode.{ScriptCode}
-use Rattle.psm_faults.specs.Source.{module_files, scripts, IsTreeOf, IsAccepted, IsAcceptedScript}
+use Rattle.psm_faults.specs.Source.{module_files, scripts, Accepts, IsTreeOf, IsAccepted, IsAcceptedScript}
 use Rattle.psm_faults.specs.Reported.{reported_of_script}
 use Rattle.psm_faults.specs.declared.fault.BuildFault.{BuildFault}
 use Rattle.psm_faults.specs.declared.fault.Fault.{Fault}
