@@ -25,8 +25,8 @@ public class Bench {
                 String[] run = statements(parts[2]);
                 mark("START");
                 for (String statement : run) execute1(connection, statement);
-                connection.commit();
                 mark("END");
+                connection.commit();
                 execute(connection, parts[3]);
             }
         }

@@ -79,8 +79,8 @@ def sums(it):
     return f"SELECT COUNT(*), SUM({it.summed}) FROM t" if it.summed else ""
 
 
-def psm(it, work, calls):
-    """The module, the script without the work and with it, so many times, and the command that shows what the table holds."""
+def psm(it, work):
+    """The module, and the commands that fill the table, that do the work, and that show what the table holds then."""
     each = "WHILE i < n DO SET i = i + 1;", "END WHILE;"
     fill = ["PROCEDURE fill (IN n INTEGER) BEGIN", "  DECLARE i INTEGER DEFAULT 0;",
             f"  {each[0]} INSERT INTO t VALUES ({as_psm(it.row)}); {each[1]}", "END;"]
@@ -92,8 +92,8 @@ def psm(it, work, calls):
     )
     rows = rows_of(it, work)
     base = f"CALL fill({rows});\n" if rows else ""
-    measured = calls_sent(it, work, PSM) if it.sent else f"CALL run({work}, ?);\n" * calls
-    return module, base, base + measured, f"{sums(it)};\n" if it.summed else ""
+    run = calls_sent(it, work, PSM) if it.sent else f"CALL run({work}, ?);\n"
+    return module, base, run, f"{sums(it)};\n" if it.summed else ""
 
 
 def postgresql(it, work):
@@ -129,7 +129,10 @@ def mariadb(it, work, system=MARIADB):
     engine = "MEMORY" if system == MEMORY else "InnoDB"
     each = "WHILE i < n DO SET i = i + 1;", "END WHILE;"
     rows = rows_of(it, work)
-    fill = f"CREATE PROCEDURE fill (IN n INTEGER) BEGIN DECLARE i INTEGER DEFAULT 0; {each[0]} INSERT INTO t VALUES ({as_mariadb(it.row)}); {each[1]} END//"
+    fill = (
+        "CREATE PROCEDURE fill (IN n INTEGER) BEGIN DECLARE i INTEGER DEFAULT 0;"
+        f" {each[0]} INSERT INTO t VALUES ({as_mariadb(it.row)}); {each[1]} END//"
+    )
     seconds = "SELECT CONCAT('{} ', UNIX_TIMESTAMP(SYSDATE(6)));"
     routines = written(it.routines, system)
     return lines(

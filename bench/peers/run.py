@@ -26,10 +26,12 @@ from dialects import LIMIT, rows_of, sums  # noqa: E402
 from measure import TURNS, measured, program_of  # noqa: E402
 from workloads import AS_WORK, FIREBIRD, HSQLDB, MARIADB, MEMORY, POSTGRESQL, PSM, SQLITE, WORKLOADS  # noqa: E402
 
-DATA = Path(os.environ.get("PSM_PEERS") or Path(tempfile.gettempdir()) / "psm-peers")
+DATA = Path(os.environ.get("PSM_PEERS") or os.environ.get("TMPDIR", "/tmp") + "/psm-peers")
 HSQLDB_JAR = "/usr/share/java/hsqldb.jar"
 # What takes longer is not repeated.
 LONG = 10
+# The status of a run that is ended since it took too long.
+STOPPED = -24
 # So often the work is done in one process of HSQLDB: the first time, and then warm.
 WARM_RUNS = 4
 WARM = "hsqldb_warm"
@@ -79,10 +81,11 @@ def picked(parser, names, known, kind):
     return [value for name, value in known.items() if name in chosen]
 
 
-def output_of(words, text=None):
-    """What a command prints. It gets the text, if there is one."""
+def output_of(words, text=None, **variables):
+    """What a command prints. It gets the text, if there is one, and these variables of the environment."""
+    how = {"stdout": subprocess.PIPE, "stderr": subprocess.PIPE, "text": True, "env": {**os.environ, **variables}}
     try:
-        done = subprocess.run(words, input=text, stdout=subprocess.PIPE, stderr=subprocess.PIPE, text=True, timeout=4 * LIMIT)
+        done = subprocess.run(words, input=text, timeout=4 * LIMIT, **how)
     except subprocess.TimeoutExpired:
         raise Failure(f"took over {4 * LIMIT} seconds") from None
     if done.returncode:
@@ -116,8 +119,12 @@ class Peer:
 
 
 def run_postgresql(folder, it):
-    words = ["psql", "-X", "-q", "-v", "ON_ERROR_STOP=1", "-h", str(DATA / "postgresql/socket"), "-U", "postgres"]
-    return output_of([*words, "-f", str(folder / f"{POSTGRESQL}.sql")])
+    words = ["psql", "-X", "-q", "-v", "ON_ERROR_STOP=1", "-h", str(DATA / "postgresql/socket"), "-p", "5432", "-U", "postgres"]
+    return output_of([*words, "-d", "postgres", "-f", str(folder / f"{POSTGRESQL}.sql")])
+
+
+def has_mariadb():
+    return shutil.which("mariadb") and (DATA / "mariadb/socket").exists()
 
 
 def run_mariadb(folder, it, system=MARIADB):
@@ -127,13 +134,16 @@ def run_mariadb(folder, it, system=MARIADB):
 
 def run_firebird(folder, it):
     """Firebird runs in the process of isql-fb, on a new database that is not forced to disk."""
-    os.environ["FIREBIRD_LOCK"] = str(folder)
     database = str(folder / "bench.fdb")
-    output_of(["isql-fb", "-q", "-user", "SYSDBA"], f"CREATE DATABASE '{database}' PAGE_SIZE 8192 DEFAULT CHARACTER SET UTF8;\n")
-    output_of(["gfix", "-user", "SYSDBA", "-write", "async", database])
-    output_of(["gfix", "-user", "SYSDBA", "-buffers", "20000", database])
+
+    def call(program, *words, text=None):
+        return output_of([program, "-user", "SYSDBA", *words], text, FIREBIRD_LOCK=str(folder))
+
+    call("isql-fb", "-q", text=f"CREATE DATABASE '{database}' PAGE_SIZE 8192 DEFAULT CHARACTER SET UTF8;\n")
+    call("gfix", "-write", "async", database)
+    call("gfix", "-buffers", "20000", database)
     try:
-        return output_of(["isql-fb", "-q", "-bail", "-user", "SYSDBA", database, "-i", str(folder / f"{FIREBIRD}.sql")])
+        return call("isql-fb", "-q", "-bail", database, "-i", str(folder / f"{FIREBIRD}.sql"))
     finally:
         os.remove(database)
 
@@ -154,10 +164,10 @@ PEERS = {
     it.system: it
     for it in (
         Peer(POSTGRESQL, lambda: shutil.which("psql") and (DATA / "postgresql/socket/.s.PGSQL.5432").exists(), run_postgresql),
-        Peer(MARIADB, lambda: shutil.which("mariadb") and (DATA / "mariadb/socket").exists(), run_mariadb),
-        Peer(MEMORY, lambda: shutil.which("mariadb") and (DATA / "mariadb/socket").exists(), lambda folder, it: run_mariadb(folder, it, MEMORY)),
+        Peer(MARIADB, has_mariadb, run_mariadb),
+        Peer(MEMORY, has_mariadb, lambda folder, it: run_mariadb(folder, it, MEMORY)),
         Peer(FIREBIRD, lambda: shutil.which("isql-fb") and shutil.which("gfix"), run_firebird),
-        Peer(HSQLDB, lambda: shutil.which("java") and (DATA / "hsqldb/Bench.class").exists() and os.path.exists(HSQLDB_JAR), run_hsqldb),
+        Peer(HSQLDB, lambda: shutil.which("java") and (DATA / "hsqldb/Bench.class").exists(), run_hsqldb),
         Peer(SQLITE, lambda: os.access(DATA / "sqlite", os.X_OK), run_sqlite),
     )
 }
@@ -173,13 +183,16 @@ class Psm:
 
     def once(self, script):
         folder = str(self.folder)
-        ran = measured(folder, [self.program, "run", f"{folder}/module.sql", f"{folder}/{script}", "--turns", str(TURNS)])
+        words = [self.program, "run", f"{folder}/module.sql", f"{folder}/{script}", "--turns", str(TURNS)]
+        ran = measured(folder, words, LIMIT)
+        if ran.status == STOPPED:
+            raise Failure(f"took over {LIMIT} seconds")
         if ran.status:
             raise Failure(f"status {ran.status}: {' '.join(ran.written.split())[-100:]}")
         return ran
 
     def run(self):
-        """Runs both once more; the first time another run gives the answer, with what the table holds."""
+        """Runs both once more. At first another run, with the work once and what the table holds then, gives the answer."""
         if self.answer is None:
             self.answer = answer_of(self.once("checked.sql").written)
         self.base.append(self.once("base.sql").elapsed)
@@ -190,15 +203,13 @@ class Psm:
 
 
 def answer_of(written):
-    """The numbers of the last parameter and of the row that psm printed."""
-    shown = [line for line in written.splitlines() if line.startswith("S = ")][-1:]
-    shown += [line for line in written.splitlines() if line.startswith("ROW ")]
-    return [number for line in shown for number in NUMBER.findall(line)]
+    """The numbers of the parameter and of the row that psm printed."""
+    return [number for line in written.splitlines() if line.startswith(("S = ", "ROW ")) for number in NUMBER.findall(line)]
 
 
 def write_psm(folder, it, work, calls):
-    module, base, script, shown = dialects.psm(it, work, calls)
-    for name, text in (("module", module), ("base", base), ("script", script), ("checked", script + shown)):
+    module, base, run, shown = dialects.psm(it, work)
+    for name, text in (("module", module), ("base", base), ("script", base + run * calls), ("checked", base + run + shown)):
         (folder / f"{name}.sql").write_text(text, encoding="utf-8")
 
 
@@ -327,10 +338,12 @@ def print_ends(results, chosen):
         both = [it for it in results if PSM in it.seconds and system in it.seconds]
         quicker = [it.it.name for it in both if it.seconds[system] < it.seconds[PSM]]
         if both:
-            print(f"- {TITLES[system]} is quicker than psm in {len(quicker)} of {len(both)}{': ' * bool(quicker)}{', '.join(quicker)}")
-    above = [it for it in results if it.tenth and it.seconds[PSM] > it.tenth * it.it.growth]
-    for it in above:
-        print(f"- {it.it.name} takes {it.seconds[PSM] / it.tenth:.1f} times as long for ten times the work, and the goal is {it.it.growth}")
+            names = ", ".join(quicker) or "none"
+            print(f"- {TITLES[system]} is quicker than psm in {len(quicker)} of {len(both)}: {names}")
+    for it in results:
+        if it.tenth and it.seconds[PSM] > it.tenth * it.it.growth:
+            times = it.seconds[PSM] / it.tenth
+            print(f"- {it.it.name} takes {times:.1f} times as long for ten times the work, and the goal is {it.it.growth}")
     failures = [(it, system, what) for it in results for system, what in it.failures.items()]
     for it, system, what in failures:
         print(f"- error: {it.it.name}: {TITLES.get(system, system)} {what}")
@@ -362,7 +375,7 @@ def main(words):
     for peer in [peer for peer in chosen.peers if not peer.is_there()]:
         print(f"Left out: {TITLES[peer.system]}, which is not installed or not started (bench/peers/setup.sh).\n")
         chosen.peers.remove(peer)
-    print(f"Seconds, the quickest of {chosen.repeat}. {load()}\n\n{head(chosen)}", flush=True)
+    print(f"Seconds, the quickest of {chosen.repeat}{', with a hundredth of the work' * chosen.quick}. {load()}\n\n{head(chosen)}", flush=True)
     results = []
     for it in chosen.workloads:
         results.append(measure(it, chosen, program))

@@ -63,11 +63,11 @@ start_postgresql() {
     mkdir -p "$server/socket"
     [ "$(id -u)" -ne 0 ] || chown -R postgres: "$server"
     "${as_postgres[@]}" "$programs/initdb" -D "$server/data" -A trust -U postgres --locale=C -E UTF8 --no-sync >"$data/postgresql.log" 2>&1
-    setsid "${as_postgres[@]}" "$programs/postgres" -D "$server/data" -k "$server/socket" -c listen_addresses= -c fsync=off \
+    setsid "${as_postgres[@]}" "$programs/postgres" -D "$server/data" -k "$server/socket" -p 5432 -c listen_addresses= -c fsync=off \
         -c synchronous_commit=off -c full_page_writes=off -c shared_buffers=512MB -c temp_buffers=256MB \
         >>"$data/postgresql.log" 2>&1 </dev/null &
     echo $! >"$data/postgresql.pid"
-    wait_for psql -X -h "$server/socket" -U postgres -c '' || say "PostgreSQL did not start: see $data/postgresql.log"
+    wait_for psql -X -h "$server/socket" -p 5432 -U postgres -d postgres -c '' || say "PostgreSQL did not start: see $data/postgresql.log"
 }
 
 start_mariadb() {

@@ -107,7 +107,8 @@ int main(int count, char **words) {
     if (it) printf("%lld\n", sum);
     if (*sums) {
         sqlite3_stmt *row = prepare(sums);
-        if (sqlite3_step(row) == SQLITE_ROW) printf("%lld %lld\n", (long long)sqlite3_column_int64(row, 0), (long long)sqlite3_column_int64(row, 1));
+        if (sqlite3_step(row) != SQLITE_ROW) fail(sums);
+        printf("%s %s\n", (const char *)sqlite3_column_text(row, 0), (const char *)sqlite3_column_text(row, 1));
     }
     return 0;
 }

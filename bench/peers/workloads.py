@@ -25,7 +25,7 @@ AS_WORK = -1
 class Workload:
     name: str
     title: str
-    # The argument of run, and how often psm runs it, so that the time can be measured: it is divided by that.
+    # The argument of run, and how often psm's script calls it, so that the time can be measured: it is divided by that.
     work: int
     calls: int = 1
     # The table, the rows that fill puts into it, and their values for i.
@@ -57,8 +57,8 @@ TOTALS = "k INTEGER PRIMARY KEY, v BIGINT, n INTEGER"
 
 NO_PROCEDURES = {SQLITE: "has no procedures"}
 NO_CONTINUE = "has no CONTINUE handler"
-NO_UNDO = "undoes no change of a MEMORY table"
-NO_TABLE = {MEMORY: "is as MariaDB, without a table"}
+NO_UNDO = "undoes no changes"
+NO_TABLE = {MEMORY: "is the same as MariaDB where there is no table"}
 
 
 def handled(body, state, blank=""):
@@ -71,13 +71,13 @@ COUNTING = "CONTINUE HANDLER FOR SQLSTATE '22012' SET s = s + 1;"
 
 ROUTINES = (
     Workload(
-        "loop", "1,000,000 turns of a WHILE that adds", 1_000_000,
+        "loop", "1,000,000 turns of a WHILE that adds", 1_000_000, calls=3,
         body="s := s + i;",
         sqlite=("once", "WITH RECURSIVE r(i) AS (SELECT 1 UNION ALL SELECT i + 1 FROM r WHERE i < ?1) SELECT SUM(i) FROM r"),
         lacks=NO_TABLE,
     ),
     Workload(
-        "calls", "100,000 calls of a procedure", 100_000,
+        "calls", "100,000 calls of a procedure", 100_000, calls=3,
         routines={
             "psm": "PROCEDURE inc (INOUT x NUMERIC(18,0)) SET x = x + 1;",
             "postgresql": "CREATE PROCEDURE inc (INOUT x BIGINT) LANGUAGE plpgsql AS $$ BEGIN x := x + 1; END $$;",
@@ -91,7 +91,7 @@ ROUTINES = (
         lacks={**NO_PROCEDURES, **NO_TABLE},
     ),
     Workload(
-        "functions", "100,000 calls of a function", 100_000,
+        "functions", "100,000 calls of a function", 100_000, calls=3,
         routines={
             "psm": "FUNCTION f (x NUMERIC(18,0)) RETURNS NUMERIC(18,0) RETURN x + 1;",
             "postgresql": "CREATE FUNCTION f (x BIGINT) RETURNS BIGINT LANGUAGE plpgsql AS $$ BEGIN RETURN x + 1; END $$;",
@@ -103,13 +103,13 @@ ROUTINES = (
         lacks={**NO_PROCEDURES, **NO_TABLE},
     ),
     Workload(
-        "continue", "100,000 divisions by zero, a CONTINUE handler", 100_000,
+        "continue", "100,000 divisions by zero, a CONTINUE handler", 100_000, calls=3,
         declarations={"psm mariadb hsqldb": DIVISION + COUNTING},
         body={"psm mariadb hsqldb": "SET x = i / z;"},
         lacks={POSTGRESQL: NO_CONTINUE, FIREBIRD: NO_CONTINUE, **NO_PROCEDURES, **NO_TABLE},
     ),
     Workload(
-        "exit", "100,000 divisions by zero, an EXIT handler", 100_000,
+        "exit", "100,000 divisions by zero, an EXIT handler", 100_000, calls=3,
         declarations=DIVISION,
         body={
             "psm mariadb": handled("SET x = i / z;", "22012"),
@@ -120,7 +120,7 @@ ROUTINES = (
         lacks={**NO_PROCEDURES, **NO_TABLE},
     ),
     Workload(
-        "raises", "100,000 SIGNALs in a procedure, a handler of the caller", 100_000,
+        "raises", "100,000 SIGNALs in a procedure, a handler of the caller", 100_000, calls=3,
         routines={
             "psm": "PROCEDURE fail () SIGNAL SQLSTATE '45000';",
             "mariadb hsqldb": "CREATE PROCEDURE fail () SIGNAL SQLSTATE '45000'",
@@ -136,7 +136,7 @@ ROUTINES = (
         lacks={**NO_PROCEDURES, **NO_TABLE},
     ),
     Workload(
-        "concat", r"20,000 `\|\|` to texts of up to 2,000 characters", 20_000,
+        "concat", r"20,000 `\|\|` to texts of up to 2,000 characters", 20_000, calls=3,
         declarations="w VARCHAR(4000) DEFAULT ''; j INTEGER DEFAULT 0;",
         body={
             "psm mariadb hsqldb": "SET w = w || 'ab'; SET j = j + 1;"
@@ -228,13 +228,13 @@ CHANGES = (
         sqlite=("each", "INSERT INTO t VALUES (?1 * 7919 % 200003, ?2 - ?1)"),
     ),
     Workload(
-        "update", "100,000 UPDATEs by key", 100_000,
+        "update", "100,000 UPDATEs by key", 100_000, calls=3,
         columns=PAIRS, rows=100_000, summed="v",
         body="UPDATE t SET v = v + 1 WHERE k = :i;",
         sqlite=("each", "UPDATE t SET v = v + 1 WHERE k = ?1"),
     ),
     Workload(
-        "undo", "1,000 UPDATEs of 200 rows, each undone", 1_000,
+        "undo", "1,000 UPDATEs of 200 rows, each undone", 1_000, calls=3,
         columns=PAIRS, rows=200, summed="v", routines=FAILED,
         body=undone("UPDATE t SET v = v + 1;", "UPDATE t SET v = v + 1;"),
         sqlite=("undo", "UPDATE t SET v = v + 1"),
