@@ -6,7 +6,7 @@
 # `install` takes Debian's packages and starts none of their services. What is installed already stays as it is.
 # `start` starts PostgreSQL and MariaDB on Unix sockets, with new data, and compiles what stands for HSQLDB and SQLite.
 # Firebird and HSQLDB run inside the process that measures them. A system that is not installed is left out.
-# `stop` ends the servers that `start` started, and no other. `status` says which of them run.
+# `stop` ends the servers that `start` started, and no other, and removes their data. `status` says which of them run.
 #
 # All data, sockets and logs are below $PSM_PEERS, or else psm-peers in the folder of temporary files.
 set -u
@@ -52,6 +52,15 @@ install_packages() {
     fi
     apt-get update
     DEBIAN_FRONTEND=noninteractive apt-get install -y --no-upgrade --no-install-recommends "${packages[@]}"
+}
+
+# Makes the folder of the data, unless it is there. What someone else made is left alone, since `start` removes old data.
+make_folder() {
+    if [ -n "$(ls -A "$data" 2>/dev/null)" ] && [ ! -e "$data/of-bench-peers" ]; then
+        say "$data holds what is not of bench/peers"
+        exit 1
+    fi
+    mkdir -p "$data" && chmod 755 "$data" && touch "$data/of-bench-peers" || exit 1
 }
 
 start_postgresql() {
@@ -104,7 +113,7 @@ stop() {
         id=$(cat "$data/$name.pid")
         # PostgreSQL ends at once at SIGINT, and MariaDB at SIGTERM.
         if [ "$name" = postgresql ]; then kill -INT "$id"; else kill -TERM "$id"; fi
-        wait_for gone "$id" || say "$name, process $id, does not end"
+        if wait_for gone "$id"; then rm -rf "${data:?}/$name"; else say "$name, process $id, does not end"; fi
     done
 }
 
@@ -113,7 +122,7 @@ gone() { ! kill -0 "$1"; }
 case ${1-} in
     install) install_packages ;;
     start)
-        mkdir -p "$data" && chmod 755 "$data" || exit 1
+        make_folder
         compile
         start_postgresql
         start_mariadb
