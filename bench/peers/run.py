@@ -103,7 +103,7 @@ def runs_in(printed):
             start = float(rest)
             answers.append([])
         elif word == "END":
-            seconds.append(float(rest) - start)
+            seconds.append(max(float(rest) - start, 1e-6))
         elif answers:
             answers[-1] += NUMBER.findall(line)
     if not seconds or len(seconds) != len(answers):

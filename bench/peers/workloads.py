@@ -297,7 +297,7 @@ QUERIES = (
         sqlite=("each", "SELECT v FROM t WHERE k = ?1"),
     ),
     Workload(
-        "next", "1,000 SELECTs with `k = i + 1`", 1_000, columns=PAIRS, rows=100_000,
+        "next", "500 SELECTs with `k = i + 1`", 500, columns=PAIRS, rows=100_000,
         declarations="x INTEGER;",
         body=selected("SELECT v INTO :x FROM t WHERE k = :i + 1;"),
         sqlite=("each", "SELECT v FROM t WHERE k = ?1 + 1"),
