@@ -6,7 +6,7 @@ ghost use Rattle.psm_table.specs.Held.{entries_of};
 ghost use Rattle.psm_table.specs.Key.{values_at};
 ghost use Rattle.psm_table.specs.Keyed.{has_values};
 ghost use Rattle.psm_table.specs.Queries.{in_walk};
-ghost use Rattle.psm_table.specs.Rows.{row_after, row_before};
+ghost use Rattle.psm_table.specs.Rows.{row_after};
 ghost use Rattle.psm_table.specs.State.{has_key, IsTidy, Inserts, Changes, KeepsRow, StillKeeps};
 ghost use Rattle.psm_table.specs.Table.{IsTable, empty_table, keyed, most_rows, namesake, with_row, without_row};
 ghost use Rattle.psm_table.specs.Unique.{clashes, has_null};
@@ -312,42 +312,6 @@ impl Table {
         }
     }
 
-    /// The last row with a smaller key; without a key the last row.
-    pub fn prev_before(&self, key: Option<&Key>) -> Option<&Row>
-        requires { ForSome key (λ k. IsKey self.now.contents.def k.now) }
-        ensures row { option_copied result ≡ row_before self.now.contents.def.key (option_copied key.entry) self.now.contents.rows }
-        ensures fits { IfSome result (λ row. IsRow self.now.contents.def row.now) }
-    {
-        match key {
-            Some(key) => self.rows.row_before(Some(Probe::Of(key.values()))),
-            None => self.rows.row_before(None),
-        }
-    }
-
-    /// The first row whose key is greater than that of a row, which need not be the table's. It takes no memory.
-    pub fn row_following(&self, row: &Row) -> Option<&Row>
-        requires { HasColumns self.now.contents.def row.now }
-        ensures row { option_copied result ≡ row_after self.now.contents.def.key (Some (values_at self.now.contents.def.key row.now)) self.now.contents.rows }
-        ensures fits { IfSome result (λ row. IsRow self.now.contents.def row.now) }
-    {
-        self.rows.row_after(Some(Probe::In {
-            columns: self.def.key.items(),
-            row: row.values(),
-        }))
-    }
-
-    /// The last row whose key is smaller than that of a row, which need not be the table's. It takes no memory.
-    pub fn row_before_row(&self, row: &Row) -> Option<&Row>
-        requires { HasColumns self.now.contents.def row.now }
-        ensures row { option_copied result ≡ row_before self.now.contents.def.key (Some (values_at self.now.contents.def.key row.now)) self.now.contents.rows }
-        ensures fits { IfSome result (λ row. IsRow self.now.contents.def row.now) }
-    {
-        self.rows.row_before(Some(Probe::In {
-            columns: self.def.key.items(),
-            row: row.values(),
-        }))
-    }
-
     /// A walk over the rows in ascending order of their keys; downward, in descending order. It goes on without a search.
     pub fn rows(&self, downward: bool) -> RowsLeft<'_>
         ensures rows { result ≡ in_walk downward self.now.contents.rows }
@@ -357,7 +321,8 @@ impl Table {
     }
 
     /// A walk over the rows between two cuts, in ascending order of their keys; downward, in descending order. Where a cut lacks,
-    /// the walk begins or ends with the table. It takes two searches, no memory, and goes on without a search.
+    /// the walk begins or ends with the table. It takes two searches and a third within one run, no memory, and goes on without a
+    /// search.
     pub fn rows_between(
         &self,
         low: Option<Cut<'_>>,
