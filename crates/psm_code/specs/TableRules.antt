@@ -171,7 +171,7 @@ unique_fault def columns = first_of (unless (are_there def.columns columns) Rang
 abbrev pub keys_from : List ForeignKey → ℕ → List ForeignKey
 keys_from keys n = filter (λ key. nat_eq key.from n) keys
 
--- whether they stand in the order of the tables that refer, of which there are so many
+-- whether they stand in the order of the referencing tables, of which there are so many
 abbrev pub are_in_turn : ℕ → ℕ → List ForeignKey → Bool
 are_in_turn at count [] = true
 are_in_turn at count (key ∷ keys) = (nat_le at key.from && nat_lt key.from count) && are_in_turn key.from count keys

@@ -100,7 +100,7 @@ pub struct RawRoutine {
 #[derive(Debug, Drop)]
 pub struct RawCode {
     pub tables: List<CodeTable>,
-    /// The FOREIGN KEY constraints of all tables, in the order of the tables that refer.
+    /// The FOREIGN KEY constraints of all tables, in the order of the referencing tables.
     pub keys: ForeignKeys,
     pub routines: List<RawRoutine>,
 }

@@ -1,4 +1,4 @@
--- Tables with their FOREIGN KEY constraints: these are kept in one list, in the order of the tables that refer.
+-- Tables with their FOREIGN KEY constraints: these are kept in one list, in the order of the referencing tables.
 use Rattle.std.proofs.Common.{◌≡◌, ◌<◌, ◌≤◌, ℕ, zero, suc, ◌+◌, Bool, true, false, ◌&&◌, nat_eq, nat_le, nat_lt, List, [], ◌∷◌, ◌++◌, cond, drop, length, map, take, Result, Ok, Err, refl, ap, ap₂, sym, subst, ◌∙◌, append_assoc, arith, inl, inr, length-append}
 use Rattle.std.specs.List.{flat_map}
 use Rattle.std.specs.Result.{IsErrAnd}
@@ -75,7 +75,7 @@ texts_length keys n (t ∷ ts) = ap suc (texts_length keys (suc n) ts)
 
 -- ---- their lines
 
--- which table refers is told by the place of a line
+-- which table is the referencing one is told by the place of a line
 abbrev pub text_lines : TableText → List (List ℕ)
 text_lines t = table_lines (map (key_from 0) t.references) t.table
 

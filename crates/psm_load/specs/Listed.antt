@@ -1,5 +1,5 @@
 -- Code whose parts the lines of a listing can say: numbers have 32 bits, names, data, types and SQLSTATEs are within bounds, lists of
--- columns have one, FOREIGN KEY constraints stand in the order of the tables that refer, items without any are no set functions, and
+-- columns have one, FOREIGN KEY constraints stand in the order of the referencing tables, items without any are no set functions, and
 -- COUNT alone has no operand. A value of Rust's types is such code where it
 -- breaks no rule and no list has 2^32 items.
 use Rattle.std.specs.Prelude.{◌≡◌, ℕ, suc, true, List, [], ◌∷◌, length, map, is_some, Option, Some, None}

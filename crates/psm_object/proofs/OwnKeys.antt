@@ -1,4 +1,4 @@
--- FOREIGN KEY constraints in the order of the tables that refer.
+-- FOREIGN KEY constraints in the order of the referencing tables.
 use Rattle.std.proofs.Common.{◌≡◌, ◌<◌, ◌≤◌, ℕ, zero, suc, ◌+◌, Bool, true, false, ◌&&◌, nat_eq, nat_le, List, [], ◌∷◌, cond, drop, length, take, refl, ap, sym, ◌∙◌, arith, inl, inr}
 use Rattle.std.proofs.lemmas.Bool.{cases_lt, eqb-false, eqb-true, le-leb, leb-true, ne_eqb}
 use Rattle.psm_table.specs.declared.definition.ForeignKey.{ForeignKey}

@@ -1,4 +1,4 @@
--- FOREIGN KEY constraints in the order of the tables that refer: those of a table stand side by side.
+-- FOREIGN KEY constraints in the order of the referencing tables: those of a table stand side by side.
 use Rattle.std.specs.Prelude.{ℕ, suc, Bool, true, ◌&&◌, nat_eq, nat_le, List, [], ◌∷◌, if◌then◌else◌}
 use Rattle.psm_table.specs.declared.definition.ForeignKey.{ForeignKey}
 

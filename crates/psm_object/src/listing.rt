@@ -10,7 +10,7 @@ use psm_code::RawCode;
 use std::alloc::{AllocError, Global};
 
 /// The listing of code, which need not be well-formed. Takes the time of its text, if the FOREIGN KEY constraints stand in the order
-/// of the tables that refer.
+/// of the referencing tables.
 pub fn write(alloc: Global, code: &RawCode) -> Result<Vec<u8>, AllocError>
     ensures { IfOk result (λ text. text.items ≡ listing code.now) }
 {

@@ -1,4 +1,4 @@
-//! The lines of FOREIGN KEY constraints, each behind those of the table that refers.
+//! The lines of FOREIGN KEY constraints, each behind those of the referencing table.
 ghost use Rattle.std.specs.Prelude.{◌≡◌, ◌++◌, ◌<◌, ℕ, suc, true, length, map, OnOk};
 ghost use Rattle.psm_code.specs.TableRules.{keys_from};
 ghost use Rattle.psm_object.specs.OwnKeys as order;
@@ -9,7 +9,7 @@ use crate::words::{end_line, put_index, put_indices, put_word};
 use psm_table::ForeignKey;
 use std::alloc::AllocError;
 
-/// Whether constraints stand in the order of the tables that refer.
+/// Whether constraints stand in the order of the referencing tables.
 pub(crate) fn ascend(keys: &[ForeignKey]) -> bool
     ensures { result ≡ order.ascend 0 keys.now }
 {

@@ -16,7 +16,7 @@ use psm_table::{Column, ForeignKey};
 use std::alloc::AllocError;
 
 /// Appends the lines of tables with their FOREIGN KEY constraints. Takes the time of the text, if these stand in the order of the
-/// tables that refer.
+/// referencing tables.
 pub(crate) fn put_tables(
     out: &mut Vec<u8>,
     tables: &[CodeTable],

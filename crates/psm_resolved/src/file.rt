@@ -11,7 +11,7 @@ use psm_value::SqlType;
 #[derive(Drop)]
 pub struct ResolvedFile {
     pub tables: List<ResolvedTable>,
-    /// The FOREIGN KEY constraints of all tables, in the order of the tables that refer.
+    /// The FOREIGN KEY constraints of all tables, in the order of the referencing tables.
     pub keys: List<ForeignKey>,
     pub routines: List<ResolvedRoutine>,
 }

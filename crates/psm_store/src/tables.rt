@@ -29,7 +29,7 @@ impl Model for Tables {
 }
 
 impl Tables {
-    /// Empty tables, with an index on the columns of each constraint in the table that refers.
+    /// Empty tables, with an index on the columns of each constraint in the referencing table.
     pub(crate) fn new(
         alloc: Global,
         defs: Vec<TableDef>,

@@ -43,7 +43,7 @@ abbrev pub Entry : Type 0
 Entry = Pair (Unit {0})
 
 -- keys of two parts
-then_equal : (o r : Ordering) → ordering_then o r ≡ Equal → (o ≡ Equal) × (r ≡ Equal)
+pub then_equal : (o r : Ordering) → ordering_then o r ≡ Equal → (o ≡ Equal) × (r ≡ Equal)
 then_equal Less r e = cc
 then_equal Equal r e = (refl, e)
 then_equal Greater r e = cc

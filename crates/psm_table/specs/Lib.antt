@@ -11,6 +11,7 @@ pub mod Keyed
 pub mod Left
 pub mod Map
 pub mod Mapped
+pub mod Matching
 pub mod Parts
 pub mod Place
 pub mod Queries
@@ -18,4 +19,5 @@ pub mod Rows
 pub mod Runs
 pub mod State
 pub mod Table
+pub mod Told
 pub mod Unique

@@ -15,6 +15,7 @@ mod row;
 mod run;
 mod runs;
 mod table;
+mod unique;
 mod walk;
 
 pub use constraints::ForeignKeys;
@@ -32,4 +33,5 @@ pub use psm_text::Name;
 pub use psm_value::{Datum, SqlType, Steps};
 pub use row::Row;
 pub use table::Table;
+pub use unique::Matching;
 pub use walk::RowsLeft;

@@ -100,9 +100,8 @@ pub(crate) fn has_row_with(mut rows: RowsLeft<'_>, columns: &[u32], values: &[Da
     false
 }
 
-/// Whether a row has the values in the columns.
-fn has_in(row: &[Datum], columns: &[u32], values: &[Datum]) -> bool
-    requires columns { AreColumnsOf row.now columns.now }
+/// Whether a row has the values in the columns. A column that it doesn't have counts as null.
+pub(crate) fn has_in(row: &[Datum], columns: &[u32], values: &[Datum]) -> bool
     requires filled { has_null values.now ≡ false }
     ensures { result ≡ equal_values values.now (values_at columns.now row.now) }
 {

@@ -1,10 +1,11 @@
-ghost use Rattle.std.specs.Prelude.{◌≡◌, ◌+◌, ◌≤◌, ◌<◌, ◌↔◌, [], length, None, Some, IsTrue, is_some, true, false, All, IfSome, IfNone, IfOk, if◌then◌else◌, take};
+ghost use Rattle.std.specs.Prelude.{◌≡◌, ◌+◌, ◌≤◌, ◌<◌, ◌↔◌, [], length, slice_index_or, None, Some, IsTrue, is_some, true, false, All, IfSome, IfNone, IfOk, if◌then◌else◌, take};
 ghost use Rattle.std.specs.Option.{option_copied, ForSome};
 ghost use Rattle.psm_table.specs.Cuts.{rows_between};
 ghost use Rattle.psm_table.specs.Definition.{IsDefinition, IsRow, IsKey, HasColumns};
 ghost use Rattle.psm_table.specs.Held.{entries_of};
 ghost use Rattle.psm_table.specs.Key.{values_at};
 ghost use Rattle.psm_table.specs.Keyed.{has_values};
+ghost use Rattle.psm_table.specs.Matching.{few, matched, rows_with};
 ghost use Rattle.psm_table.specs.Queries.{in_walk};
 ghost use Rattle.psm_table.specs.Rows.{row_after};
 ghost use Rattle.psm_table.specs.State.{has_key, IsTidy, Inserts, Changes, KeepsRow, StillKeeps};
@@ -21,6 +22,7 @@ use crate::probe::Probe;
 use crate::referred::{begins, has_entry_with, has_row_with, list_of};
 use crate::row::Row;
 use crate::run::insert_reserved;
+use crate::unique::{Matching, look_up};
 use crate::walk::RowsLeft;
 use psm_list::List;
 use psm_value::{Datum, Steps};
@@ -363,6 +365,19 @@ impl Table {
             Some(i) => has_entry_with(&self.def, columns, &self.rows, &self.indexes[i], values),
             None => has_row_with(self.rows(false), columns, values),
         }
+    }
+
+    /// Looks rows up by a UNIQUE list (ISO/IEC 9075:1992, 8.9): the one row that has the values in the columns of the list, or that
+    /// none or several have them. Several can have them in the middle of a statement alone. It searches once for each row with the
+    /// values that the table keeps, and takes no memory.
+    pub fn by_unique(&self, list: usize, values: &[Datum]) -> Matching<'_>
+        requires list { list < length self.now.contents.def.unique }
+        requires filled { has_null values.now ≡ false }
+        ensures found { matched result ≡ few (rows_with (slice_index_or self.now.contents.def.unique list []) values.now self.now.contents.rows) }
+        ensures table { IsTable self.now.contents }
+    {
+        let columns = self.def.unique.items()[list].items();
+        look_up(&self.def, columns, &self.rows, &self.indexes[list], values)
     }
 
     /// Whether a row has the values as its key.

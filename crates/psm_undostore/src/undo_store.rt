@@ -41,7 +41,7 @@ impl Model for UndoStore {
 }
 
 impl UndoStore {
-    /// A store of empty tables, with no mark open. The columns of each constraint are indexed in the table that refers, if it
+    /// A store of empty tables, with no mark open. The columns of each constraint are indexed in the referencing table, if it
     /// is there.
     pub fn new(
         alloc: Global,

@@ -97,7 +97,7 @@ pub record WellFormedRoutine (file : ResolvedFile) (routine : ResolvedRoutine) :
 pub record WellFormedFile (file : ResolvedFile) : Type 0 where
   pub names : are_new_names [] (map (λ t. t.definition.name) file.tables) ≡ true
   pub tables : Each WellFormedTable file.tables
-  -- the constraints stand in the order of the tables that refer
+  -- the constraints stand in the order of the referencing tables
   pub turns : are_in_turn 0 (length file.tables) file.keys ≡ true
   pub keys : Each (WellFormedKey file.tables) file.keys
   pub apart : AreApart [] file.routines

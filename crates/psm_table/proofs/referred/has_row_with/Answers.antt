@@ -1,13 +1,8 @@
-use Rattle.std.proofs.Common.{ap, sym, subst, ◌∙◌}
-use Rattle.psm_table.specs.Key.{values_at, AreColumnsOf}
+use Rattle.std.proofs.Common.{ap, sym, ◌∙◌}
+use Rattle.psm_table.specs.Key.{values_at}
 use Rattle.psm_table.specs.Unique.{equal_values}
-use Rattle.psm_table.proofs.Referring.{next_exists, others_exist, passed_over}
+use Rattle.psm_table.proofs.Referring.{others_exist, passed_over}
 use Rattle.psm_table.proofs.referred.has_row_with.Goals as goal
-
-pub has_in-requires-clause-columns : goal.has_in-requires-clause-columns
-has_in-requires-clause-columns c =
-    subst (λ r. AreColumnsOf r c.args.columns.now) (sym c.values.ensures)
-    (next_exists c.args.columns.now c.rows.rows c.in-Some.row.now c.next.new.self c.in-Some.ensures c.rows.invariant.1)
 
 pub rows-preserved : goal.rows-preserved
 rows-preserved c = (
