@@ -19,10 +19,10 @@ use crate::index::{enter, has_rival, settle_entries};
 use crate::key::Key;
 use crate::map::{HasRow, OrderedMap};
 use crate::probe::Probe;
-use crate::referred::{begins, has_entry_with, has_row_with, list_of};
+use crate::referred::{begins, has_row_with, list_of};
 use crate::row::Row;
 use crate::run::insert_reserved;
-use crate::unique::{Matching, look_up};
+use crate::unique::{Matching, has_entry_with, look_up};
 use crate::walk::RowsLeft;
 use psm_list::List;
 use psm_value::{Datum, Steps};
@@ -384,9 +384,8 @@ impl Table {
 
     /// Whether a row has the values in the columns (ISO/IEC 9075:1992, 11.8). By the columns of the key that is one search, by
     /// those with which the key begins two, by those of a UNIQUE list or an index one for each row with the values that the table
-    /// keeps, and else a walk over the rows. It takes no memory.
+    /// keeps, and else a walk over the rows. A column that there isn't counts as null. It takes no memory.
     pub fn has(&self, columns: &[u32], values: &[Datum]) -> bool
-        requires columns { All (λ c. c < length self.now.contents.def.columns) columns.now }
         requires filled { has_null values.now ≡ false }
         ensures { result ≡ has_values columns.now values.now self.now.contents.rows }
     {
