@@ -18,7 +18,7 @@ use Rattle.psm_codegen.specs.Statements.{WritesStatement}
 
 -- nothing is written yet
 abbrev pub only_declared : List Declared → FunctionBuilder
-only_declared ds = record { code = record { lines = []; stack = []; queries = [] }; contexts = []; handlers = []; declared = ds; plans = []; cursors = []; letters = [] }
+only_declared ds = record { code = record { lines = []; stack = []; queries = []; labels = [] }; contexts = []; handlers = []; declared = ds; plans = []; cursors = []; letters = [] }
 
 -- the numbers of all conditions, contexts and handlers have 32 bits
 pub table_numbered : (t : HandlerTable) → length t.declared < 2 ^ 32 → length t.contexts < 2 ^ 32 → length t.handlers < 2 ^ 32 → IsTrue (is_numbered t)
