@@ -74,13 +74,15 @@ patched_block σ (Rows context outer) = Rows context outer
 
 -- ---- what is written with labels
 
--- with lines in place of labels it is what R says. The labels that were there stay as they are, and those that come may be bound: R holds
--- whatever lines come to stand for the others
-pub record Drafted (R : (ℕ → ℕ) → Written → Written → Type 0) (w v : Written) : Type 0 where
-  pub labels : BeginsWith w.labels v.labels
-  pub is : (σ : ℕ → ℕ) → Respects σ v.labels → R σ (patched σ w) (patched σ v)
+-- from a state to another one: the labels that were there stay, and R holds with lines in place of labels. A label that isn't bound yet may
+-- come to stand for any line
+pub record Draft {S : Type 0} (labels_in : S → List (Option ℕ)) (patch : (ℕ → ℕ) → S → S) (R : (ℕ → ℕ) → S → S → Type 0) (w v : S) : Type 0 where
+  pub labels : BeginsWith (labels_in w) (labels_in v)
+  pub is : (σ : ℕ → ℕ) → Respects σ (labels_in v) → R σ (patch σ w) (patch σ v)
 
--- the same of all that a routine has
-pub record DraftedParts (R : (ℕ → ℕ) → FunctionBuilder → FunctionBuilder → Type 0) (p q : FunctionBuilder) : Type 0 where
-  pub labels : BeginsWith p.code.labels q.code.labels
-  pub is : (σ : ℕ → ℕ) → Respects σ q.code.labels → R σ (patched_parts σ p) (patched_parts σ q)
+-- of lines, and of all that a routine has
+abbrev pub Drafted : ((ℕ → ℕ) → Written → Written → Type 0) → Written → Written → Type 0
+Drafted R w v = Draft (λ u. u.labels) patched R w v
+
+abbrev pub DraftedParts : ((ℕ → ℕ) → FunctionBuilder → FunctionBuilder → Type 0) → FunctionBuilder → FunctionBuilder → Type 0
+DraftedParts R p q = Draft (λ u. u.code.labels) patched_parts R p q
