@@ -62,7 +62,7 @@ scoped {label} {R} {w} {l} {f} {v} n m a e =
 
 -- ---- operands that go into variables, and the diagnostics area
 
-stored_labels : (context resume : ℕ) (store : ℕ → Instruction) (slots : List ℕ) (w : Written) → (stored context resume store slots w).labels ≡ w.labels
+pub stored_labels : (context resume : ℕ) (store : ℕ → Instruction) (slots : List ℕ) (w : Written) → (stored context resume store slots w).labels ≡ w.labels
 stored_labels context resume store [] w = refl
 stored_labels context resume store (slot ∷ slots) w = stored_labels context resume store slots (takes context resume (store slot) 1 w)
 
