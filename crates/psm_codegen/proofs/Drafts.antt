@@ -88,6 +88,19 @@ module _ {S : Type 0} {labels_in : S → List (Option ℕ)} {patch : (ℕ → �
         f σ (a.is σ (respects-before σ b.labels p)) (b.is σ p) (c.is σ q) (d.is σ s) (e.is σ r);
   }
 
+  pub six : {A B C D E F Q : (ℕ → ℕ) → S → S → Type 0} {w x y s t u v : S} → Draft labels_in patch A w x → Draft labels_in patch B x y → Draft labels_in patch C y s → Draft labels_in patch D s t → Draft labels_in patch E t u → Draft labels_in patch F u v
+      → ((σ : ℕ → ℕ) → A σ (patch σ w) (patch σ x) → B σ (patch σ x) (patch σ y) → C σ (patch σ y) (patch σ s) → D σ (patch σ s) (patch σ t) → E σ (patch σ t) (patch σ u) → F σ (patch σ u) (patch σ v) → Q σ (patch σ w) (patch σ v))
+      → Draft labels_in patch Q w v
+  six a b c d e f g = record {
+    labels = begins-before a.labels (begins-before b.labels (begins-before c.labels (begins-before d.labels (begins-before e.labels f.labels))));
+    is = λ σ r.
+        let s = respects-before σ f.labels r in
+        let q = respects-before σ e.labels s in
+        let p = respects-before σ d.labels q in
+        let o = respects-before σ c.labels p in
+        g σ (a.is σ (respects-before σ b.labels o)) (b.is σ o) (c.is σ p) (d.is σ q) (e.is σ s) (f.is σ r);
+  }
+
   -- a step that makes no label
   pub step : {w v : S} (g : (ℕ → ℕ) → S → S) → labels_in v ≡ labels_in w → ((σ : ℕ → ℕ) → patch σ v ≡ g σ (patch σ w)) → Draft labels_in patch (λ σ x y. y ≡ g σ x) w v
   step g l e = record { labels = begins-same l; is = λ σ r. e σ }

@@ -1,0 +1,77 @@
+-- Lines in place of labels, at one line after another.
+use Rattle.std.proofs.Common.{arith, ◌≡◌, ◌<◌, ◌≤◌, ℕ, zero, suc, List, [], ◌∷◌, length, map, get_or, set, Option, Some, None, ap, refl, sym, ◌∙◌}
+use Rattle.std.specs.Prelude.{option_map, slice_get}
+use Rattle.psm_code.specs.declared.instruction.Instruction.{Instruction}
+use Rattle.psm_code.specs.declared.lines.CodeLine.{CodeLine}
+use Rattle.psm_code.specs.Numbered.{with_instruction_at, with_resume_at}
+use Rattle.psm_codegen.specs.Labels.{instead, patch_of, patched_instruction, patched_line}
+use Rattle.psm_codegen.specs.Patching.{map_from, with_patched_instruction, with_patched_resume}
+
+some : {A : Type 0} → Option A → A → A
+some None a = a
+some (Some b) a = b
+
+-- ---- one line
+
+pub resume-set : (σ : ℕ → ℕ) (lines : List CodeLine) (at label line : ℕ) → Some (Some label) ≡ option_map (λ l. l.resume) (slice_get lines at) → line ≡ σ label → with_resume_at lines at (Some line) ≡ with_patched_resume σ at lines
+resume-set σ [] at label line h e = absurd (cc)
+resume-set σ (l ∷ lines) zero label line h e =
+    let one : Some label ≡ l.resume = ap (λ o. some o None) h in
+    ap (λ r. record l { resume = r } ∷ lines) (ap Some e ∙ ap (option_map σ) one)
+resume-set σ (l ∷ lines) (suc at) label line h e = ap (λ ls. l ∷ ls) (resume-set σ lines at label line h e)
+
+pub resume-none : (σ : ℕ → ℕ) (lines : List CodeLine) (at : ℕ) → Some None ≡ option_map (λ l. l.resume) (slice_get lines at) → lines ≡ with_patched_resume σ at lines
+resume-none σ [] at h = refl
+resume-none σ (l ∷ lines) zero h =
+    let one : None ≡ l.resume = ap (λ o. some o None) h in
+    ap (λ r. record l { resume = r } ∷ lines) (sym one ∙ ap (option_map σ) one)
+resume-none σ (l ∷ lines) (suc at) h = ap (λ ls. l ∷ ls) (resume-none σ lines at h)
+
+pub resume-beyond : (σ : ℕ → ℕ) (lines : List CodeLine) (at : ℕ) → None ≡ option_map (λ l. l.resume) (slice_get lines at) → lines ≡ with_patched_resume σ at lines
+resume-beyond σ [] at h = refl
+resume-beyond σ (l ∷ lines) zero h = absurd (cc)
+resume-beyond σ (l ∷ lines) (suc at) h = ap (λ ls. l ∷ ls) (resume-beyond σ lines at h)
+
+pub instruction-set : (σ : ℕ → ℕ) (lines : List CodeLine) (at : ℕ) (i j : Instruction) → Some i ≡ option_map (λ l. l.instruction) (slice_get lines at) → Some j ≡ patch_of σ i → with_instruction_at lines at j ≡ with_patched_instruction σ at lines
+instruction-set σ [] at i j h e = absurd (cc)
+instruction-set σ (l ∷ lines) zero i j h e =
+    let one : i ≡ l.instruction = ap (λ o. some o i) h in
+    ap (λ k. record l { instruction = k } ∷ lines) (ap (instead i) e ∙ ap (patched_instruction σ) one)
+instruction-set σ (l ∷ lines) (suc at) i j h e = ap (λ ls. l ∷ ls) (instruction-set σ lines at i j h e)
+
+pub instruction-kept : (σ : ℕ → ℕ) (lines : List CodeLine) (at : ℕ) (i : Instruction) → Some i ≡ option_map (λ l. l.instruction) (slice_get lines at) → None ≡ patch_of σ i → lines ≡ with_patched_instruction σ at lines
+instruction-kept σ [] at i h e = refl
+instruction-kept σ (l ∷ lines) zero i h e =
+    let one : i ≡ l.instruction = ap (λ o. some o i) h in
+    ap (λ k. record l { instruction = k } ∷ lines) (sym one ∙ ap (instead i) e ∙ ap (patched_instruction σ) one)
+instruction-kept σ (l ∷ lines) (suc at) i h e = ap (λ ls. l ∷ ls) (instruction-kept σ lines at i h e)
+
+pub instruction-beyond : (σ : ℕ → ℕ) (lines : List CodeLine) (at : ℕ) → None ≡ option_map (λ l. l.instruction) (slice_get lines at) → lines ≡ with_patched_instruction σ at lines
+instruction-beyond σ [] at h = refl
+instruction-beyond σ (l ∷ lines) zero h = absurd (cc)
+instruction-beyond σ (l ∷ lines) (suc at) h = ap (λ ls. l ∷ ls) (instruction-beyond σ lines at h)
+
+-- ---- all lines
+
+pub lines-next : (σ : ℕ → ℕ) (at : ℕ) (lines : List CodeLine) → map_from (patched_line σ) at lines ≡ map_from (patched_line σ) (suc at) (with_patched_instruction σ at (with_patched_resume σ at lines))
+lines-next σ zero [] = refl
+lines-next σ (suc at) [] = refl
+lines-next σ zero (l ∷ lines) = refl
+lines-next σ (suc at) (l ∷ lines) = ap (λ ls. l ∷ ls) (lines-next σ at lines)
+
+pub lines-length : (σ : ℕ → ℕ) (at : ℕ) (lines : List CodeLine) → length (with_patched_instruction σ at (with_patched_resume σ at lines)) ≡ length lines
+lines-length σ zero [] = refl
+lines-length σ (suc at) [] = refl
+lines-length σ zero (l ∷ lines) = refl
+lines-length σ (suc at) (l ∷ lines) = ap suc (lines-length σ at lines)
+
+pub map_from-none : {A : Type 0} (f : A → A) (n : ℕ) (xs : List A) → length xs ≤ n → map_from f n xs ≡ xs
+map_from-none f zero [] h = refl
+map_from-none f (suc n) [] h = refl
+map_from-none f zero (x ∷ xs) h = absurd (omega (arith, h))
+map_from-none f (suc n) (x ∷ xs) h = ap (λ ys. x ∷ ys) (map_from-none f n xs (omega (arith, h)))
+
+pub map_from-next : {A : Type 0} (f : A → A) (n : ℕ) (xs : List A) (x y : A) → n < length xs → x ≡ get_or xs n x → y ≡ f x → map_from f n xs ≡ map_from f (suc n) (set xs n y)
+map_from-next f n [] x y h e p = absurd (omega (arith, h))
+map_from-next f zero (z ∷ xs) x y h e p = ap (λ k. k ∷ map f xs) (sym (p ∙ ap f e))
+map_from-next f (suc n) (z ∷ xs) x y h e p = ap (λ ys. z ∷ ys) (map_from-next f n xs x y (omega (arith, h)) e p)
