@@ -2,6 +2,7 @@
 use Rattle.std.proofs.Common.{◌≡◌, ℕ, suc, Bool, List, [], ◌∷◌, ◌++◌, length, map, Option, Some, None, ap, refl, sym, subst, ◌∙◌}
 use Rattle.std.proofs.lemmas.List.{length-map, map-append}
 use Rattle.psm_cond.specs.declared.handlers.ConditionValue.{ConditionValue}
+use Rattle.psm_cond.specs.declared.handlers.Context.{Context}
 use Rattle.psm_cond.specs.declared.handlers.ContextKind.TheVariants as kinds
 use Rattle.psm_cond.specs.declared.handlers.HandlerKind.{HandlerKind}
 use Rattle.psm_exprcode.specs.declared.op.Letter.{Letter}
@@ -29,9 +30,9 @@ pub here_parts : {R : (ℕ → ℕ) → FunctionBuilder → FunctionBuilder → 
 here_parts f = record { labels = begins-same refl; is = λ σ r. f σ }
 
 -- lines alone, inside of the parts i, which have the labels of p
-pub parts_from : {Q : (ℕ → ℕ) → FunctionBuilder → FunctionBuilder → Type 0} {i p : FunctionBuilder} {v : Written} → i.code.labels ≡ p.code.labels
+pub parts_from : {Q : (ℕ → ℕ) → FunctionBuilder → FunctionBuilder → Type 0} (i : FunctionBuilder) {p : FunctionBuilder} {v : Written} → i.code.labels ≡ p.code.labels
     → Drafted (λ σ y z. Q σ (patched_parts σ p) (with_code z (patched_parts σ i))) i.code v → DraftedParts Q p (with_code v i)
-parts_from {v = v} l a = record { labels = subst (λ ls. BeginsWith ls v.labels) l a.labels; is = a.is }
+parts_from i {v = v} l a = record { labels = subst (λ ls. BeginsWith ls v.labels) l a.labels; is = a.is }
 
 pub parts_alone : {R : (ℕ → ℕ) → Written → Written → Type 0} {p q : FunctionBuilder} → Drafted R p.code q.code → q ≡ with_code q.code p → DraftedParts (λ σ x y. R σ x.code y.code × (y ≡ with_code y.code x)) p q
 parts_alone a e = record { labels = a.labels; is = λ σ r. (a.is σ r, ap (patched_parts σ) e) }
@@ -79,7 +80,7 @@ entered_parts outer atomic exit cursors {p} h = step (λ σ. block_entered outer
   entering : (σ : ℕ → ℕ) → patched_parts σ (block_entered outer atomic exit cursors p) ≡ block_entered outer atomic (σ exit) cursors (patched_parts σ p)
   entering σ =
       let number : suc (length p.contexts) ≡ suc (length (map (patched_context σ) p.contexts)) = ap suc (sym (length-map p.contexts (patched_context σ))) in
-      let block = record { parent = outer; kind = kinds.Block (record { atomic = atomic; exit = exit; cursors = cursors }) } in
+      let block : Context = record { parent = outer; kind = kinds.Block (record { atomic = atomic; exit = exit; cursors = cursors }) } in
       ap (λ w. record (patched_parts σ p) { code = w; contexts = map (patched_context σ) (p.contexts ++ block ∷ []) }) (patched-plain σ outer (instruction.Enter (next_context p)) p.code ∙ ap (λ n. plain outer (instruction.Enter n) (patched σ p.code)) number)
       ∙ ap (λ cs. record (patched_parts σ p) { code = plain outer (instruction.Enter (next_context (patched_parts σ p))) (patched σ p.code); contexts = cs }) (map-append (patched_context σ) p.contexts (block ∷ []))
 
@@ -87,7 +88,7 @@ pub handler_parts : (context : ℕ) (kind : HandlerKind) (values : List Conditio
 handler_parts context kind values {p} h = step (λ σ. with_handler context kind values) (ap (λ z. z.code.labels) h) (λ σ. ap (patched_parts σ) h ∙ declaring σ) where
   declaring : (σ : ℕ → ℕ) → patched_parts σ (with_handler context kind values p) ≡ with_handler context kind values (patched_parts σ p)
   declaring σ =
-      let action = record { parent = context; kind = kinds.Action (length p.handlers) } in
+      let action : Context = record { parent = context; kind = kinds.Action (length p.handlers) } in
       ap (λ cs. record (patched_parts σ (with_handler context kind values p)) { contexts = cs }) (map-append (patched_context σ) p.contexts (action ∷ []))
       ∙ ap (λ pc. record (patched_parts σ p) { contexts = map (patched_context σ) p.contexts ++ action ∷ []; handlers = p.handlers ++ record { context = context; kind = kind; pc = pc; values = several_values values } ∷ [] }) (sym (here-patched σ p.code))
 

@@ -13,65 +13,65 @@ some (Some b) a = b
 
 -- ---- one line
 
-pub resume-set : (σ : ℕ → ℕ) (lines : List CodeLine) (at label line : ℕ) → Some (Some label) ≡ option_map (λ l. l.resume) (slice_get lines at) → line ≡ σ label → with_resume_at lines at (Some line) ≡ with_patched_resume σ at lines
-resume-set σ [] at label line h e = absurd (cc)
-resume-set σ (l ∷ lines) zero label line h e =
+pub resume_patched : (σ : ℕ → ℕ) (lines : List CodeLine) (at label line : ℕ) → Some (Some label) ≡ option_map (λ l. l.resume) (slice_get lines at) → line ≡ σ label → with_resume_at lines at (Some line) ≡ with_patched_resume σ at lines
+resume_patched σ [] at label line h e = absurd (cc)
+resume_patched σ (l ∷ lines) zero label line h e =
     let one : Some label ≡ l.resume = ap (λ o. some o None) h in
     ap (λ r. record l { resume = r } ∷ lines) (ap Some e ∙ ap (option_map σ) one)
-resume-set σ (l ∷ lines) (suc at) label line h e = ap (λ ls. l ∷ ls) (resume-set σ lines at label line h e)
+resume_patched σ (l ∷ lines) (suc at) label line h e = ap (λ ls. l ∷ ls) (resume_patched σ lines at label line h e)
 
-pub resume-none : (σ : ℕ → ℕ) (lines : List CodeLine) (at : ℕ) → Some None ≡ option_map (λ l. l.resume) (slice_get lines at) → lines ≡ with_patched_resume σ at lines
-resume-none σ [] at h = refl
-resume-none σ (l ∷ lines) zero h =
+pub resume_unset : (σ : ℕ → ℕ) (lines : List CodeLine) (at : ℕ) → Some None ≡ option_map (λ l. l.resume) (slice_get lines at) → lines ≡ with_patched_resume σ at lines
+resume_unset σ [] at h = refl
+resume_unset σ (l ∷ lines) zero h =
     let one : None ≡ l.resume = ap (λ o. some o None) h in
     ap (λ r. record l { resume = r } ∷ lines) (sym one ∙ ap (option_map σ) one)
-resume-none σ (l ∷ lines) (suc at) h = ap (λ ls. l ∷ ls) (resume-none σ lines at h)
+resume_unset σ (l ∷ lines) (suc at) h = ap (λ ls. l ∷ ls) (resume_unset σ lines at h)
 
-pub resume-beyond : (σ : ℕ → ℕ) (lines : List CodeLine) (at : ℕ) → None ≡ option_map (λ l. l.resume) (slice_get lines at) → lines ≡ with_patched_resume σ at lines
-resume-beyond σ [] at h = refl
-resume-beyond σ (l ∷ lines) zero h = absurd (cc)
-resume-beyond σ (l ∷ lines) (suc at) h = ap (λ ls. l ∷ ls) (resume-beyond σ lines at h)
+pub resume_beyond : (σ : ℕ → ℕ) (lines : List CodeLine) (at : ℕ) → None ≡ option_map (λ l. l.resume) (slice_get lines at) → lines ≡ with_patched_resume σ at lines
+resume_beyond σ [] at h = refl
+resume_beyond σ (l ∷ lines) zero h = absurd (cc)
+resume_beyond σ (l ∷ lines) (suc at) h = ap (λ ls. l ∷ ls) (resume_beyond σ lines at h)
 
-pub instruction-set : (σ : ℕ → ℕ) (lines : List CodeLine) (at : ℕ) (i j : Instruction) → Some i ≡ option_map (λ l. l.instruction) (slice_get lines at) → Some j ≡ patch_of σ i → with_instruction_at lines at j ≡ with_patched_instruction σ at lines
-instruction-set σ [] at i j h e = absurd (cc)
-instruction-set σ (l ∷ lines) zero i j h e =
+pub instruction_patched : (σ : ℕ → ℕ) (lines : List CodeLine) (at : ℕ) (i j : Instruction) → Some i ≡ option_map (λ l. l.instruction) (slice_get lines at) → Some j ≡ patch_of σ i → with_instruction_at lines at j ≡ with_patched_instruction σ at lines
+instruction_patched σ [] at i j h e = absurd (cc)
+instruction_patched σ (l ∷ lines) zero i j h e =
     let one : i ≡ l.instruction = ap (λ o. some o i) h in
     ap (λ k. record l { instruction = k } ∷ lines) (ap (instead i) e ∙ ap (patched_instruction σ) one)
-instruction-set σ (l ∷ lines) (suc at) i j h e = ap (λ ls. l ∷ ls) (instruction-set σ lines at i j h e)
+instruction_patched σ (l ∷ lines) (suc at) i j h e = ap (λ ls. l ∷ ls) (instruction_patched σ lines at i j h e)
 
-pub instruction-kept : (σ : ℕ → ℕ) (lines : List CodeLine) (at : ℕ) (i : Instruction) → Some i ≡ option_map (λ l. l.instruction) (slice_get lines at) → None ≡ patch_of σ i → lines ≡ with_patched_instruction σ at lines
-instruction-kept σ [] at i h e = refl
-instruction-kept σ (l ∷ lines) zero i h e =
+pub instruction_kept : (σ : ℕ → ℕ) (lines : List CodeLine) (at : ℕ) (i : Instruction) → Some i ≡ option_map (λ l. l.instruction) (slice_get lines at) → None ≡ patch_of σ i → lines ≡ with_patched_instruction σ at lines
+instruction_kept σ [] at i h e = refl
+instruction_kept σ (l ∷ lines) zero i h e =
     let one : i ≡ l.instruction = ap (λ o. some o i) h in
     ap (λ k. record l { instruction = k } ∷ lines) (sym one ∙ ap (instead i) e ∙ ap (patched_instruction σ) one)
-instruction-kept σ (l ∷ lines) (suc at) i h e = ap (λ ls. l ∷ ls) (instruction-kept σ lines at i h e)
+instruction_kept σ (l ∷ lines) (suc at) i h e = ap (λ ls. l ∷ ls) (instruction_kept σ lines at i h e)
 
-pub instruction-beyond : (σ : ℕ → ℕ) (lines : List CodeLine) (at : ℕ) → None ≡ option_map (λ l. l.instruction) (slice_get lines at) → lines ≡ with_patched_instruction σ at lines
-instruction-beyond σ [] at h = refl
-instruction-beyond σ (l ∷ lines) zero h = absurd (cc)
-instruction-beyond σ (l ∷ lines) (suc at) h = ap (λ ls. l ∷ ls) (instruction-beyond σ lines at h)
+pub instruction_beyond : (σ : ℕ → ℕ) (lines : List CodeLine) (at : ℕ) → None ≡ option_map (λ l. l.instruction) (slice_get lines at) → lines ≡ with_patched_instruction σ at lines
+instruction_beyond σ [] at h = refl
+instruction_beyond σ (l ∷ lines) zero h = absurd (cc)
+instruction_beyond σ (l ∷ lines) (suc at) h = ap (λ ls. l ∷ ls) (instruction_beyond σ lines at h)
 
 -- ---- all lines
 
-pub lines-next : (σ : ℕ → ℕ) (at : ℕ) (lines : List CodeLine) → map_from (patched_line σ) at lines ≡ map_from (patched_line σ) (suc at) (with_patched_instruction σ at (with_patched_resume σ at lines))
-lines-next σ zero [] = refl
-lines-next σ (suc at) [] = refl
-lines-next σ zero (l ∷ lines) = refl
-lines-next σ (suc at) (l ∷ lines) = ap (λ ls. l ∷ ls) (lines-next σ at lines)
+pub lines_next : (σ : ℕ → ℕ) (at : ℕ) (lines : List CodeLine) → map_from (patched_line σ) at lines ≡ map_from (patched_line σ) (suc at) (with_patched_instruction σ at (with_patched_resume σ at lines))
+lines_next σ zero [] = refl
+lines_next σ (suc at) [] = refl
+lines_next σ zero (l ∷ lines) = refl
+lines_next σ (suc at) (l ∷ lines) = ap (λ ls. l ∷ ls) (lines_next σ at lines)
 
-pub lines-length : (σ : ℕ → ℕ) (at : ℕ) (lines : List CodeLine) → length (with_patched_instruction σ at (with_patched_resume σ at lines)) ≡ length lines
-lines-length σ zero [] = refl
-lines-length σ (suc at) [] = refl
-lines-length σ zero (l ∷ lines) = refl
-lines-length σ (suc at) (l ∷ lines) = ap suc (lines-length σ at lines)
+pub lines_length : (σ : ℕ → ℕ) (at : ℕ) (lines : List CodeLine) → length (with_patched_instruction σ at (with_patched_resume σ at lines)) ≡ length lines
+lines_length σ zero [] = refl
+lines_length σ (suc at) [] = refl
+lines_length σ zero (l ∷ lines) = refl
+lines_length σ (suc at) (l ∷ lines) = ap suc (lines_length σ at lines)
 
-pub map_from-none : {A : Type 0} (f : A → A) (n : ℕ) (xs : List A) → length xs ≤ n → map_from f n xs ≡ xs
-map_from-none f zero [] h = refl
-map_from-none f (suc n) [] h = refl
-map_from-none f zero (x ∷ xs) h = absurd (omega (arith, h))
-map_from-none f (suc n) (x ∷ xs) h = ap (λ ys. x ∷ ys) (map_from-none f n xs (omega (arith, h)))
+pub map_from_none : {A : Type 0} (f : A → A) (n : ℕ) (xs : List A) → length xs ≤ n → map_from f n xs ≡ xs
+map_from_none f zero [] h = refl
+map_from_none f (suc n) [] h = refl
+map_from_none f zero (x ∷ xs) h = absurd (omega (arith, h))
+map_from_none f (suc n) (x ∷ xs) h = ap (λ ys. x ∷ ys) (map_from_none f n xs (omega (arith, h)))
 
-pub map_from-next : {A : Type 0} (f : A → A) (n : ℕ) (xs : List A) (x y : A) → n < length xs → x ≡ get_or xs n x → y ≡ f x → map_from f n xs ≡ map_from f (suc n) (set xs n y)
-map_from-next f n [] x y h e p = absurd (omega (arith, h))
-map_from-next f zero (z ∷ xs) x y h e p = ap (λ k. k ∷ map f xs) (sym (p ∙ ap f e))
-map_from-next f (suc n) (z ∷ xs) x y h e p = ap (λ ys. z ∷ ys) (map_from-next f n xs x y (omega (arith, h)) e p)
+pub map_from_next : {A : Type 0} (f : A → A) (n : ℕ) (xs : List A) (x y : A) → n < length xs → x ≡ get_or xs n x → y ≡ f x → map_from f n xs ≡ map_from f (suc n) (set xs n y)
+map_from_next f n [] x y h e p = absurd (omega (arith, h))
+map_from_next f zero (z ∷ xs) x y h e p = ap (λ k. k ∷ map f xs) (sym (p ∙ ap f e))
+map_from_next f (suc n) (z ∷ xs) x y h e p = ap (λ ys. z ∷ ys) (map_from_next f n xs x y (omega (arith, h)) e p)

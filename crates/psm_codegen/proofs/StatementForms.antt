@@ -21,6 +21,7 @@ use Rattle.psm_codegen.specs.declared.enclosing.EnclosingBlock.TheVariants.{Loop
 use Rattle.psm_codegen.specs.declared.known.Known.{Known}
 use Rattle.psm_codegen.specs.Exprs.{Writes}
 use Rattle.psm_codegen.specs.FunctionBuilder.{FunctionBuilder, at, block_entered, next_context, with_code, with_handler, with_plain}
+use Rattle.psm_codegen.specs.Labels.{DraftedParts, patched_block}
 use Rattle.psm_codegen.specs.Simples.{Declares, WritesSimple}
 use Rattle.psm_codegen.specs.Statements as written
 use Rattle.psm_codegen.specs.Statements.{WritesBranches, WritesComparisons, WritesCursors, WritesElse, WritesHandlers, WritesStatement, WritesStatements, fetched, jumped, opened, passed, unless_true, with_cursor}
@@ -38,8 +39,9 @@ cursors-at : {known : Known} {xs : List ResolvedCursor} {p q : FunctionBuilder} 
 cursors-at written.no_cursor = refl
 cursors-at (written.cursor code a b) = cursors-at b
 
-pub within_written : {known : Known} {context : ℕ} {outer inner : List EnclosingBlock} {list : List ResolvedStatement} {p q : FunctionBuilder} → outer ≡ inner → WritesStatements known context outer list p q → WritesStatements known context inner list p q
-within_written {known} {context} {list = list} {p = p} {q = q} h x = subst (λ z. WritesStatements known context z list p q) h x
+pub within_same : {known : Known} {context : ℕ} {outer inner : List EnclosingBlock} {list : List ResolvedStatement} {p q : FunctionBuilder} → outer ≡ inner → DraftedParts (λ σ. WritesStatements known context (map (patched_block σ) outer) list) p q
+    → DraftedParts (λ σ. WritesStatements known context (map (patched_block σ) inner) list) p q
+within_same {known} {context} {list = list} {p = p} {q = q} h x = subst (λ z. DraftedParts (λ σ. WritesStatements known context (map (patched_block σ) z) list) p q) h x
 
 pub cursor_written : {known : Known} {p q : FunctionBuilder} {x : ResolvedCursor} {d : ResolvedQuery} (code : Query) → d ≡ x.query → QueryMade known d code → q ≡ with_cursor known x code p
     → (xs : List ResolvedCursor) (r : FunctionBuilder) → WritesCursors known xs q r → WritesCursors known (x ∷ xs) p r

@@ -8,6 +8,7 @@ use psm_cond::{Context, ContextKind};
 use psm_exprcode::Op;
 
 /// Puts the lines to which labels are bound in place of the labels of lines.
+#[tactic(auto, using(crate::proofs::Patching::lines_next, crate::proofs::Patching::lines_length, crate::proofs::Patching::map_from_none))]
 pub(crate) fn patch_lines(lines: &mut Lines, labels: &[Option<u32>])
     ensures { lines.new ≡ map (patched_line (line_of labels.now)) lines.old }
 {
@@ -17,15 +18,18 @@ pub(crate) fn patch_lines(lines: &mut Lines, labels: &[Option<u32>])
     }
 }
 
+#[tactic(auto, using(crate::proofs::Patching::resume_patched, crate::proofs::Patching::resume_unset, crate::proofs::Patching::resume_beyond))]
 fn patch_resume(lines: &mut Lines, labels: &[Option<u32>], at: usize)
     ensures { lines.new ≡ with_patched_resume (line_of labels.now) at lines.old }
 {
     match lines.resume(at) {
         Some(Some(label)) => lines.set_resume(at, Some(line_of(labels, label))),
-        Some(None) | None => {}
+        Some(None) => {}
+        None => {}
     }
 }
 
+#[tactic(auto, using(crate::proofs::Patching::instruction_patched, crate::proofs::Patching::instruction_kept, crate::proofs::Patching::instruction_beyond))]
 fn patch_instruction(lines: &mut Lines, labels: &[Option<u32>], at: usize)
     ensures { lines.new ≡ with_patched_instruction (line_of labels.now) at lines.old }
 {
@@ -73,11 +77,13 @@ fn line_of(labels: &[Option<u32>], label: u32) -> u32
 {
     match labels.get(label as usize) {
         Some(Some(line)) => *line,
-        Some(None) | None => 0,
+        Some(None) => 0,
+        None => 0,
     }
 }
 
 /// Puts the lines to which labels are bound in place of the labels of contexts.
+#[tactic(auto, using(crate::proofs::Patching::map_from_next, crate::proofs::Patching::map_from_none))]
 pub(crate) fn patch_contexts(contexts: &mut Vec<Context>, labels: &[Option<u32>])
     ensures { contexts.new.items ≡ map (patched_context (line_of labels.now)) contexts.old.items }
 {
