@@ -4,8 +4,8 @@ use Rattle.std.specs.Prelude.{option_map, slice_get}
 use Rattle.psm_code.specs.declared.instruction.Instruction.{Instruction}
 use Rattle.psm_code.specs.declared.lines.CodeLine.{CodeLine}
 use Rattle.psm_code.specs.Numbered.{with_instruction_at, with_resume_at}
-use Rattle.psm_codegen.specs.Labels.{instead, patch_of, patched_instruction, patched_line}
-use Rattle.psm_codegen.specs.Patching.{map_from, with_patched_instruction, with_patched_resume}
+use Rattle.psm_codegen.specs.Labels.{instead, patched_line}
+use Rattle.psm_codegen.specs.Patching.{map_from, perhaps_patch, with_patched_instruction, with_patched_resume}
 
 some : {A : Type 0} → Option A → A → A
 some None a = a
@@ -32,24 +32,15 @@ resume_beyond σ [] at h = refl
 resume_beyond σ (l ∷ lines) zero h = absurd (cc)
 resume_beyond σ (l ∷ lines) (suc at) h = ap (λ ls. l ∷ ls) (resume_beyond σ lines at h)
 
-pub instruction_patched : (σ : ℕ → ℕ) (lines : List CodeLine) (at : ℕ) (i j : Instruction) → Some i ≡ option_map (λ l. l.instruction) (slice_get lines at) → Some j ≡ patch_of σ i → with_instruction_at lines at j ≡ with_patched_instruction σ at lines
-instruction_patched σ [] at i j h e = absurd (cc)
-instruction_patched σ (l ∷ lines) zero i j h e =
-    let one : i ≡ l.instruction = ap (λ o. some o i) h in
-    ap (λ k. record l { instruction = k } ∷ lines) (ap (instead i) e ∙ ap (patched_instruction σ) one)
-instruction_patched σ (l ∷ lines) (suc at) i j h e = ap (λ ls. l ∷ ls) (instruction_patched σ lines at i j h e)
+pub instruction_patched : (σ : ℕ → ℕ) (lines : List CodeLine) (at : ℕ) (i : Instruction) → Some i ≡ perhaps_patch σ (option_map (λ l. l.instruction) (slice_get lines at)) → with_instruction_at lines at i ≡ with_patched_instruction σ at lines
+instruction_patched σ [] at i h = absurd (cc)
+instruction_patched σ (l ∷ lines) zero i h = ap (λ o. record l { instruction = instead l.instruction o } ∷ lines) h
+instruction_patched σ (l ∷ lines) (suc at) i h = ap (λ ls. l ∷ ls) (instruction_patched σ lines at i h)
 
-pub instruction_kept : (σ : ℕ → ℕ) (lines : List CodeLine) (at : ℕ) (i : Instruction) → Some i ≡ option_map (λ l. l.instruction) (slice_get lines at) → None ≡ patch_of σ i → lines ≡ with_patched_instruction σ at lines
-instruction_kept σ [] at i h e = refl
-instruction_kept σ (l ∷ lines) zero i h e =
-    let one : i ≡ l.instruction = ap (λ o. some o i) h in
-    ap (λ k. record l { instruction = k } ∷ lines) (sym one ∙ ap (instead i) e ∙ ap (patched_instruction σ) one)
-instruction_kept σ (l ∷ lines) (suc at) i h e = ap (λ ls. l ∷ ls) (instruction_kept σ lines at i h e)
-
-pub instruction_beyond : (σ : ℕ → ℕ) (lines : List CodeLine) (at : ℕ) → None ≡ option_map (λ l. l.instruction) (slice_get lines at) → lines ≡ with_patched_instruction σ at lines
-instruction_beyond σ [] at h = refl
-instruction_beyond σ (l ∷ lines) zero h = absurd (cc)
-instruction_beyond σ (l ∷ lines) (suc at) h = ap (λ ls. l ∷ ls) (instruction_beyond σ lines at h)
+pub instruction_kept : (σ : ℕ → ℕ) (lines : List CodeLine) (at : ℕ) → None ≡ perhaps_patch σ (option_map (λ l. l.instruction) (slice_get lines at)) → lines ≡ with_patched_instruction σ at lines
+instruction_kept σ [] at h = refl
+instruction_kept σ (l ∷ lines) zero h = ap (λ o. record l { instruction = instead l.instruction o } ∷ lines) h
+instruction_kept σ (l ∷ lines) (suc at) h = ap (λ ls. l ∷ ls) (instruction_kept σ lines at h)
 
 -- ---- all lines
 

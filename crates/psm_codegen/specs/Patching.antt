@@ -1,7 +1,13 @@
 -- Lines in which a line stands in place of a label, at one place or from one on.
-use Rattle.std.specs.Prelude.{ℕ, zero, suc, List, [], ◌∷◌, map, option_map}
+use Rattle.std.specs.Prelude.{ℕ, zero, suc, List, [], ◌∷◌, map, Option, Some, None, option_map}
+use Rattle.psm_code.specs.declared.instruction.Instruction.{Instruction}
 use Rattle.psm_code.specs.declared.lines.CodeLine.{CodeLine}
-use Rattle.psm_codegen.specs.Labels.{patched_instruction}
+use Rattle.psm_codegen.specs.Labels.{patch_of, patched_instruction}
+
+-- what stands in place of an instruction that names a label, if there is one
+abbrev pub perhaps_patch : (ℕ → ℕ) → Option Instruction → Option Instruction
+perhaps_patch σ None = None
+perhaps_patch σ (Some i) = patch_of σ i
 
 -- where there is no such line the lines stay
 abbrev pub with_patched_resume : (ℕ → ℕ) → ℕ → List CodeLine → List CodeLine

@@ -1,7 +1,7 @@
 //! Lines in place of labels.
-ghost use Rattle.std.specs.Prelude.{◌≡◌, map};
+ghost use Rattle.std.specs.Prelude.{◌≡◌, map, option_map, slice_get};
 ghost use Rattle.psm_codegen.specs.Labels.{line_of, op_patch, patch_of, patched_context, patched_line};
-ghost use Rattle.psm_codegen.specs.Patching.{with_patched_instruction, with_patched_resume};
+ghost use Rattle.psm_codegen.specs.Patching.{perhaps_patch, with_patched_instruction, with_patched_resume};
 
 use psm_code::{Instruction, Lines};
 use psm_cond::{Context, ContextKind};
@@ -29,17 +29,22 @@ fn patch_resume(lines: &mut Lines, labels: &[Option<u32>], at: usize)
     }
 }
 
-#[tactic(auto, using(crate::proofs::Patching::instruction_patched, crate::proofs::Patching::instruction_kept, crate::proofs::Patching::instruction_beyond))]
+#[tactic(auto, using(crate::proofs::Patching::instruction_patched, crate::proofs::Patching::instruction_kept))]
 fn patch_instruction(lines: &mut Lines, labels: &[Option<u32>], at: usize)
     ensures { lines.new ≡ with_patched_instruction (line_of labels.now) at lines.old }
 {
-    let patch = match lines.instruction(at) {
-        Some(instruction) => patch_of(labels, instruction),
-        None => None,
-    };
-    match patch {
+    match patch_at(lines, labels, at) {
         Some(instruction) => lines.set_instruction(at, instruction),
         None => {}
+    }
+}
+
+fn patch_at(lines: &Lines, labels: &[Option<u32>], at: usize) -> Option<Instruction>
+    ensures { result ≡ perhaps_patch (line_of labels.now) (option_map (λ l. l.instruction) (slice_get lines.now at)) }
+{
+    match lines.instruction(at) {
+        Some(instruction) => patch_of(labels, instruction),
+        None => None,
     }
 }
 

@@ -252,16 +252,14 @@ impl FunctionBuilder {
     {
         let FunctionBuilder {
             code,
-            mut contexts,
+            contexts,
             handlers,
             declared,
             plans,
             cursors,
             ..
         } = self;
-        let (mut lines, queries, labels) = code.into_parts();
-        patch_lines(&mut lines, labels.as_slice());
-        patch_contexts(&mut contexts, labels.as_slice());
+        let (lines, queries, contexts) = patched(code, contexts);
         let table = HandlerTable::try_new(
             alloc,
             List::of(declared),
@@ -286,6 +284,19 @@ impl FunctionBuilder {
         self.code
             .takes(context, resume, Instruction::Data(number), count)
     }
+}
+
+/// Lines with their queries, and contexts, with lines in place of labels.
+fn patched(code: Writer, contexts: Vec<Context>) -> (Lines, List<Query>, Vec<Context>)
+    ensures lines { result.0 ≡ map (patched_line (line_of code.labels)) code.lines }
+    ensures queries { result.1 ≡ code.queries }
+    ensures contexts { result.2.items ≡ map (patched_context (line_of code.labels)) contexts.items }
+{
+    let (mut lines, queries, labels) = code.into_parts();
+    let mut contexts = contexts;
+    patch_lines(&mut lines, labels.as_slice());
+    patch_contexts(&mut contexts, labels.as_slice());
+    (lines, queries, contexts)
 }
 
 /// A place in a list as a number. More than fit in 32 bits count as out of memory.
