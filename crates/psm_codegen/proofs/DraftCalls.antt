@@ -44,9 +44,9 @@ module _ {known : Known} {context resume : ℕ} where
   declaration_drafted {x} l d e = two d (copied_drafted context resume x.slots e) (λ σ y z. declaration_written l y z)
 
   -- conditions
-  pub signals_without_drafted : {i j : Instruction} {e : Option ResolvedExpr} {w v : Written} → e ≡ None → v ≡ takes context resume i 0 w → Drafted (λ σ. Signals known context (σ resume) (patched_instruction σ i) (patched_instruction σ j) e) w v
-  signals_without_drafted {i} h s = one (takes_drafted context resume i 0 s) (λ σ x. signals_without h x)
+  pub signals_without_drafted : (i j : Instruction) {e : Option ResolvedExpr} {w v : Written} → e ≡ None → v ≡ takes context resume i 0 w → Drafted (λ σ. Signals known context (σ resume) (patched_instruction σ i) (patched_instruction σ j) e) w v
+  signals_without_drafted i j h s = one (takes_drafted context resume i 0 s) (λ σ x. signals_without h x)
 
-  pub signals_with_drafted : {i j : Instruction} {e : Option ResolvedExpr} {d f : ResolvedExpr} {w u v : Written} → e ≡ Some d → f ≡ d → Drafted (λ σ. Writes known context (σ resume) T f) w u → v ≡ takes context resume j 1 u
+  pub signals_with_drafted : (i j : Instruction) {e : Option ResolvedExpr} {d f : ResolvedExpr} {w u v : Written} → e ≡ Some d → f ≡ d → Drafted (λ σ. Writes known context (σ resume) T f) w u → v ≡ takes context resume j 1 u
       → Drafted (λ σ. Signals known context (σ resume) (patched_instruction σ i) (patched_instruction σ j) e) w v
-  signals_with_drafted {j = j} h s a k = two a (takes_drafted context resume j 1 k) (λ σ x y. signals_with h s x y)
+  signals_with_drafted i j h s a k = two a (takes_drafted context resume j 1 k) (λ σ x y. signals_with h s x y)

@@ -5,15 +5,15 @@ use Rattle.psm_codegen.specs.Labels.{Draft}
 use Rattle.psm_codegen.proofs.Dropping.{left_next}
 use Rattle.psm_codegen.proofs.Drafts.{begins-same, one, two}
 
+-- with what is written of the rest, all is written
+abbrev pub Left : {S A : Type 0} → ((ℕ → ℕ) → List A → S → S → Type 0) → ((ℕ → ℕ) → S → S → Type 0) → List A → (ℕ → ℕ) → S → S → Type 0
+Left {S} W G rest σ p q = (r : S) → W σ rest q r → G σ p r
+
+-- one is written, and others after it as V says
+abbrev pub First : {S A : Type 0} → ((ℕ → ℕ) → List A → S → S → Type 0) → ((ℕ → ℕ) → List A → S → S → Type 0) → A → (ℕ → ℕ) → S → S → Type 0
+First {S} {A} W V x σ p q = (xs : List A) (r : S) → V σ xs q r → W σ (x ∷ xs) p r
+
 module _ {S A : Type 0} {labels_in : S → List (Option ℕ)} {patch : (ℕ → ℕ) → S → S} where
-  -- with what is written of the rest, all is written
-  abbrev pub Left : ((ℕ → ℕ) → List A → S → S → Type 0) → ((ℕ → ℕ) → S → S → Type 0) → List A → (ℕ → ℕ) → S → S → Type 0
-  Left W G rest σ p q = (r : S) → W σ rest q r → G σ p r
-
-  -- one is written, and others after it as V says
-  abbrev pub First : ((ℕ → ℕ) → List A → S → S → Type 0) → ((ℕ → ℕ) → List A → S → S → Type 0) → A → (ℕ → ℕ) → S → S → Type 0
-  First W V x σ p q = (xs : List A) (r : S) → V σ xs q r → W σ (x ∷ xs) p r
-
   pub all_left : (W : (ℕ → ℕ) → List A → S → S → Type 0) {w : S} (items all : List A) → items ≡ all → Draft labels_in patch (Left W (λ σ. W σ all) items) w w
   all_left W {w} items all e = record { labels = begins-same refl; is = λ σ r q x. subst (λ xs. W σ xs (patch σ w) q) e x }
 

@@ -133,19 +133,19 @@ module _ {known : Known} {context resume : ℕ} where
 
   -- ---- LEAVE and ITERATE
 
-  pub leave_drafted : {enclosing : List EnclosingBlock} {s : ResolvedSimple} {i p : FunctionBuilder} {v : Written} (level : ℕ) → i ≡ p → s ≡ simples.Leave level → v ≡ leaves enclosing level context i.code
+  pub leave_drafted : (enclosing : List EnclosingBlock) {s : ResolvedSimple} {i p : FunctionBuilder} {v : Written} (level : ℕ) → i ≡ p → s ≡ simples.Leave level → v ≡ leaves enclosing level context i.code
       → DraftedParts (λ σ. WritesSimple known context (σ resume) (map (patched_block σ) enclosing) s) p (with_code v i)
-  leave_drafted {enclosing} {i = i} level h m f = parts_from i (same_labels h) (one (leaves_drafted enclosing level context f) (λ σ f. leave_written level (ap (patched_parts σ) h) m f))
+  leave_drafted enclosing {i = i} level h m f = parts_from i (same_labels h) (one (leaves_drafted enclosing level context f) (λ σ f. leave_written level (ap (patched_parts σ) h) m f))
 
-  pub iterate_drafted : {enclosing : List EnclosingBlock} {s : ResolvedSimple} {i p : FunctionBuilder} {v : Written} (level : ℕ) → i ≡ p → s ≡ simples.Iterate level → v ≡ iterates enclosing level context i.code
+  pub iterate_drafted : (enclosing : List EnclosingBlock) {s : ResolvedSimple} {i p : FunctionBuilder} {v : Written} (level : ℕ) → i ≡ p → s ≡ simples.Iterate level → v ≡ iterates enclosing level context i.code
       → DraftedParts (λ σ. WritesSimple known context (σ resume) (map (patched_block σ) enclosing) s) p (with_code v i)
-  iterate_drafted {enclosing} {i = i} level h m f = parts_from i (same_labels h) (one (iterates_drafted enclosing level context f) (λ σ f. iterate_written level (ap (patched_parts σ) h) m f))
+  iterate_drafted enclosing {i = i} level h m f = parts_from i (same_labels h) (one (iterates_drafted enclosing level context f) (λ σ f. iterate_written level (ap (patched_parts σ) h) m f))
 
   -- ---- a statement of a form
 
   pub same_drafted : {s t : ResolvedSimple} {p q : FunctionBuilder} → t ≡ s → DraftedParts (λ σ. WritesAnywhere known context (σ resume) s) p q → DraftedParts (λ σ. WritesAnywhere known context (σ resume) t) p q
   same_drafted {p = p} {q = q} h a = subst (λ z. DraftedParts (λ σ. WritesAnywhere known context (σ resume) z) p q) (sym h) a
 
-  pub anywhere_drafted : {enclosing : List EnclosingBlock} {s t : ResolvedSimple} {p q : FunctionBuilder} → t ≡ s → DraftedParts (λ σ. WritesAnywhere known context (σ resume) s) p q
+  pub anywhere_drafted : (enclosing : List EnclosingBlock) {s t : ResolvedSimple} {p q : FunctionBuilder} → t ≡ s → DraftedParts (λ σ. WritesAnywhere known context (σ resume) s) p q
       → DraftedParts (λ σ. WritesSimple known context (σ resume) (map (patched_block σ) enclosing) t) p q
-  anywhere_drafted {enclosing} h a = one (same_drafted h a) (λ σ x. x (map (patched_block σ) enclosing))
+  anywhere_drafted enclosing h a = one (same_drafted h a) (λ σ x. x (map (patched_block σ) enclosing))

@@ -37,11 +37,11 @@ next-patched σ p = ap suc (sym (length-map p.contexts (patched_context σ)))
 
 -- ---- a statement, with the label of the line after it
 
-pub statement_drafted : {known : Known} {context end : ℕ} {enclosing : List EnclosingBlock} {s : ResolvedStatement} {p l f q : FunctionBuilder} → end ≡ length p.code.labels → l ≡ with_code (with_label None p.code) p
+pub statement_drafted : {known : Known} {context end : ℕ} (enclosing : List EnclosingBlock) {s : ResolvedStatement} {p l f q : FunctionBuilder} → end ≡ length p.code.labels → l ≡ with_code (with_label None p.code) p
     → DraftedParts (λ σ x y. σ end ≡ at y → WritesStatement known context (map (patched_block σ) enclosing) s x y) l f → q ≡ with_code (bound end f.code) f → DraftedParts (λ σ. WritesStatement known context (map (patched_block σ) enclosing) s) p q
-statement_drafted n m a e = one (scoped_parts n m a e) (λ σ s. s.0 s.1)
+statement_drafted enclosing n m a e = one (scoped_parts n m a e) (λ σ s. s.0 s.1)
 
-module _ {known : Known} {context end : ℕ} {enclosing : List EnclosingBlock} where
+module _ {known : Known} {context end : ℕ} (enclosing : List EnclosingBlock) where
   pub form_drafted : {form : ResolvedStatement-F ResolvedStatement ResolvedBlock ResolvedBranch ResolvedHandler} {p q : FunctionBuilder} (s : ResolvedStatement) → out-ResolvedStatement s ≡ form
       → DraftedParts (λ σ. WritesForm known context (σ end) (map (patched_block σ) enclosing) form) p q → DraftedParts (λ σ x y. σ end ≡ at y → WritesStatement known context (map (patched_block σ) enclosing) s x y) p q
   form_drafted s o a = one a (λ σ f e. f s o e)

@@ -102,19 +102,21 @@ condition_items_drafted context resume area items {w} h =
 
 -- ---- LEAVE and ITERATE
 
-chosen : (t : Bool) {a b : Written} {ls : List (Option ℕ)} → a.labels ≡ ls → b.labels ≡ ls → (if t then a else b).labels ≡ ls
-chosen true p q = p
-chosen false p q = q
+chosen : (t : Bool) (a b : Written) {ls : List (Option ℕ)} → a.labels ≡ ls → b.labels ≡ ls → (if t then a else b).labels ≡ ls
+chosen true a b p q = p
+chosen false a b p q = q
 
 leaves_labels : (enclosing : List EnclosingBlock) (level context : ℕ) (w : Written) → (leaves enclosing level context w).labels ≡ w.labels
 leaves_labels [] level context w = refl
-leaves_labels (Loop l out again ∷ enclosing) level context w = chosen (nat_eq level l) refl (leaves_labels enclosing level context w)
-leaves_labels (WithinBlock l inner outer exit ∷ enclosing) level context w = chosen (nat_eq level l) refl (leaves_labels enclosing level outer (plain context (instruction.Exit inner) w))
+leaves_labels (Loop l out again ∷ enclosing) level context w = chosen (nat_eq level l) (plain context (instruction.Operation (op.Jump out)) w) (leaves enclosing level context w) refl (leaves_labels enclosing level context w)
+leaves_labels (WithinBlock l inner outer exit ∷ enclosing) level context w =
+    let left = plain context (instruction.Exit inner) w in
+    chosen (nat_eq level l) (plain context (instruction.Operation (op.Jump exit)) w) (leaves enclosing level outer left) refl (leaves_labels enclosing level outer left)
 leaves_labels (Rows inner outer ∷ enclosing) level context w = leaves_labels enclosing level outer (plain context (instruction.Exit inner) w)
 
 iterates_labels : (enclosing : List EnclosingBlock) (level context : ℕ) (w : Written) → (iterates enclosing level context w).labels ≡ w.labels
 iterates_labels [] level context w = refl
-iterates_labels (Loop l out again ∷ enclosing) level context w = chosen (nat_eq level l) refl (iterates_labels enclosing level context w)
+iterates_labels (Loop l out again ∷ enclosing) level context w = chosen (nat_eq level l) (plain context (instruction.Operation (op.Jump again)) w) (iterates enclosing level context w) refl (iterates_labels enclosing level context w)
 iterates_labels (WithinBlock l inner outer exit ∷ enclosing) level context w = iterates_labels enclosing level outer (plain context (instruction.Exit inner) w)
 iterates_labels (Rows inner outer ∷ enclosing) level context w = iterates_labels enclosing level outer (plain context (instruction.Exit inner) w)
 

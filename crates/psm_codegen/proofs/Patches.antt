@@ -43,7 +43,7 @@ here-patched σ w = length-map w.lines (patched_line σ)
 patched-line : (σ : ℕ → ℕ) (context : ℕ) (resume : Option ℕ) (i : Instruction) (after : List Letter) (w : Written)
     → patched σ (with_line context resume i after w) ≡ with_line context (option_map σ resume) (patched_instruction σ i) after (patched σ w)
 patched-line σ context resume i after w =
-    ap (λ ls. record { lines = ls; stack = after; queries = w.queries; labels = [] }) (map-append (patched_line σ) w.lines (record { context = context; resume = resume; stack = reverse w.stack; instruction = i } ∷ []))
+    ap (λ ls. record (patched σ w) { lines = ls; stack = after }) (map-append (patched_line σ) w.lines (record { context = context; resume = resume; stack = reverse w.stack; instruction = i } ∷ []))
 
 pub patched-plain : (σ : ℕ → ℕ) (context : ℕ) (i : Instruction) (w : Written) → patched σ (plain context i w) ≡ plain context (patched_instruction σ i) (patched σ w)
 patched-plain σ context i w = patched-line σ context None i w.stack w
@@ -183,16 +183,22 @@ patched-condition_items σ context resume area (i ∷ j ∷ items) w =
 
 -- ---- LEAVE and ITERATE
 
-either : (σ : ℕ → ℕ) (t : Bool) {a b c d : Written} → patched σ a ≡ c → patched σ b ≡ d → patched σ (if t then a else b) ≡ (if t then c else d)
-either σ true p q = p
-either σ false p q = q
+if-patched : (σ : ℕ → ℕ) (t : Bool) (a b : Written) → patched σ (if t then a else b) ≡ (if t then patched σ a else patched σ b)
+if-patched σ true a b = refl
+if-patched σ false a b = refl
+
+if-same : (t : Bool) {a b c d : Written} → a ≡ c → b ≡ d → (if t then a else b) ≡ (if t then c else d)
+if-same true p q = p
+if-same false p q = q
 
 pub patched-leaves : (σ : ℕ → ℕ) (enclosing : List EnclosingBlock) (level context : ℕ) (w : Written) → patched σ (leaves enclosing level context w) ≡ leaves (map (patched_block σ) enclosing) level context (patched σ w)
 patched-leaves σ [] level context w = refl
 patched-leaves σ (Loop l out again ∷ enclosing) level context w =
-    either σ (nat_eq level l) (patched-plain σ context (instruction.Operation (op.Jump out)) w) (patched-leaves σ enclosing level context w)
+    if-patched σ (nat_eq level l) (plain context (instruction.Operation (op.Jump out)) w) (leaves enclosing level context w)
+    ∙ if-same (nat_eq level l) (patched-plain σ context (instruction.Operation (op.Jump out)) w) (patched-leaves σ enclosing level context w)
 patched-leaves σ (WithinBlock l inner outer exit ∷ enclosing) level context w =
-    either σ (nat_eq level l) (patched-plain σ context (instruction.Operation (op.Jump exit)) w)
+    if-patched σ (nat_eq level l) (plain context (instruction.Operation (op.Jump exit)) w) (leaves enclosing level outer (plain context (instruction.Exit inner) w))
+    ∙ if-same (nat_eq level l) (patched-plain σ context (instruction.Operation (op.Jump exit)) w)
     (patched-leaves σ enclosing level outer (plain context (instruction.Exit inner) w) ∙ ap (leaves (map (patched_block σ) enclosing) level outer) (patched-plain σ context (instruction.Exit inner) w))
 patched-leaves σ (Rows inner outer ∷ enclosing) level context w =
     patched-leaves σ enclosing level outer (plain context (instruction.Exit inner) w) ∙ ap (leaves (map (patched_block σ) enclosing) level outer) (patched-plain σ context (instruction.Exit inner) w)
@@ -200,7 +206,8 @@ patched-leaves σ (Rows inner outer ∷ enclosing) level context w =
 pub patched-iterates : (σ : ℕ → ℕ) (enclosing : List EnclosingBlock) (level context : ℕ) (w : Written) → patched σ (iterates enclosing level context w) ≡ iterates (map (patched_block σ) enclosing) level context (patched σ w)
 patched-iterates σ [] level context w = refl
 patched-iterates σ (Loop l out again ∷ enclosing) level context w =
-    either σ (nat_eq level l) (patched-plain σ context (instruction.Operation (op.Jump again)) w) (patched-iterates σ enclosing level context w)
+    if-patched σ (nat_eq level l) (plain context (instruction.Operation (op.Jump again)) w) (iterates enclosing level context w)
+    ∙ if-same (nat_eq level l) (patched-plain σ context (instruction.Operation (op.Jump again)) w) (patched-iterates σ enclosing level context w)
 patched-iterates σ (WithinBlock l inner outer exit ∷ enclosing) level context w =
     patched-iterates σ enclosing level outer (plain context (instruction.Exit inner) w) ∙ ap (iterates (map (patched_block σ) enclosing) level outer) (patched-plain σ context (instruction.Exit inner) w)
 patched-iterates σ (Rows inner outer ∷ enclosing) level context w =

@@ -7,23 +7,23 @@ use Rattle.psm_code.specs.Numbered.{with_instruction_at, with_resume_at}
 use Rattle.psm_codegen.specs.Labels.{instead, patched_line}
 use Rattle.psm_codegen.specs.Patching.{map_from, perhaps_patch, with_patched_instruction, with_patched_resume}
 
-some : {A : Type 0} → Option A → A → A
-some None a = a
-some (Some b) a = b
+inside_or : {A : Type 0} → Option A → A → A
+inside_or None a = a
+inside_or (Some b) a = b
 
 -- ---- one line
 
 pub resume_patched : (σ : ℕ → ℕ) (lines : List CodeLine) (at label line : ℕ) → Some (Some label) ≡ option_map (λ l. l.resume) (slice_get lines at) → line ≡ σ label → with_resume_at lines at (Some line) ≡ with_patched_resume σ at lines
 resume_patched σ [] at label line h e = absurd (cc)
 resume_patched σ (l ∷ lines) zero label line h e =
-    let one : Some label ≡ l.resume = ap (λ o. some o None) h in
+    let one : Some label ≡ l.resume = ap (λ o. inside_or o None) h in
     ap (λ r. record l { resume = r } ∷ lines) (ap Some e ∙ ap (option_map σ) one)
 resume_patched σ (l ∷ lines) (suc at) label line h e = ap (λ ls. l ∷ ls) (resume_patched σ lines at label line h e)
 
 pub resume_unset : (σ : ℕ → ℕ) (lines : List CodeLine) (at : ℕ) → Some None ≡ option_map (λ l. l.resume) (slice_get lines at) → lines ≡ with_patched_resume σ at lines
 resume_unset σ [] at h = refl
 resume_unset σ (l ∷ lines) zero h =
-    let one : None ≡ l.resume = ap (λ o. some o None) h in
+    let one : None ≡ l.resume = ap (λ o. inside_or o None) h in
     ap (λ r. record l { resume = r } ∷ lines) (sym one ∙ ap (option_map σ) one)
 resume_unset σ (l ∷ lines) (suc at) h = ap (λ ls. l ∷ ls) (resume_unset σ lines at h)
 

@@ -11,58 +11,58 @@ use Rattle.psm_codegen.proofs.StatementForms.{within_same}
 use Rattle.psm_codegen.proofs.statements.+stating.Goals as goal
 
 pub statement-returns : goal.statement-returns
-statement-returns t c = ok_as c.bind.result (λ a. statement_drafted c.in_ok-end.ensures.number c.in_ok-end.ensures.labels c.in_ok-form.ensures a) c.bind.ensures
+statement-returns t c = ok_as c.bind.result (λ a. statement_drafted c.args.enclosing.now c.in_ok-end.ensures.number c.in_ok-end.ensures.labels c.in_ok-form.ensures a) c.bind.ensures
 
 pub form-returns-in-Compound : goal.form-returns-in-Compound
-form-returns-in-Compound t c = ok_as c.compound.result (λ a. form_drafted c.args.s.now (ap out-ResolvedStatement (c.in-Compound.is ∙ ap (statements.Compound c.in-Compound.level) (sym c.get.ensures)) ∙ statements.outs-Compound c.in-Compound.level c.get.result.now) a) c.compound.ensures
+form-returns-in-Compound t c = ok_as c.compound.result (λ a. form_drafted c.args.enclosing.now c.args.s.now (ap out-ResolvedStatement (c.in-Compound.is ∙ ap (statements.Compound c.in-Compound.level) (sym c.get.ensures)) ∙ statements.outs-Compound c.in-Compound.level c.get.result.now) a) c.compound.ensures
 
 pub form-returns-in-Loop : goal.form-returns-in-Loop
-form-returns-in-Loop t c = ok_as c.looped.result (λ a. form_drafted c.args.s.now (ap out-ResolvedStatement c.in-Loop.is ∙ statements.outs-Loop c.in-Loop.level c.in-Loop.statements) a) c.looped.ensures
+form-returns-in-Loop t c = ok_as c.looped.result (λ a. form_drafted c.args.enclosing.now c.args.s.now (ap out-ResolvedStatement c.in-Loop.is ∙ statements.outs-Loop c.in-Loop.level c.in-Loop.statements) a) c.looped.ensures
 
 pub form-returns-in-While : goal.form-returns-in-While
-form-returns-in-While t c = ok_as c.whiled.result (λ a. form_drafted c.args.s.now (ap out-ResolvedStatement (c.in-While.is ∙ ap (λ e. statements.While c.in-While.level e c.in-While.statements) (sym c.get-in-While.ensures)) ∙ statements.outs-While c.in-While.level c.get-in-While.result.now c.in-While.statements) a) c.whiled.ensures
+form-returns-in-While t c = ok_as c.whiled.result (λ a. form_drafted c.args.enclosing.now c.args.s.now (ap out-ResolvedStatement (c.in-While.is ∙ ap (λ e. statements.While c.in-While.level e c.in-While.statements) (sym c.get-in-While.ensures)) ∙ statements.outs-While c.in-While.level c.get-in-While.result.now c.in-While.statements) a) c.whiled.ensures
 
 pub form-returns-in-Repeat : goal.form-returns-in-Repeat
-form-returns-in-Repeat t c = ok_as c.repeated.result (λ a. form_drafted c.args.s.now (ap out-ResolvedStatement (c.in-Repeat.is ∙ ap (statements.Repeat c.in-Repeat.level c.in-Repeat.statements) (sym c.get-in-Repeat.ensures)) ∙ statements.outs-Repeat c.in-Repeat.level c.in-Repeat.statements c.get-in-Repeat.result.now) a) c.repeated.ensures
+form-returns-in-Repeat t c = ok_as c.repeated.result (λ a. form_drafted c.args.enclosing.now c.args.s.now (ap out-ResolvedStatement (c.in-Repeat.is ∙ ap (statements.Repeat c.in-Repeat.level c.in-Repeat.statements) (sym c.get-in-Repeat.ensures)) ∙ statements.outs-Repeat c.in-Repeat.level c.in-Repeat.statements c.get-in-Repeat.result.now) a) c.repeated.ensures
 
 pub form-returns-in-For : goal.form-returns-in-For
-form-returns-in-For t c = ok_as c.over_rows.result (λ a. form_drafted c.args.s.now (ap out-ResolvedStatement (c.in-For.is ∙ ap (λ h. statements.For c.in-For.level h c.in-For.statements) (sym c.get-in-For.ensures)) ∙ statements.outs-For c.in-For.level c.get-in-For.result.now c.in-For.statements) a) c.over_rows.ensures
+form-returns-in-For t c = ok_as c.over_rows.result (λ a. form_drafted c.args.enclosing.now c.args.s.now (ap out-ResolvedStatement (c.in-For.is ∙ ap (λ h. statements.For c.in-For.level h c.in-For.statements) (sym c.get-in-For.ensures)) ∙ statements.outs-For c.in-For.level c.get-in-For.result.now c.in-For.statements) a) c.over_rows.ensures
 
 pub form-returns-in_ok-branches-in-If : goal.form-returns-in_ok-branches-in-If
-form-returns-in_ok-branches-in-If t c = ok_as c.statements.result (λ a. form_drafted c.args.s.now (ap out-ResolvedStatement c.in-If.is ∙ statements.outs-If c.in-If.list c.in-If.otherwise) (if_drafted c.in-If.list c.in-If.otherwise c.in_ok-branches-in-If.ensures a)) c.statements.ensures
+form-returns-in_ok-branches-in-If t c = ok_as c.statements.result (λ a. form_drafted c.args.enclosing.now c.args.s.now (ap out-ResolvedStatement c.in-If.is ∙ statements.outs-If c.in-If.list c.in-If.otherwise) (if_drafted c.args.enclosing.now c.in-If.list c.in-If.otherwise c.in_ok-branches-in-If.ensures a)) c.statements.ensures
 
 pub form-returns-in_ok-branches-in-None : goal.form-returns-in_ok-branches-in-None
-form-returns-in_ok-branches-in-None t c = ok_as c.otherwise.result (λ a. form_drafted c.args.s.now (ap out-ResolvedStatement (c.in-Case.is ∙ ap (λ o. statements.Case o c.in-Case.list c.in-Case.last) c.in-None.is) ∙ statements.outs-Case None c.in-Case.list c.in-Case.last) (case_drafted c.in-Case.list c.in-Case.last c.in_ok-branches-in-None.ensures a)) c.otherwise.ensures
+form-returns-in_ok-branches-in-None t c = ok_as c.otherwise.result (λ a. form_drafted c.args.enclosing.now c.args.s.now (ap out-ResolvedStatement (c.in-Case.is ∙ ap (λ o. statements.Case o c.in-Case.list c.in-Case.last) c.in-None.is) ∙ statements.outs-Case None c.in-Case.list c.in-Case.last) (case_drafted c.args.enclosing.now c.in-Case.list c.in-Case.last c.in_ok-branches-in-None.ensures a)) c.otherwise.ensures
 
 pub form-returns-in_ok-take-in-Some : goal.form-returns-in_ok-take-in-Some
-form-returns-in_ok-take-in-Some t c = ok_as c.otherwise-in-Some.result (λ a. form_drafted c.args.s.now (ap out-ResolvedStatement (c.in-Case.is ∙ ap (λ o. statements.Case o c.in-Case.list c.in-Case.last) c.in-Some.is) ∙ statements.outs-Case (Some c.in-Some.e) c.in-Case.list c.in-Case.last) (compared_drafted c.in-Some.e c.get-in-Some.result.now c.in-Case.list c.in-Case.last c.get-in-Some.ensures c.in_ok-evaluated-in-Some.ensures.written c.in_ok-evaluated-in-Some.ensures.alone c.in_ok-comparisons-in-Some.ensures c.in_ok-take-in-Some.ensures a)) c.otherwise-in-Some.ensures
+form-returns-in_ok-take-in-Some t c = ok_as c.otherwise-in-Some.result (λ a. form_drafted c.args.enclosing.now c.args.s.now (ap out-ResolvedStatement (c.in-Case.is ∙ ap (λ o. statements.Case o c.in-Case.list c.in-Case.last) c.in-Some.is) ∙ statements.outs-Case (Some c.in-Some.e) c.in-Case.list c.in-Case.last) (compared_drafted c.args.enclosing.now c.in-Some.e c.get-in-Some.result.now c.in-Case.list c.in-Case.last c.get-in-Some.ensures c.in_ok-evaluated-in-Some.ensures.written c.in_ok-evaluated-in-Some.ensures.alone c.in_ok-comparisons-in-Some.ensures c.in_ok-take-in-Some.ensures a)) c.otherwise-in-Some.ensures
 
 pub form-returns-in-Simple : goal.form-returns-in-Simple
-form-returns-in-Simple t c = ok_as c.simple.result (λ a. form_drafted c.args.s.now (ap out-ResolvedStatement c.in-Simple.is ∙ statements.outs-Simple c.in-Simple.s) (simple_drafted c.in-Simple.s c.get-in-Simple.result.now c.get-in-Simple.ensures a)) c.simple.ensures
+form-returns-in-Simple t c = ok_as c.simple.result (λ a. form_drafted c.args.enclosing.now c.args.s.now (ap out-ResolvedStatement c.in-Simple.is ∙ statements.outs-Simple c.in-Simple.s) (simple_drafted c.args.enclosing.now c.in-Simple.s c.get-in-Simple.result.now c.get-in-Simple.ensures a)) c.simple.ensures
 
 pub compound-returns : goal.compound-returns
-compound-returns t c = ok_as c.plain.result (λ a. compound_drafted c.args.level c.args.block.now c.in_ok-declared.ensures.written c.in_ok-declared.ensures.alone c.in_ok-cursors.ensures c.in_ok-numbers.ensures c.in_ok-exit.ensures.number c.in_ok-exit.ensures.labels c.in_ok-inner.ensures.number c.in_ok-inner.ensures.entered c.in_ok-start.ensures.number c.in_ok-start.ensures.labels c.in_ok-pass.ensures c.in_ok-handlers.ensures c.in_ok-bind.ensures c.in_ok-within.ensures c.in_ok-bind-2.ensures a) c.plain.ensures
+compound-returns t c = ok_as c.plain.result (λ a. compound_drafted c.args.enclosing.now c.args.level c.args.block.now c.in_ok-declared.ensures.written c.in_ok-declared.ensures.alone c.in_ok-cursors.ensures c.in_ok-numbers.ensures c.in_ok-exit.ensures.number c.in_ok-exit.ensures.labels c.in_ok-inner.ensures.number c.in_ok-inner.ensures.entered c.in_ok-start.ensures.number c.in_ok-start.ensures.labels c.in_ok-pass.ensures c.in_ok-handlers.ensures c.in_ok-bind.ensures c.in_ok-within.ensures c.in_ok-bind-2.ensures a) c.plain.ensures
 
 pub looped-returns : goal.looped-returns
-looped-returns t c = ok_as c.jump.result (λ a. loop_drafted c.args.level c.args.list.now c.in_ok-again.ensures.number c.in_ok-again.ensures.labels c.in_ok-plain.ensures c.in_ok-within.ensures a) c.jump.ensures
+looped-returns t c = ok_as c.jump.result (λ a. loop_drafted c.args.enclosing.now c.args.level c.args.list.now c.in_ok-again.ensures.number c.in_ok-again.ensures.labels c.in_ok-plain.ensures c.in_ok-within.ensures a) c.jump.ensures
 
 pub whiled-returns : goal.whiled-returns
-whiled-returns t c = ok_as c.jump.result (λ a. while_drafted c.args.level c.args.test.now c.args.list.now c.in_ok-again.ensures.number c.in_ok-again.ensures.labels c.in_ok-plain.ensures c.in_ok-evaluated.ensures.written c.in_ok-evaluated.ensures.alone c.in_ok-take.ensures c.in_ok-within.ensures a) c.jump.ensures
+whiled-returns t c = ok_as c.jump.result (λ a. while_drafted c.args.enclosing.now c.args.level c.args.test.now c.args.list.now c.in_ok-again.ensures.number c.in_ok-again.ensures.labels c.in_ok-plain.ensures c.in_ok-evaluated.ensures.written c.in_ok-evaluated.ensures.alone c.in_ok-take.ensures c.in_ok-within.ensures a) c.jump.ensures
 
 pub repeated-returns : goal.repeated-returns
-repeated-returns t c = ok_as c.take.result (λ a. repeat_drafted c.args.level c.args.list.now c.args.until.now c.in_ok-start.ensures.number c.in_ok-start.ensures.labels c.in_ok-again.ensures.number c.in_ok-again.ensures.labels c.in_ok-plain.ensures c.in_ok-within.ensures c.in_ok-bind.ensures c.in_ok-evaluated.ensures.written c.in_ok-evaluated.ensures.alone a) c.take.ensures
+repeated-returns t c = ok_as c.take.result (λ a. repeat_drafted c.args.enclosing.now c.args.level c.args.list.now c.args.until.now c.in_ok-start.ensures.number c.in_ok-start.ensures.labels c.in_ok-again.ensures.number c.in_ok-again.ensures.labels c.in_ok-plain.ensures c.in_ok-within.ensures c.in_ok-bind.ensures c.in_ok-evaluated.ensures.written c.in_ok-evaluated.ensures.alone a) c.take.ensures
 
 pub over_rows-returns : goal.over_rows-returns
-over_rows-returns t c = ok_as c.plain-2.result (λ a. for_drafted c.args.level c.args.head.now c.args.list.now c.in_ok-cursor.ensures c.in_ok-number.ensures c.in_ok-out.ensures.number c.in_ok-out.ensures.labels c.in_ok-inner.ensures.number c.in_ok-inner.ensures.entered c.in_ok-open.ensures c.in_ok-again.ensures.number c.in_ok-again.ensures.labels c.in_ok-plain.ensures c.in_ok-fetch_row.ensures (within_same (c.as_slice.ensures.value ∙ c.in_ok-all.ensures) c.in_ok-within.ensures) c.in_ok-jump.ensures c.in_ok-bind.ensures a) c.plain-2.ensures
+over_rows-returns t c = ok_as c.plain-2.result (λ a. for_drafted c.args.enclosing.now c.args.level c.args.head.now c.args.list.now c.in_ok-cursor.ensures c.in_ok-number.ensures c.in_ok-out.ensures.number c.in_ok-out.ensures.labels c.in_ok-inner.ensures.number c.in_ok-inner.ensures.entered c.in_ok-open.ensures c.in_ok-again.ensures.number c.in_ok-again.ensures.labels c.in_ok-plain.ensures c.in_ok-fetch_row.ensures (within_same (c.as_slice.ensures.value ∙ c.in_ok-all.ensures) c.in_ok-within.ensures) c.in_ok-jump.ensures c.in_ok-bind.ensures a) c.plain-2.ensures
 
 pub within-returns : goal.within-returns
 within-returns t c = ok_as c.statements.result (within_same (c.as_slice.ensures.value ∙ c.in_ok-all.ensures)) c.statements.ensures
 
 pub branch-returns : goal.branch-returns
-branch-returns t c = ok_as c.bind.result (λ a. branch_drafted c.get.result.now c.get.ensures c.in_ok-evaluated.ensures.written c.in_ok-evaluated.ensures.alone c.in_ok-next.ensures.number c.in_ok-next.ensures.labels c.in_ok-take.ensures c.in_ok-statements.ensures c.in_ok-jump.ensures a) c.bind.ensures
+branch-returns t c = ok_as c.bind.result (λ a. branch_drafted c.args.enclosing.now c.get.result.now c.get.ensures c.in_ok-evaluated.ensures.written c.in_ok-evaluated.ensures.alone c.in_ok-next.ensures.number c.in_ok-next.ensures.labels c.in_ok-take.ensures c.in_ok-statements.ensures c.in_ok-jump.ensures a) c.bind.ensures
 
 pub comparison-returns : goal.comparison-returns
-comparison-returns t c = ok_as c.bind.result (λ a. comparison_drafted c.get.result.now c.get.ensures c.last_letter-operand.ensures c.in_ok-apply.ensures c.in_ok-evaluated.ensures.written c.in_ok-evaluated.ensures.alone c.in_ok-apply-2.ensures c.in_ok-next.ensures.number c.in_ok-next.ensures.labels c.in_ok-take.ensures c.in_ok-take-2.ensures c.in_ok-statements.ensures c.in_ok-apply-3.ensures a) c.bind.ensures
+comparison-returns t c = ok_as c.bind.result (λ a. comparison_drafted c.args.enclosing.now c.get.result.now c.get.ensures c.last_letter-operand.ensures c.in_ok-apply.ensures c.in_ok-evaluated.ensures.written c.in_ok-evaluated.ensures.alone c.in_ok-apply-2.ensures c.in_ok-next.ensures.number c.in_ok-next.ensures.labels c.in_ok-take.ensures c.in_ok-take-2.ensures c.in_ok-statements.ensures c.in_ok-apply-3.ensures a) c.bind.ensures
 
 pub handler-returns : goal.handler-returns
 handler-returns t c = ok_as c.plain.result (λ a. handler_drafted c.get.result.now c.get.ensures c.in_ok-number.ensures c.in_ok-inner.ensures c.in_ok-with_handler.ensures c.in_ok-statement.ensures a) c.plain.ensures
@@ -104,7 +104,7 @@ pub handlers-returns : goal.handlers-returns
 handlers-returns t c = none_left (λ σ. WritesHandlers c.args.emit_context.known.now c.args.emit_context.context) (λ σ. WritesHandlers c.args.emit_context.known.now c.args.emit_context.context c.args.list.now) c.items-h-items.result.now c.loop-h.h-index c.loop-h-test.false c.loop-h.invariant (λ σ q. no_handler)
 
 pub otherwise-returns-then-is_empty : goal.otherwise-returns-then-is_empty
-otherwise-returns-then-is_empty t c = ok_as c.no_case.result (λ a. else_none_drafted c.args.list.now c.items.result.now c.is_empty.result c.items.ensures c.is_empty.ensures c.if-is_empty.true a) c.no_case.ensures
+otherwise-returns-then-is_empty t c = ok_as c.no_case.result (λ a. else_none_drafted c.args.enclosing.now c.args.list.now c.items.result.now c.is_empty.result c.items.ensures c.is_empty.ensures c.if-is_empty.true a) c.no_case.ensures
 
 pub otherwise-returns-else-is_empty : goal.otherwise-returns-else-is_empty
-otherwise-returns-else-is_empty t c = ok_as c.statements.result (λ a. else_some_drafted c.args.list.now c.items.result.now c.is_empty.result c.items.ensures c.is_empty.ensures c.if-is_empty.false a) c.statements.ensures
+otherwise-returns-else-is_empty t c = ok_as c.statements.result (λ a. else_some_drafted c.args.enclosing.now c.args.list.now c.items.result.now c.is_empty.result c.items.ensures c.is_empty.ensures c.if-is_empty.false a) c.statements.ensures
