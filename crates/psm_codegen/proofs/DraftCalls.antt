@@ -14,16 +14,12 @@ use Rattle.psm_codegen.specs.Exprs.{Arguments, Writes}
 use Rattle.psm_codegen.specs.Labels.{Drafted, patched, patched_instruction}
 use Rattle.psm_codegen.specs.Simples.{CallArguments, Declares, Default, Signals, WritesRows, copied, letter_of_slots}
 use Rattle.psm_codegen.specs.Written.{Written, applied, letter_at, takes}
-use Rattle.psm_codegen.proofs.CallForms.{declaration_written, default_null, default_value, in_written, inout_written, out_written, row_written, signals_with, signals_without}
+use Rattle.psm_codegen.proofs.CallForms.{declaration_written, default_null, inout_written, out_written, row_written, signals_with, signals_without}
 use Rattle.psm_codegen.proofs.DraftSteps.{applied_drafted, copied_drafted, here_drafted, takes_drafted}
 use Rattle.psm_codegen.proofs.Drafts.{one, two}
 
 module _ {known : Known} {context resume : ℕ} where
   -- an argument, and those after it
-  pub in_drafted : {letters : List Letter} {n : ℕ} {a : ResolvedArgument} {w u : Written} {k : Letter} (e : ResolvedExpr) {d : ResolvedExpr} → a ≡ call.In d → e ≡ d → k ≡ letter_at letters n → Drafted (λ σ. Writes known context (σ resume) k e) w u
-      → Drafted (λ σ x y. (others : List ResolvedArgument) (v : Written) → CallArguments known context (σ resume) letters (n + 1) others y v → CallArguments known context (σ resume) letters n (a ∷ others) x v) w u
-  in_drafted e h s l a = one a (λ σ x. in_written e h s l x)
-
   pub out_drafted : {letters : List Letter} {n : ℕ} {a : ResolvedArgument} {w : Written} (slot : ℕ) → a ≡ call.Out slot
       → Drafted (λ σ x y. (others : List ResolvedArgument) (v : Written) → CallArguments known context (σ resume) letters n others y v → CallArguments known context (σ resume) letters n (a ∷ others) x v) w w
   out_drafted slot h = here_drafted (λ σ. out_written slot h)
@@ -35,9 +31,6 @@ module _ {known : Known} {context resume : ℕ} where
   -- declarations
   pub default_null_drafted : {k : Letter} {e : Option ResolvedExpr} {w v : Written} → e ≡ None → v ≡ applied context resume (op.Constant k data_of.Null) 0 k w → Drafted (λ σ. Default known context (σ resume) k e) w v
   default_null_drafted {k} h s = one (applied_drafted context resume (op.Constant k data_of.Null) 0 k (λ σ. refl) s) (λ σ x. default_null h x)
-
-  pub default_value_drafted : {k : Letter} {e : Option ResolvedExpr} {d f : ResolvedExpr} {w v : Written} → e ≡ Some d → f ≡ d → Drafted (λ σ. Writes known context (σ resume) k f) w v → Drafted (λ σ. Default known context (σ resume) k e) w v
-  default_value_drafted h s a = one a (λ σ x. default_value h s x)
 
   pub declaration_drafted : {x : ResolvedDeclaration} {k : Letter} {w t u : Written} → k ≡ letter_of_slots known x.slots → Drafted (λ σ. Default known context (σ resume) k x.default) w t → u ≡ copied context resume x.slots t
       → Drafted (λ σ y z. (xs : List ResolvedDeclaration) (v : Written) → Declares known context (σ resume) xs z v → Declares known context (σ resume) (x ∷ xs) y v) w u

@@ -21,15 +21,15 @@ use Rattle.psm_resolved.specs.Written.{letter_of_operator, op_of_logical_operato
 use Rattle.psm_code.specs.declared.instruction.Instruction.TheVariants as instruction
 use Rattle.psm_simulation.specs.Expressions.{Layer, is_straight, operands_of, operations_of, scaling}
 use Rattle.psm_codegen.specs.declared.known.Known.{Known}
-use Rattle.psm_codegen.specs.Exprs.{Arguments, Compares, Firsts, Joins, ChainLinks, Otherwise, Whens, Writes, WritesAll, function_number, joined, last, linked, more, no_argument, no_more, no_when, none, operator_chain, straight_letter}
+use Rattle.psm_codegen.specs.Exprs.{Arguments, Compares, Firsts, Joins, ChainLinks, Otherwise, Whens, Writes, WritesAll, function_number, more, none, straight_letter}
 use Rattle.psm_codegen.specs.Labels.{Drafted, patched}
 use Rattle.psm_codegen.specs.Queries.{QueryMade, item_letters}
 use Rattle.psm_codegen.specs.Written.{Written, all_applied, applied, bound, here, last_letter, letter_at, letters_at, puts, taken, with_label, with_query}
 use Rattle.psm_codegen.proofs.Counts.{here-applied, here-taken}
 use Rattle.psm_codegen.proofs.Drafts.{begins-same, four, one, three, two}
 use Rattle.psm_codegen.proofs.DraftSteps.{all_applied_drafted, applied_drafted, puts_drafted, query_drafted, scoped, taken_drafted}
-use Rattle.psm_codegen.proofs.Ends.{all_next, argument_next, compares_next, firsts_next, joined_next, linked_next, whens_next}
-use Rattle.psm_codegen.proofs.Forms.{call_written, coalesce_written, column_written, compared_one, compared_written, else_null, else_value, exists_written, logical_operator_written, null_written, ok_as, scalar_written, searched_one, searched_written, straight_written}
+use Rattle.psm_codegen.proofs.Ends.{firsts_next, joined_next, linked_next}
+use Rattle.psm_codegen.proofs.Forms.{call_written, coalesce_written, column_written, compared_one, compared_written, else_null, exists_written, null_written, ok_as, scalar_written, searched_one, searched_written, straight_written}
 use Rattle.psm_codegen.proofs.Patches.{Still, still-logical_operator, still-operations, still-operator, still-scaling}
 
 straight-patched : (known : Known) (σ : ℕ → ℕ) (v : Written) (layer : Layer) → straight_letter known layer v ≡ straight_letter known layer (patched σ v)
@@ -62,17 +62,6 @@ module _ {known : Known} {context resume : ℕ} where
   pub column_drafted : {k : Letter} {w new : Written} (e : ResolvedExpr) (i : ℕ) → out-ResolvedExpr e ≡ layers.Column i → new ≡ applied context resume (op.Constant k data_of.Null) 0 k w → Drafted (λ σ. Writes known context (σ resume) k e) w new
   column_drafted {k} e i q n = one (applied_drafted context resume (op.Constant k data_of.Null) 0 k (λ σ. refl) n) (λ σ x. column_written e i q x)
 
-  -- ---- conditions that are joined, and chains
-
-  pub logical_operator_drafted : {k : Letter} {w u v : Written} (e first : ResolvedExpr) (rest : List ResolvedExpr) (j : LogicalOperator) (operands : Several ResolvedExpr) → record { first = first; rest = rest } ≡ operands
-      → out-ResolvedExpr e ≡ layers.LogicalOperator j operands → Drafted (λ σ. Writes known context (σ resume) B first) w u → Drafted (λ σ. Joins known context (σ resume) j rest) u v
-      → Drafted (λ σ. Writes known context (σ resume) k e) w v
-  logical_operator_drafted e first rest j operands s q a b = two a b (λ σ x y. logical_operator_written e first rest j operands s q x y)
-
-  pub operator_chain_drafted : {k : Letter} {e : ResolvedExpr} {w u v : Written} (first : ResolvedExpr) (chain_links : List ResolvedOperation) → out-ResolvedExpr e ≡ layers.OperatorChain first chain_links
-      → Drafted (λ σ. Writes known context (σ resume) N first) w u → Drafted (λ σ. ChainLinks known context (σ resume) chain_links) u v → Drafted (λ σ. Writes known context (σ resume) k e) w v
-  operator_chain_drafted first chain_links q a b = two a b (λ σ x y. operator_chain first chain_links q x y)
-
   -- ---- calls, and queries
 
   pub call_drafted : {k : Letter} {w v new : Written} (e : ResolvedExpr) (function routine : ℕ) (arguments : List ResolvedExpr) (letters : List Letter) (count : ℕ) (letter : Letter) → out-ResolvedExpr e ≡ layers.Call function arguments
@@ -96,9 +85,6 @@ module _ {known : Known} {context resume : ℕ} where
 
   pub else_null_drafted : {k : Letter} {w new : Written} (e : Option ResolvedExpr) → e ≡ None → new ≡ applied context resume (op.Constant k data_of.Null) 0 k w → Drafted (λ σ. Otherwise known context (σ resume) k e) w new
   else_null_drafted {k} e q n = one (applied_drafted context resume (op.Constant k data_of.Null) 0 k (λ σ. refl) n) (λ σ x. else_null e q x)
-
-  pub else_value_drafted : {k : Letter} {w new : Written} (e : Option ResolvedExpr) (x : ResolvedExpr) → e ≡ Some x → Drafted (λ σ. Writes known context (σ resume) k x) w new → Drafted (λ σ. Otherwise known context (σ resume) k e) w new
-  else_value_drafted e x q a = one a (λ σ y. else_value e x q y)
 
   -- ---- CASE and COALESCE
 
@@ -150,14 +136,6 @@ module _ {known : Known} {context resume : ℕ} where
 
   -- ---- lists, with one item more
 
-  pub all_next_drafted : (es fs : List ResolvedExpr) (e : ResolvedExpr) {w u v : Written} → fs ≡ es ++ e ∷ [] → Drafted (λ σ. WritesAll known context (σ resume) es) w u → Drafted (λ σ. Writes known context (σ resume) N e) u v
-      → Drafted (λ σ. WritesAll known context (σ resume) fs) w v
-  all_next_drafted es fs e q a b = two a b (λ σ x y. all_next es fs e q x y)
-
-  pub argument_next_drafted : (letters : List Letter) (es fs : List ResolvedExpr) (e : ResolvedExpr) (place : ℕ) (k : Letter) {w u v : Written} → fs ≡ es ++ e ∷ [] → place ≡ length es → k ≡ letter_at letters place
-      → Drafted (λ σ. Arguments known context (σ resume) letters 0 es) w u → Drafted (λ σ. Writes known context (σ resume) k e) u v → Drafted (λ σ. Arguments known context (σ resume) letters 0 fs) w v
-  argument_next_drafted letters es fs e place k q p l a b = two a b (λ σ x y. argument_next letters es fs e place k q p l x y)
-
   pub joined_next_drafted : (j : LogicalOperator) (es fs : List ResolvedExpr) (e : ResolvedExpr) (o : Op) {w u v new : Written} → fs ≡ es ++ e ∷ [] → o ≡ op_of_logical_operator j → Drafted (λ σ. Joins known context (σ resume) j es) w u
       → Drafted (λ σ. Writes known context (σ resume) B e) u v → new ≡ applied context resume o 2 B v → Drafted (λ σ. Joins known context (σ resume) j fs) w new
   joined_next_drafted j es fs e o q p a b h = three a b (applied_drafted context resume o 2 B (subst Still (sym p) (still-logical_operator j)) h) (λ σ x y z. joined_next j es fs e o q p x y z)
@@ -166,17 +144,6 @@ module _ {known : Known} {context resume : ℕ} where
       → Drafted (λ σ. ChainLinks known context (σ resume) ks) w u → Drafted (λ σ. Writes known context (σ resume) N (out-ResolvedOperation l).operand) u v → new ≡ applied context resume o 2 k v → Drafted (λ σ. ChainLinks known context (σ resume) ls) w new
   linked_next_drafted ks ls l o k q p r a b h = three a b (applied_drafted context resume o 2 k (subst Still (sym p) (still-operator (out-ResolvedOperation l).operator)) h) (λ σ x y z. linked_next ks ls l o k q p r x y z)
 
-  pub whens_next_drafted : {k : Letter} (out : ℕ) (xs ys : List ResolvedWhen) (x : ResolvedWhen) {w u v : Written} → ys ≡ xs ++ x ∷ [] → Drafted (λ σ. Whens known context (σ resume) k (σ out) xs) w u
-      → Drafted (λ σ. Whens known context (σ resume) k (σ out) (x ∷ [])) u v → Drafted (λ σ. Whens known context (σ resume) k (σ out) ys) w v
-  whens_next_drafted out xs ys x q a b = two a b (λ σ y z. whens_next (σ out) xs ys x q y z)
-
-  pub compares_next_drafted : {k : Letter} (out : ℕ) (xs ys : List ResolvedWhen) (x : ResolvedWhen) {w u v : Written} → ys ≡ xs ++ x ∷ [] → Drafted (λ σ. Compares known context (σ resume) k (σ out) xs) w u
-      → Drafted (λ σ. Compares known context (σ resume) k (σ out) (x ∷ [])) u v → Drafted (λ σ. Compares known context (σ resume) k (σ out) ys) w v
-  compares_next_drafted out xs ys x q a b = two a b (λ σ y z. compares_next (σ out) xs ys x q y z)
-
   pub firsts_next_drafted : {k : Letter} (out : ℕ) (e : ResolvedExpr) (es fs : List ResolvedExpr) (x : ResolvedExpr) {w u t v : Written} → fs ≡ es ++ x ∷ [] → Drafted (λ σ. Firsts known context (σ resume) k (σ out) e es) w u
       → t ≡ taken context resume (op.JumpUnlessNull out) u → Drafted (λ σ. Writes known context (σ resume) k x) t v → Drafted (λ σ. Firsts known context (σ resume) k (σ out) e fs) w v
   firsts_next_drafted out e es fs x q a h b = three a (taken_drafted context resume (op.JumpUnlessNull out) h) b (λ σ y z s. firsts_next (σ out) e es fs x q y z s)
-
-  pub last_drafted : {k : Letter} (out : ℕ) {e : ResolvedExpr} {w v : Written} → Drafted (λ σ. Writes known context (σ resume) k e) w v → Drafted (λ σ. Firsts known context (σ resume) k (σ out) e []) w v
-  last_drafted out a = one a (λ σ x. last x)

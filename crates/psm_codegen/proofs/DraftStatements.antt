@@ -29,7 +29,7 @@ use Rattle.psm_codegen.specs.Written.{applied, bound, last_letter, takes, taken,
 use Rattle.psm_codegen.proofs.Counts.{here-applied, here-takes}
 use Rattle.psm_codegen.proofs.DraftParts.{cursors_parts, entered_parts, fetched_parts, handler_parts, parts_alone, passed_parts, placed_parts, plain_parts, puts_parts, scoped_parts}
 use Rattle.psm_codegen.proofs.Drafts.{four, one, six, three, two}
-use Rattle.psm_codegen.proofs.StatementForms.{at-plain, branch_written, case_written, compared_written, comparison_written, compound_written, else_none, else_some, for_written, handler_written, if_written, loop_written, repeat_written, simple_written, while_written}
+use Rattle.psm_codegen.proofs.StatementForms.{at-plain, branch_written, compared_written, comparison_written, compound_written, for_written, handler_written, loop_written, repeat_written, while_written}
 
 -- the number of the context that follows has nothing to do with labels
 next-patched : (σ : ℕ → ℕ) (p : FunctionBuilder) → next_context p ≡ next_context (patched_parts σ p)
@@ -42,14 +42,6 @@ pub statement_drafted : {known : Known} {context end : ℕ} (enclosing : List En
 statement_drafted enclosing n m a e = one (scoped_parts n m a e) (λ σ s. s.0 s.1)
 
 module _ {known : Known} {context end : ℕ} (enclosing : List EnclosingBlock) where
-  pub form_drafted : {form : ResolvedStatement-F ResolvedStatement ResolvedBlock ResolvedBranch ResolvedHandler} {p q : FunctionBuilder} (s : ResolvedStatement) → out-ResolvedStatement s ≡ form
-      → DraftedParts (λ σ. WritesForm known context (σ end) (map (patched_block σ) enclosing) form) p q → DraftedParts (λ σ x y. σ end ≡ at y → WritesStatement known context (map (patched_block σ) enclosing) s x y) p q
-  form_drafted s o a = one a (λ σ f e. f s o e)
-
-  pub simple_drafted : {p q : FunctionBuilder} (x y : ResolvedSimple) → y ≡ x → DraftedParts (λ σ. WritesSimple known context (σ end) (map (patched_block σ) enclosing) y) p q
-      → DraftedParts (λ σ. WritesForm known context (σ end) (map (patched_block σ) enclosing) (layers.Simple x)) p q
-  simple_drafted x y h a = one a (λ σ w. simple_written x y h w)
-
   -- ---- loops
 
   pub loop_drafted : {m : ℕ} {p l a b q : FunctionBuilder} (level : ℕ) (list : List ResolvedStatement) → m ≡ length p.code.labels → l ≡ with_code (with_label (Some (at p)) p.code) p → a ≡ with_plain context instruction.Turn l
@@ -96,14 +88,6 @@ module _ {known : Known} {context end : ℕ} (enclosing : List EnclosingBlock) w
 
   -- ---- IF and CASE
 
-  pub if_drafted : {p b q : FunctionBuilder} (branches : List ResolvedBranch) (otherwise : List ResolvedStatement) → DraftedParts (λ σ. WritesBranches known context (map (patched_block σ) enclosing) (σ end) branches) p b
-      → DraftedParts (λ σ. WritesStatements known context (map (patched_block σ) enclosing) otherwise) b q → DraftedParts (λ σ. WritesForm known context (σ end) (map (patched_block σ) enclosing) (layers.If branches otherwise)) p q
-  if_drafted branches otherwise bs ss = two bs ss (λ σ bs ss. if_written branches otherwise bs ss)
-
-  pub case_drafted : {p b q : FunctionBuilder} (branches : List ResolvedBranch) (otherwise : List ResolvedStatement) → DraftedParts (λ σ. WritesBranches known context (map (patched_block σ) enclosing) (σ end) branches) p b
-      → DraftedParts (λ σ. WritesElse known context (map (patched_block σ) enclosing) otherwise) b q → DraftedParts (λ σ. WritesForm known context (σ end) (map (patched_block σ) enclosing) (layers.Case None branches otherwise)) p q
-  case_drafted branches otherwise bs ss = two bs ss (λ σ bs ss. case_written branches otherwise bs ss)
-
   pub compared_drafted : {p t b d q : FunctionBuilder} (operand f : ResolvedExpr) (branches : List ResolvedBranch) (otherwise : List ResolvedStatement) → f ≡ operand → Drafted (λ σ. Writes known context (σ end) N f) p.code t.code → t ≡ with_code t.code p
       → DraftedParts (λ σ. WritesComparisons known context (map (patched_block σ) enclosing) (σ end) branches) t b → d ≡ with_code (taken context end op.Drop b.code) b
       → DraftedParts (λ σ. WritesElse known context (map (patched_block σ) enclosing) otherwise) d q → DraftedParts (λ σ. WritesForm known context (σ end) (map (patched_block σ) enclosing) (layers.Case (Some operand) branches otherwise)) p q
@@ -134,16 +118,6 @@ module _ {known : Known} {context end : ℕ} (enclosing : List EnclosingBlock) w
       four (puts_parts context end (instruction.Operation (op.JumpUnlessTrue next)) 1 [] h4) (puts_parts context end (instruction.Operation op.Drop) 1 [] h5) ss (puts_parts context end (instruction.Operation (op.Jump end)) 0 (k ∷ []) h6) (λ σ x y z v. ((x, y), (z, v))) in
       four (puts_parts context end (instruction.Operation op.Duplicate) 0 (k ∷ []) h1) (parts_alone y h2) (puts_parts context end (instruction.Operation op.Equal) 2 (B ∷ []) h3) (scoped_parts n m inner h7)
       (λ σ i y j s xs r bs. comparison_written f h0 hk i y.0 y.1 j (s.1 ∙ ap at s.0.1.1 ∙ here-applied context (σ end) (op.Jump (σ end)) 0 k (patched_parts σ b).code) s.0.0.0 s.0.0.1 s.0.1.0 s.0.1.1 xs r bs)
-
-  -- ---- ELSE
-
-  pub else_none_drafted : (ss items : List ResolvedStatement) (t : Bool) {p q : FunctionBuilder} → items ≡ ss → t ≡ nat_eq (length items) 0 → t ≡ true
-      → DraftedParts (λ σ y z. z ≡ with_code (takes context (suc (at y)) instruction.NoCase 0 y.code) y) p q → DraftedParts (λ σ. WritesElse known context (map (patched_block σ) enclosing) ss) p q
-  else_none_drafted ss items t e f g a = one a (λ σ x. else_none ss items t e f g x)
-
-  pub else_some_drafted : (ss items : List ResolvedStatement) (t : Bool) {p q : FunctionBuilder} → items ≡ ss → t ≡ nat_eq (length items) 0 → t ≡ false
-      → DraftedParts (λ σ. WritesStatements known context (map (patched_block σ) enclosing) ss) p q → DraftedParts (λ σ. WritesElse known context (map (patched_block σ) enclosing) ss) p q
-  else_some_drafted ss items t e f g a = one a (λ σ x. else_some ss items t e f g x)
 
   -- ---- blocks
 

@@ -1,10 +1,12 @@
 use Rattle.std.proofs.Common.{ap, ◌∙◌}
 use Rattle.psm_codegen.specs.Written.{letter_at}
-use Rattle.psm_codegen.proofs.DraftCalls.{in_drafted, inout_drafted, out_drafted}
+use Rattle.psm_codegen.proofs.CallForms.{in_written}
+use Rattle.psm_codegen.proofs.DraftCalls.{inout_drafted, out_drafted}
+use Rattle.psm_codegen.proofs.Drafts.{one}
 use Rattle.psm_codegen.proofs.calling.call_argument.Goals as goal
 
 pub returns-in_ok-expr-in-In-clause-written : goal.returns-in_ok-expr-in-In-clause-written
-returns-in_ok-expr-in-In-clause-written c = in_drafted c.get.result.now c.in-In.is c.get.ensures c.letter_at-letter.ensures c.in_ok-expr-in-In.ensures
+returns-in_ok-expr-in-In-clause-written c = one c.in_ok-expr-in-In.ensures (λ σ x. in_written c.get.result.now c.in-In.is c.get.ensures c.letter_at-letter.ensures x)
 
 pub returns-in-Out-clause-written : goal.returns-in-Out-clause-written
 returns-in-Out-clause-written c = out_drafted c.in-Out.slot c.in-Out.is

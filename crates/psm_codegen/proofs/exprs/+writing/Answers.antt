@@ -9,12 +9,14 @@ use Rattle.psm_resolved.specs.RowValue.{listed}
 use Rattle.psm_resolved.specs.Written.{op_of_function}
 use Rattle.psm_resolved.proofs.Several.{next_item, first_told, rest_told}
 use Rattle.psm_simulation.specs.Expressions.{negating}
-use Rattle.psm_codegen.specs.Exprs.{Compares, Firsts, Whens, WritesAll, joined, linked, no_argument}
+use Rattle.psm_codegen.specs.Exprs.{Compares, Firsts, Whens, WritesAll, joined, last, linked, no_argument, operator_chain}
 use Rattle.psm_codegen.specs.Labels.{Drafted}
 use Rattle.psm_codegen.specs.Written.{all_applied, applied, letter_at, letters_at, number_at}
-use Rattle.psm_codegen.proofs.DraftForms.{all_next_drafted, argument_next_drafted, call_drafted, coalesce_drafted, column_drafted, compared_drafted, compared_one_drafted, compares_next_drafted, else_null_drafted, else_value_drafted, exists_drafted, firsts_next_drafted, joined_next_drafted, last_drafted, linked_next_drafted, logical_operator_drafted, more_drafted, none_drafted, null_drafted, operator_chain_drafted, scalar_drafted, searched_drafted, searched_one_drafted, straight_drafted, whens_next_drafted}
+use Rattle.psm_codegen.proofs.DraftForms.{call_drafted, coalesce_drafted, column_drafted, compared_drafted, compared_one_drafted, else_null_drafted, exists_drafted, firsts_next_drafted, joined_next_drafted, linked_next_drafted, more_drafted, none_drafted, null_drafted, scalar_drafted, searched_drafted, searched_one_drafted, straight_drafted}
 use Rattle.psm_codegen.proofs.DraftSteps.{here_drafted}
-use Rattle.psm_codegen.proofs.Forms.{ok_as}
+use Rattle.psm_codegen.proofs.Drafts.{one, two}
+use Rattle.psm_codegen.proofs.Ends.{all_next, argument_next, compares_next, whens_next}
+use Rattle.psm_codegen.proofs.Forms.{else_value, logical_operator_written, ok_as}
 use Rattle.psm_codegen.proofs.exprs.+writing.Goals as goal
 
 pub expr-returns-in-Null : goal.expr-returns-in-Null
@@ -88,10 +90,10 @@ pub expr-returns-in_ok-part-in-Trim : goal.expr-returns-in_ok-part-in-Trim
 expr-returns-in_ok-part-in-Trim t c = straight_drafted c.args.letter c.args.e.now (layers.Trim c.in-Trim.side c.in-Trim.text) c.applied-in-Trim.new.self c.applied-in-Trim.result (ap out-ResolvedExpr c.in-Trim.is ∙ exprs.outs-Trim c.in-Trim.side c.in-Trim.text) refl (more_drafted c.in_ok-part-in-Trim.ensures none_drafted) c.applied-in-Trim.ensures
 
 pub expr-returns-in_ok-part-in-LogicalOperator : goal.expr-returns-in_ok-part-in-LogicalOperator
-expr-returns-in_ok-part-in-LogicalOperator t c = ok_as c.joined.result (λ a. logical_operator_drafted c.args.e.now c.operands.inside.first c.operands.inside.rest c.in-LogicalOperator.logical_operator c.in-LogicalOperator.operands c.operands.view_is (ap out-ResolvedExpr c.in-LogicalOperator.is ∙ exprs.outs-LogicalOperator c.in-LogicalOperator.logical_operator c.in-LogicalOperator.operands) c.in_ok-part-in-LogicalOperator.ensures a) c.joined.ensures
+expr-returns-in_ok-part-in-LogicalOperator t c = ok_as c.joined.result (λ a. two c.in_ok-part-in-LogicalOperator.ensures a (λ σ x y. logical_operator_written c.args.e.now c.operands.inside.first c.operands.inside.rest c.in-LogicalOperator.logical_operator c.in-LogicalOperator.operands c.operands.view_is (ap out-ResolvedExpr c.in-LogicalOperator.is ∙ exprs.outs-LogicalOperator c.in-LogicalOperator.logical_operator c.in-LogicalOperator.operands) x y)) c.joined.ensures
 
 pub expr-returns-in_ok-part-in-OperatorChain : goal.expr-returns-in_ok-part-in-OperatorChain
-expr-returns-in_ok-part-in-OperatorChain t c = ok_as c.linked.result (λ a. operator_chain_drafted c.in-OperatorChain.first c.in-OperatorChain.chain_links (ap out-ResolvedExpr c.in-OperatorChain.is ∙ exprs.outs-OperatorChain c.in-OperatorChain.first c.in-OperatorChain.chain_links) c.in_ok-part-in-OperatorChain.ensures a) c.linked.ensures
+expr-returns-in_ok-part-in-OperatorChain t c = ok_as c.linked.result (λ a. two c.in_ok-part-in-OperatorChain.ensures a (λ σ x y. operator_chain c.in-OperatorChain.first c.in-OperatorChain.chain_links (ap out-ResolvedExpr c.in-OperatorChain.is ∙ exprs.outs-OperatorChain c.in-OperatorChain.first c.in-OperatorChain.chain_links) x y)) c.linked.ensures
 
 pub expr-returns-in_ok-arguments-in-Call : goal.expr-returns-in_ok-arguments-in-Call
 expr-returns-in_ok-arguments-in-Call t c = ok_as c.put-in-Call.result (λ a. call_drafted c.args.e.now c.in-Call.function c.number_at-routine.result c.in-Call.list c.letters_at-letters.result.now _ c.letter_at-letter-in-Call.result (ap out-ResolvedExpr c.in-Call.is ∙ exprs.outs-Call c.in-Call.function c.in-Call.list) (c.number_at-routine.ensures ∙ ap (λ ns. number_at (slice_get ns c.in-Call.function)) c.items-in-Call.ensures) (c.letters_at-letters.ensures ∙ ap (λ ls. letters_at ls c.number_at-routine.result) c.items-in-Call-2.ensures) (c.letter_at-letter-in-Call.ensures ∙ ap (λ ks. letter_at ks c.number_at-routine.result) c.items-in-Call-3.ensures) (ap length c.items-takes.ensures) c.in_ok-arguments-in-Call.ensures a) c.put-in-Call.ensures
@@ -123,25 +125,25 @@ linked-loop-chain_link-preserved t c = linked_next_drafted (take c.loop-chain_li
 pub arguments-loop-item-preserved : goal.arguments-loop-item-preserved
 arguments-loop-item-preserved t c =
     let many : length (take c.loop-item.item-index c.items-item-items.result.now) ≡ c.loop-item.item-index = omega (arith, length-take c.loop-item.item-index c.items-item-items.result.now, c.loop-item-test.true) in
-    (omega (arith, c.loop-item.invariant.0), argument_next_drafted c.args.letters.now (take c.loop-item.item-index c.items-item-items.result.now) (take (c.loop-item.item-index + 1) c.items-item-items.result.now) c.get.result.now c.loop-item.place c.letter_at-letter.result (next_item c.items-item-items.result.now c.loop-item.item-index c.item-item.result c.get.result.now c.loop-item-test.true c.item-item.is c.get.ensures) (c.loop-item.invariant.0 ∙ sym many) c.letter_at-letter.ensures c.loop-item.invariant.1 c.in_ok-expr.ensures)
+    (omega (arith, c.loop-item.invariant.0), two c.loop-item.invariant.1 c.in_ok-expr.ensures (λ σ x y. argument_next c.args.letters.now (take c.loop-item.item-index c.items-item-items.result.now) (take (c.loop-item.item-index + 1) c.items-item-items.result.now) c.get.result.now c.loop-item.place c.letter_at-letter.result (next_item c.items-item-items.result.now c.loop-item.item-index c.item-item.result c.get.result.now c.loop-item-test.true c.item-item.is c.get.ensures) (c.loop-item.invariant.0 ∙ sym many) c.letter_at-letter.ensures x y))
 
 pub several-loop-item-init : goal.several-loop-item-init
 several-loop-item-init t c = subst (λ x. Drafted (λ σ. WritesAll c.args.emit_context.known.now c.args.emit_context.context (σ c.args.emit_context.resume) (x ∷ [])) c.args.out.now c.expr.new.out) (first_told c.list.view_is c.get.ensures) (more_drafted c.in_ok-expr.ensures none_drafted)
 
 pub several-loop-item-preserved : goal.several-loop-item-preserved
-several-loop-item-preserved t c = all_next_drafted (c.args.list.now.first ∷ take c.loop-item.item-index c.items-item-items.result.now) (c.args.list.now.first ∷ take (c.loop-item.item-index + 1) c.items-item-items.result.now) c.get-in-loop-item.result.now (ap (λ k. c.args.list.now.first ∷ k) (next_item c.items-item-items.result.now c.loop-item.item-index c.item-item.result c.get-in-loop-item.result.now c.loop-item-test.true c.item-item.is c.get-in-loop-item.ensures)) c.loop-item.invariant c.in_ok-expr-2.ensures
+several-loop-item-preserved t c = two c.loop-item.invariant c.in_ok-expr-2.ensures (λ σ x y. all_next (c.args.list.now.first ∷ take c.loop-item.item-index c.items-item-items.result.now) (c.args.list.now.first ∷ take (c.loop-item.item-index + 1) c.items-item-items.result.now) c.get-in-loop-item.result.now (ap (λ k. c.args.list.now.first ∷ k) (next_item c.items-item-items.result.now c.loop-item.item-index c.item-item.result c.get-in-loop-item.result.now c.loop-item-test.true c.item-item.is c.get-in-loop-item.ensures)) x y)
 
 pub firsts-loop-value-init : goal.firsts-loop-value-init
-firsts-loop-value-init t c = subst (λ x. Drafted (λ σ. Firsts c.args.emit_context.known.now c.args.emit_context.context (σ c.args.emit_context.resume) c.args.letter (σ c.args.end) x []) c.args.out.now c.expr.new.out) (first_told c.values.view_is c.get.ensures) (last_drafted c.args.end c.in_ok-expr.ensures)
+firsts-loop-value-init t c = subst (λ x. Drafted (λ σ. Firsts c.args.emit_context.known.now c.args.emit_context.context (σ c.args.emit_context.resume) c.args.letter (σ c.args.end) x []) c.args.out.now c.expr.new.out) (first_told c.values.view_is c.get.ensures) (one c.in_ok-expr.ensures (λ σ x. last x))
 
 pub firsts-loop-value-preserved : goal.firsts-loop-value-preserved
 firsts-loop-value-preserved t c = firsts_next_drafted c.args.end c.args.values.now.first (take c.loop-value.value-index c.items-value-items.result.now) (take (c.loop-value.value-index + 1) c.items-value-items.result.now) c.get-in-loop-value.result.now (next_item c.items-value-items.result.now c.loop-value.value-index c.value-item.result c.get-in-loop-value.result.now c.loop-value-test.true c.value-item.is c.get-in-loop-value.ensures) c.loop-value.invariant c.in_ok-taken.ensures c.in_ok-expr-2.ensures
 
 pub searched-loop-when-preserved : goal.searched-loop-when-preserved
-searched-loop-when-preserved t c = whens_next_drafted c.args.end (c.args.whens.now.first ∷ take c.loop-when.when-index c.items-when-items.result.now) (c.args.whens.now.first ∷ take (c.loop-when.when-index + 1) c.items-when-items.result.now) c.get-in-loop-when.result.now (ap (λ k. c.args.whens.now.first ∷ k) (next_item c.items-when-items.result.now c.loop-when.when-index c.when-item.result c.get-in-loop-when.result.now c.loop-when-test.true c.when-item.is c.get-in-loop-when.ensures)) c.loop-when.invariant c.in_ok-test-2.ensures
+searched-loop-when-preserved t c = two c.loop-when.invariant c.in_ok-test-2.ensures (λ σ x y. whens_next (σ c.args.end) (c.args.whens.now.first ∷ take c.loop-when.when-index c.items-when-items.result.now) (c.args.whens.now.first ∷ take (c.loop-when.when-index + 1) c.items-when-items.result.now) c.get-in-loop-when.result.now (ap (λ k. c.args.whens.now.first ∷ k) (next_item c.items-when-items.result.now c.loop-when.when-index c.when-item.result c.get-in-loop-when.result.now c.loop-when-test.true c.when-item.is c.get-in-loop-when.ensures)) x y)
 
 pub compared-loop-when-preserved : goal.compared-loop-when-preserved
-compared-loop-when-preserved t c = compares_next_drafted c.args.end (c.args.whens.now.first ∷ take c.loop-when.when-index c.items-when-items.result.now) (c.args.whens.now.first ∷ take (c.loop-when.when-index + 1) c.items-when-items.result.now) c.get-in-loop-when.result.now (ap (λ k. c.args.whens.now.first ∷ k) (next_item c.items-when-items.result.now c.loop-when.when-index c.when-item.result c.get-in-loop-when.result.now c.loop-when-test.true c.when-item.is c.get-in-loop-when.ensures)) c.loop-when.invariant c.in_ok-comparison-2.ensures
+compared-loop-when-preserved t c = two c.loop-when.invariant c.in_ok-comparison-2.ensures (λ σ x y. compares_next (σ c.args.end) (c.args.whens.now.first ∷ take c.loop-when.when-index c.items-when-items.result.now) (c.args.whens.now.first ∷ take (c.loop-when.when-index + 1) c.items-when-items.result.now) c.get-in-loop-when.result.now (ap (λ k. c.args.whens.now.first ∷ k) (next_item c.items-when-items.result.now c.loop-when.when-index c.when-item.result c.get-in-loop-when.result.now c.loop-when-test.true c.when-item.is c.get-in-loop-when.ensures)) x y)
 
 pub searched-loop-when-init : goal.searched-loop-when-init
 searched-loop-when-init t c = subst (λ x. Drafted (λ σ. Whens c.args.emit_context.known.now c.args.emit_context.context (σ c.args.emit_context.resume) c.args.letter (σ c.args.end) (x ∷ [])) c.args.out.now c.test.new.out) (first_told c.whens.view_is c.get.ensures) c.in_ok-test.ensures
@@ -159,4 +161,4 @@ pub alternative-returns-in-None : goal.alternative-returns-in-None
 alternative-returns-in-None t c = ok_as c.applied.result (λ a. else_null_drafted c.args.otherwise.now c.in-None.is a) c.applied.ensures
 
 pub alternative-returns-in-Some : goal.alternative-returns-in-Some
-alternative-returns-in-Some t c = ok_as c.expr.result (λ a. else_value_drafted c.args.otherwise.now c.get.result.now (c.in-Some.is ∙ ap Some (sym c.get.ensures)) a) c.expr.ensures
+alternative-returns-in-Some t c = ok_as c.expr.result (λ a. one a (λ σ x. else_value c.args.otherwise.now c.get.result.now (c.in-Some.is ∙ ap Some (sym c.get.ensures)) x)) c.expr.ensures
