@@ -103,7 +103,7 @@ module _ {known : Known} {context resume : ℕ} where
       → Drafted (λ σ. Compares known context (σ resume) k (σ end) (c ∷ [])) w v
   compared_one_drafted {k} {w} {d} {u} {q} {l} {j} {x} {t} {o} end next letter c same hd a hq n m hj hx b ho e =
       let inner : Drafted (λ σ y z. σ next ≡ here z → (first second third : Written) → letter ≡ last_letter first → second ≡ applied context (σ resume) op.Duplicate 0 letter first
-          → Writes known context (σ resume) letter (out-ResolvedWhen c).test second third → y ≡ applied context (σ resume) op.Equal 2 B third → Compares known context (σ resume) k (σ end) (c ∷ []) first z) l o =
+      → Writes known context (σ resume) letter (out-ResolvedWhen c).test second third → y ≡ applied context (σ resume) op.Equal 2 B third → Compares known context (σ resume) k (σ end) (c ∷ []) first z) l o =
       four (taken_drafted context resume (op.JumpUnlessTrue next) hj) (taken_drafted context resume op.Drop hx) b (puts_drafted context resume (instruction.Operation (op.Jump end)) 1 (letter ∷ []) ho)
       (λ σ ej ex r g place first second third s h d2 h2. compared_one (σ end) (σ next) letter c s (place ∙ ap here g ∙ here-applied context (σ resume) (op.Jump (σ end)) 1 letter (patched σ t)) h d2 h2 ej ex r g) in
       four (applied_drafted context resume op.Duplicate 0 letter (λ σ. refl) hd) a (applied_drafted context resume op.Equal 2 B (λ σ. refl) hq) (scoped n m inner e)

@@ -75,13 +75,13 @@ module _ {known : Known} {context end : ℕ} (enclosing : List EnclosingBlock) w
       → DraftedParts (λ σ. WritesForm known context (σ end) (map (patched_block σ) enclosing) (layers.For level head list)) p q
   for_drafted {out} {again} {inner} {p} {a} {l} {e} {t} {i} {o} {f} {c} {j} {k} {q} {ns} level head list cs h1 n h2 h3 h4 h5 m h6 h7 h8 ss h9 h10 h11 =
       let opens : DraftedParts (λ σ y z. ((patched_parts σ e ≡ block_entered context false (σ out) ns y) × (patched_parts σ t ≡ with_code (takes inner (σ out) (instruction.Open head.cursor.number) 0 (patched_parts σ e).code) (patched_parts σ e)))
-          × ((z ≡ patched_parts σ t) × (σ again ≡ at (patched_parts σ t)))) l i =
+      × ((z ≡ patched_parts σ t) × (σ again ≡ at (patched_parts σ t)))) l i =
       three (entered_parts context false out ns h4) (puts_parts inner out (instruction.Open head.cursor.number) 0 [] h5) (placed_parts m h6) (λ σ x y z. ((x, y), (z.0, z.1))) in
       let turns : DraftedParts (λ σ y z. ((patched_parts σ o ≡ with_plain inner instruction.Turn y) × (patched_parts σ f ≡ fetched inner (σ out) head (patched_parts σ o)))
-          × (WritesStatements known inner (Loop level (σ out) (σ again) ∷ Rows inner context ∷ map (patched_block σ) enclosing) list (patched_parts σ f) (patched_parts σ c) × (z ≡ jumped inner (σ again) (patched_parts σ c)))) i j =
+      × (WritesStatements known inner (Loop level (σ out) (σ again) ∷ Rows inner context ∷ map (patched_block σ) enclosing) list (patched_parts σ f) (patched_parts σ c) × (z ≡ jumped inner (σ again) (patched_parts σ c)))) i j =
       four (plain_parts inner instruction.Turn h7) (fetched_parts inner out head h8) ss (plain_parts inner (instruction.Operation (op.Jump again)) h9) (λ σ x y z v. ((x, y), (z, v))) in
       let inside : DraftedParts (λ σ y z. (x : FunctionBuilder) (w : FunctionBuilder) → WritesCursors known (head.cursor ∷ []) x y → σ out ≡ at z → w ≡ with_plain inner (instruction.Exit inner) z
-          → inner ≡ next_context y → WritesForm known context (σ end) (map (patched_block σ) enclosing) (layers.For level head list) x w) l j =
+      → inner ≡ next_context y → WritesForm known context (σ end) (map (patched_block σ) enclosing) (layers.For level head list) x w) l j =
       two opens turns (λ σ x y p' w cs' left last number. for_written level head list cs' h1 number x.0.0 x.0.1 x.1.1 (y.0.0 ∙ ap (with_plain inner instruction.Turn) x.1.0) y.0.1 y.1.0 y.1.1 left last) in
       three (cursors_parts (cs [] a written.no_cursor)) (scoped_parts n h2 inside h10) (plain_parts inner (instruction.Exit inner) h11)
       (λ σ x s w. s.0 (patched_parts σ p) (patched_parts σ q) x s.1 w (h3 ∙ ap next_context h2 ∙ next-patched σ a))
@@ -102,7 +102,7 @@ module _ {known : Known} {context end : ℕ} (enclosing : List EnclosingBlock) w
       → DraftedParts (λ σ y z. (xs : List ResolvedBranch) (r : FunctionBuilder) → WritesBranches known context (map (patched_block σ) enclosing) (σ end) xs z r → WritesBranches known context (map (patched_block σ) enclosing) (σ end) (x ∷ xs) y r) p c
   branch_drafted {next} {x} {p} {t} {l} {u} {b} {j} {c} f h0 y h1 n m h2 ss h3 h4 =
       let inner : DraftedParts (λ σ y z. ((patched_parts σ u ≡ with_code (taken context (σ end) (op.JumpUnlessTrue (σ next)) y.code) y)
-          × WritesStatements known context (map (patched_block σ) enclosing) (out-ResolvedBranch x).statements (patched_parts σ u) (patched_parts σ b)) × (z ≡ jumped context (σ end) (patched_parts σ b))) l j =
+      × WritesStatements known context (map (patched_block σ) enclosing) (out-ResolvedBranch x).statements (patched_parts σ u) (patched_parts σ b)) × (z ≡ jumped context (σ end) (patched_parts σ b))) l j =
       three (puts_parts context end (instruction.Operation (op.JumpUnlessTrue next)) 1 [] h2) ss (plain_parts context (instruction.Operation (op.Jump end)) h3) (λ σ x y z. ((x, y), z)) in
       two (parts_alone y h1) (scoped_parts n m inner h4)
       (λ σ y s xs r bs. branch_written f h0 y.0 y.1 (s.1 ∙ ap at s.0.1 ∙ at-plain context (instruction.Operation (op.Jump (σ end))) (patched_parts σ b)) s.0.0.0 s.0.0.1 s.0.1 xs r bs)
@@ -114,7 +114,7 @@ module _ {known : Known} {context end : ℕ} (enclosing : List EnclosingBlock) w
       → DraftedParts (λ σ y z. (xs : List ResolvedBranch) (r : FunctionBuilder) → WritesComparisons known context (map (patched_block σ) enclosing) (σ end) xs z r → WritesComparisons known context (map (patched_block σ) enclosing) (σ end) (x ∷ xs) y r) p c
   comparison_drafted {next} {x} {k} {p} {i} {t} {j} {l} {u} {d} {b} {g} {c} f h0 hk h1 y h2 h3 n m h4 h5 ss h6 h7 =
       let inner : DraftedParts (λ σ y z. ((patched_parts σ u ≡ with_code (taken context (σ end) (op.JumpUnlessTrue (σ next)) y.code) y) × (patched_parts σ d ≡ with_code (taken context (σ end) op.Drop (patched_parts σ u).code) (patched_parts σ u)))
-          × (WritesStatements known context (map (patched_block σ) enclosing) (out-ResolvedBranch x).statements (patched_parts σ d) (patched_parts σ b) × (z ≡ with_code (applied context (σ end) (op.Jump (σ end)) 0 k (patched_parts σ b).code) (patched_parts σ b)))) l g =
+      × (WritesStatements known context (map (patched_block σ) enclosing) (out-ResolvedBranch x).statements (patched_parts σ d) (patched_parts σ b) × (z ≡ with_code (applied context (σ end) (op.Jump (σ end)) 0 k (patched_parts σ b).code) (patched_parts σ b)))) l g =
       four (puts_parts context end (instruction.Operation (op.JumpUnlessTrue next)) 1 [] h4) (puts_parts context end (instruction.Operation op.Drop) 1 [] h5) ss (puts_parts context end (instruction.Operation (op.Jump end)) 0 (k ∷ []) h6) (λ σ x y z v. ((x, y), (z, v))) in
       four (puts_parts context end (instruction.Operation op.Duplicate) 0 (k ∷ []) h1) (parts_alone y h2) (puts_parts context end (instruction.Operation op.Equal) 2 (B ∷ []) h3) (scoped_parts n m inner h7)
       (λ σ i y j s xs r bs. comparison_written f h0 hk i y.0 y.1 j (s.1 ∙ ap at s.0.1.1 ∙ here-applied context (σ end) (op.Jump (σ end)) 0 k (patched_parts σ b).code) s.0.0.0 s.0.0.1 s.0.1.0 s.0.1.1 xs r bs)
@@ -132,7 +132,7 @@ module _ {known : Known} {context end : ℕ} (enclosing : List EnclosingBlock) w
       let acts : DraftedParts (λ σ v z. (patched_parts σ x ≡ passed inner (σ start) y.handlers v) × WritesHandlers known inner y.handlers (patched_parts σ x) z) i f =
       two (passed_parts inner start y.handlers h7) hs (λ σ j h. (j, h)) in
       let inside : DraftedParts (λ σ v z. (w r s : FunctionBuilder) → Declares known context (σ end) y.declarations w.code s.code → s ≡ with_code s.code w → WritesCursors known y.cursors s v → inner ≡ next_context v → σ exit ≡ at z
-          → r ≡ with_plain inner (instruction.Exit inner) z → WritesForm known context (σ end) (map (patched_block σ) enclosing) (layers.Compound level block) w r) l g =
+      → r ≡ with_plain inner (instruction.Exit inner) z → WritesForm known context (σ end) (map (patched_block σ) enclosing) (layers.Compound level block) w r) l g =
       three (entered_parts context y.atomic exit ns h5) (scoped_parts m h6 acts h8) ss
       (λ σ enter h ss w r s ds' alone cs' number left last. compound_written level block left ds' alone cs' h2 number enter h.0.0 h.1 h.0.1 ss last) in
       four (parts_alone ds h1) (cursors_parts cs) (scoped_parts n h3 inside h9) (plain_parts inner (instruction.Exit inner) h10)
@@ -153,5 +153,5 @@ pub no_case_drafted : {context resume : ℕ} {p l t q : FunctionBuilder} → res
     → DraftedParts (λ σ y z. z ≡ with_code (takes context (suc (at y)) instruction.NoCase 0 y.code) y) p q
 no_case_drafted {context} {resume} {p} n m h e = one (scoped_parts n m (puts_parts context resume instruction.NoCase 0 [] h) e)
     (λ σ s.
-        let v = patched_parts σ p in
-        s.0 ∙ ap (λ k. with_code (takes context k instruction.NoCase 0 v.code) v) (s.1 ∙ ap at s.0 ∙ here-takes context (σ resume) instruction.NoCase 0 v.code))
+    let v = patched_parts σ p in
+    s.0 ∙ ap (λ k. with_code (takes context k instruction.NoCase 0 v.code) v) (s.1 ∙ ap at s.0 ∙ here-takes context (σ resume) instruction.NoCase 0 v.code))

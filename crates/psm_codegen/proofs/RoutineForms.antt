@@ -42,7 +42,7 @@ pub routine_written : {known : Known} {p a b : FunctionBuilder} {ds : List Decla
     → IfOk res (λ r. r.plans ≡ b.plans) → IfOk res (λ r. r.handlers.declared ≡ b.declared) → IfOk res (λ r. r.handlers.contexts ≡ map (patched_context (line_of b.code.labels)) b.contexts) → IfOk res (λ r. r.handlers.handlers ≡ b.handlers)
     → IfOk res (λ r. RoutineWritten known routine r)
 routine_written {known} {p} {a} {b} {ds} {i} routine body (Ok r) hd hp hb x hi he name kind parameters returns variables lines queries cursors plans declared contexts handlers =
-    let σ = line_of b.code.labels in
+    let σ : ℕ → ℕ = line_of b.code.labels in
     let stands : Respects σ a.code.labels = subst (λ ls. Respects σ ls) (ap (λ z. z.code.labels) he) (respects-labels b.code.labels) in
     let last : patched σ b.code ≡ plain 0 (last_instruction routine.returns) (patched σ a.code) =
     ap (λ z. patched σ z.code) he ∙ patched-plain σ 0 i a.code ∙ ap (λ z. plain 0 (patched_instruction σ z) (patched σ a.code)) hi ∙ ap (λ z. plain 0 z (patched σ a.code)) (last-patched σ routine.returns) in

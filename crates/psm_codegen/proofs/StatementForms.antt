@@ -183,9 +183,9 @@ for_written {known} {context} {end} {out} {again} {inner} {enclosing} {p} {a} {e
     h0 ∙ ap at h5 ∙ here-takes inner out (instruction.Open head.cursor.number) 0 e.code ∙ ap suc (ap at h4 ∙ here-plain context (instruction.Enter (next_context a)) a.code ∙ ap suc (cursors-at one)) in
     let n = next_context a in
     let enter : e ≡ block_entered context false (suc (at c)) (head.cursor.number ∷ []) a = h4 ∙ ap (λ z. block_entered context false z ns a) left ∙ ap (λ z. block_entered context false (suc (at c)) z a) h2 in
-    let open : o2 ≡ opened inner out head.cursor e = h51 ∙ ap (with_plain inner instruction.Turn) h5 in
+    let first : o2 ≡ opened inner out head.cursor e = h51 ∙ ap (with_plain inner instruction.Turn) h5 in
     let rows : f ≡ fetched n (suc (at c)) head (opened n (suc (at c)) head.cursor (block_entered context false (suc (at c)) (head.cursor.number ∷ []) a)) =
-    h6 ∙ ap (fetched inner out head) (open ∙ ap (opened inner out head.cursor) enter)
+    h6 ∙ ap (fetched inner out head) (first ∙ ap (opened inner out head.cursor) enter)
     ∙ ap (λ z. fetched z out head (opened z out head.cursor (block_entered context false (suc (at c)) (head.cursor.number ∷ []) a))) h3
     ∙ ap (λ z. fetched n z head (opened n z head.cursor (block_entered context false (suc (at c)) (head.cursor.number ∷ []) a))) left in
     subst (λ z. WritesStatement known context enclosing s p z)
