@@ -23,4 +23,4 @@ module _ {S A : Type 0} {labels_in : S → List (Option ℕ)} {patch : (ℕ → 
 
   pub none_left : (W : (ℕ → ℕ) → List A → S → S → Type 0) (G : (ℕ → ℕ) → S → S → Type 0) {w v : S} (items : List A) (i : ℕ) → length items ≤ i → Draft labels_in patch (Left W G (drop i items)) w v
       → ((σ : ℕ → ℕ) (q : S) → W σ [] q q) → Draft labels_in patch G w v
-  none_left W G {v = v} items i h a none = one a (λ σ before. before (patch σ v) (subst (λ ys. W σ ys (patch σ v) (patch σ v)) (sym (drop_all items i h)) (none σ (patch σ v))))
+  none_left W G {v = v} items i h a none = one a (λ σ before. before (patch σ v) (subst (λ ys. W σ ys (patch σ v) (patch σ v)) (sym (drop_all i items h)) (none σ (patch σ v))))
