@@ -7,7 +7,7 @@ use Rattle.psm_code.specs.Numbered.{with_instruction_at, with_resume_at}
 use Rattle.psm_codegen.specs.Labels.{instead, patched_line}
 use Rattle.psm_codegen.specs.Patching.{map_from, perhaps_patch, with_patched_instruction, with_patched_resume}
 
-inside_or : {A : Type 0} → Option A → A → A
+abbrev inside_or : {A : Type 0} → Option A → A → A
 inside_or None a = a
 inside_or (Some b) a = b
 
