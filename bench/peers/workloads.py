@@ -124,13 +124,14 @@ ROUTINES = (
         routines={
             "psm": "PROCEDURE fail () SIGNAL SQLSTATE '45000';",
             "mariadb hsqldb": "CREATE PROCEDURE fail () SIGNAL SQLSTATE '45000'",
-            "postgresql": "CREATE PROCEDURE fail () LANGUAGE plpgsql AS $$ BEGIN RAISE SQLSTATE '45000'; END $$;",
+            # A function, since a CALL that raises takes longer each time, which is not what is measured.
+            "postgresql": "CREATE FUNCTION fail () RETURNS void LANGUAGE plpgsql AS $$ BEGIN RAISE SQLSTATE '45000'; END $$;",
             "firebird": "CREATE EXCEPTION failed 'failed'^\nCREATE PROCEDURE fail AS BEGIN EXCEPTION failed; END",
         },
         body={
             "psm mariadb": handled("CALL fail();", "45000"),
             "hsqldb": handled("CALL fail();", "45000", " ATOMIC"),
-            "postgresql": "BEGIN CALL fail(); EXCEPTION WHEN SQLSTATE '45000' THEN s := s + 1; END;",
+            "postgresql": "BEGIN PERFORM fail(); EXCEPTION WHEN SQLSTATE '45000' THEN s := s + 1; END;",
             "firebird": "BEGIN EXECUTE PROCEDURE fail; WHEN EXCEPTION failed DO s = s + 1; END",
         },
         lacks={**NO_PROCEDURES, **NO_TABLE},
@@ -193,7 +194,7 @@ CHANGES = (
         columns=TOTALS, routines=PUT, summed="v",
         body={
             "psm": "CALL put(i - i / 97 * 97, i);",
-            "postgresql": "CALL put(MOD(i, 97), i); IF MOD(i, 1000) = 0 THEN COMMIT; END IF;",
+            "postgresql": "CALL put(MOD(i, 97), i); IF MOD(i, 100) = 0 THEN COMMIT; END IF;",
             "mariadb mariadb_memory hsqldb": "CALL put(MOD(i, 97), i);",
             "firebird": "EXECUTE PROCEDURE put (MOD(:i, 97), :i);",
         },
