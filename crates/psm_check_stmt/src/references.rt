@@ -142,7 +142,7 @@ fn table_rule_fault(
 
 // ---- a constraint
 
-// The columns of the constraint are of the table that refers, and the place is that of the first.
+// The columns of the constraint are of the referencing table, and the place is that of the first.
 fn reference_fault(
     alloc: Global,
     own: &Columns,
