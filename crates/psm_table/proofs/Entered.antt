@@ -157,13 +157,6 @@ put-some old new e put =
       there = ap (λ (ps : List (Pair (Unit {0}))). has_key (keys_of ps) e) put ∙ has-new pair old.pairs;
     }
 
-pub put-none : (old new : Mapped (Unit {0})) → new ≡ old → IsPut old new None
-put-none old new same = record {
-  grown = λ key h. ap (λ (m : Mapped (Unit {0})). has_key (keys_of m.pairs) key) same ∙ h;
-  one = omega (arith, ap (λ (m : Mapped (Unit {0})). length (keys_of m.pairs)) same);
-  there = tt;
-}
-
 -- a set that was prepared for an entry
 pub prepared-room : (columns key : List ℕ) (row : List Datum) (m : Mapped (Unit {0})) (o : Option (List Datum)) → IsPrepared columns key row m o → HasRoom m o
 prepared-room columns key row m None h = tt

@@ -1,5 +1,5 @@
 -- The number at the head of a run.
-use Rattle.std.proofs.Common.{◌≡◌, ℕ, zero, suc, ◌<◌, ◌≤◌, List, [], ◌∷◌, ◌++◌, length, get_or, set, drop, Bool, true, not, refl, ap, sym, ◌∙◌, arith, Some}
+use Rattle.std.proofs.Common.{◌≡◌, ℕ, zero, suc, ◌<◌, ◌≤◌, List, [], ◌∷◌, ◌++◌, length, set, drop, Bool, true, not, refl, ap, sym, ◌∙◌, arith, Some}
 use Rattle.std.proofs.Math.Dec.{eqb-suc-zero}
 use Rattle.std.specs.Prelude.{false, insert, nat_eq, if◌then◌else◌, slice_get, Option, None}
 use Rattle.std.specs.declared.cmp.Ordering.TheVariants.{Less, Equal, Greater}
@@ -104,9 +104,3 @@ module _ {V : Type 0} where
   pub head-append : (xs ys : List (Pair V)) → 0 < length xs → head_of (xs ++ ys) ≡ head_of xs
   head-append [] ys l = absurd (omega arith)
   head-append (x ∷ xs) ys l = refl
-
-  -- a pair gets another value
-  pub head-set : (pairs : List (Pair V)) (i : ℕ) (x : Pair V) (v : V) → x ≡ get_or pairs i x → head_of (set pairs i (record { key = x.key; value = v })) ≡ head_of pairs
-  head-set [] i x v e = refl
-  head-set (p ∷ ps) zero x v e = ap (λ (q : Pair V). leading_number q.key) e
-  head-set (p ∷ ps) (suc i) x v e = refl

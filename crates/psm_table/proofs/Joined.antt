@@ -1,9 +1,9 @@
 -- Pairs in runs: a run between those before it and those after it.
-use Rattle.std.proofs.Common.{◌≡◌, ℕ, zero, suc, ◌+◌, ◌-◌, ◌<◌, ◌≤◌, List, [], ◌∷◌, ◌++◌, length, get_or, set, take, drop, Bool, true, false, not, refl, ap, sym, subst, ◌∙◌, add-one, arith, inl, inr, Some, None}
+use Rattle.std.proofs.Common.{◌≡◌, ℕ, zero, suc, ◌+◌, ◌<◌, ◌≤◌, List, [], ◌∷◌, ◌++◌, length, get_or, set, take, drop, Bool, true, false, not, refl, ap, sym, subst, ◌∙◌, add-one, arith, inl, inr, Some, None}
 use Rattle.std.specs.Prelude.{All, cond, filter, insert, option_map, slice_get}
 use Rattle.std.proofs.lemmas.Bool.{cases_eq}
 use Rattle.std.proofs.lemmas.List.Elements.{All-nil, All-cons, All-append, All-drop, All-tail, All-take, All-head, filter-append}
-use Rattle.std.proofs.lemmas.List.{append-nil, append_assoc, get_or_default, length-append, length-map, length-set}
+use Rattle.std.proofs.lemmas.List.{append-nil, append_assoc, get_or_default, length-map, length-set}
 use Rattle.std.proofs.lemmas.List.Kept.{AllPairs-cons}
 use Rattle.std.specs.declared.cmp.Ordering.TheVariants.{Less, Greater}
 use Rattle.std.specs.Ordering.{is_lt, is_gt, is_eq}
@@ -14,11 +14,9 @@ use Rattle.psm_table.specs.Place.{IsAt, StandsAt}
 use Rattle.psm_table.specs.Runs.{joined, AreRunsBut, IsIn, IsRun, IsTurn}
 use Rattle.psm_table.specs.Key.{key_order}
 use Rattle.psm_table.specs.Map.{AreAscending, exchanged, pair_with, pairs_above, pairs_below, value_of, with_pair, with_value}
-use Rattle.psm_table.proofs.Filters.{filter-empty, filter-whole, none_some, slice_get_some, AllPairs-first, AllPairs-rest}
-use Rattle.psm_table.specs.Rows.{last_of}
+use Rattle.psm_table.proofs.Filters.{filter-empty, filter-whole, AllPairs-first, AllPairs-rest}
 use Rattle.psm_table.proofs.Entered.{get-set, get-set_other, take-get, take-less}
 use Rattle.psm_table.proofs.Pairs.{Rises, ascending-keys, keys-with_value, with_value-greater}
-use Rattle.psm_table.proofs.Walks.{last-cons}
 
 pub drop-past : {X : Type 0} (xs : List X) (i : ℕ) → length xs ≤ i → drop i xs ≡ []
 drop-past [] zero l = refl
@@ -157,9 +155,6 @@ module _ {V : Type 0} where
     pub above-in : pairs_above key (joined cs) ≡ pairs_above key (get_or cs i d) ++ after
     above-in = ap (pairs_above key) its ∙ above-lift key before (get_or cs i d) after h.low later
 
-    pub below-in : pairs_below key (joined cs) ≡ before ++ pairs_below key (get_or cs i d)
-    below-in = ap (pairs_below key) its ∙ below-lift key before (get_or cs i d) after h.low later
-
     pub with_value-in : (v : V) → joined (set cs i (with_value key v (get_or cs i d))) ≡ with_value key v (joined cs)
     with_value-in v =
         joined-set cs i (with_value key v (get_or cs i d)) h.inside
@@ -189,28 +184,16 @@ module _ {V : Type 0} where
   joined-cut (c ∷ cs) zero a b d l e = sym (append_assoc a b (joined cs)) ∙ ap (λ x. x ++ joined cs) (sym e)
   joined-cut (c ∷ cs) (suc i) a b d l e = ap (λ r. c ++ r) (joined-cut cs i a b d (omega arith) e)
 
--- the first and the last of two lists together
+-- the first of two lists together
 pub first-append : {X : Type 0} (xs ys : List X) → 0 < length xs → slice_get (xs ++ ys) 0 ≡ slice_get xs 0
 first-append [] ys l = absurd (omega arith)
 first-append (x ∷ xs) ys l = refl
 
-last-skip : {X : Type 0} (x : X) (ys : List X) → 0 < length ys → last_of (x ∷ ys) ≡ last_of ys
-last-skip x [] l = absurd (omega arith)
-last-skip x (y ∷ ys) l = last-cons x y ys
-
-pub last-append : {X : Type 0} (xs ys : List X) → 0 < length ys → last_of (xs ++ ys) ≡ last_of ys
-last-append [] ys l = refl
-last-append (x ∷ xs) ys l = last-skip x (xs ++ ys) (omega (arith, l, length-append xs ys)) ∙ last-append xs ys l
-
 module _ {V : Type 0} (runs : List (List (Pair V))) where
-  -- the first pair of the runs from one on, and the last of those up to one
+  -- the first pair of the runs from one on
   pub first-joined : (i : ℕ) (r : List (Pair V)) → All IsRun runs → i < length runs → r ≡ get_or runs i r → slice_get r 0 ≡ slice_get (joined (drop i runs)) 0
   first-joined i r fit l e =
       ap (λ x. slice_get x 0) e ∙ sym (first-append (get_or runs i r) (joined (drop (suc i) runs)) (fit i r l).some) ∙ ap (λ x. slice_get x 0) (sym (joined-drop runs i r l))
-
-  pub last-joined : (n i : ℕ) (r : List (Pair V)) → All IsRun runs → n ≡ suc i → i < length runs → r ≡ get_or runs i r → last_of r ≡ last_of (joined (take n runs))
-  last-joined n i r fit same l e =
-      ap last_of e ∙ sym (last-append (joined (take i runs)) (get_or runs i r) (fit i r l).some) ∙ ap last_of (sym (joined-take runs i r l)) ∙ ap (λ j. last_of (joined (take j runs))) (sym same)
 
   -- a run that was cut in two
   pub pairs_cut : (i : ℕ) (a b d : List (Pair V)) → i < length runs → d ≡ get_or runs i d → d ≡ a ++ b → joined (insert (set runs i a) (i + 1) b) ≡ joined runs
@@ -244,7 +227,7 @@ filter-shorter t (x ∷ xs) = shorter-first x (filter t xs) xs (t x) (filter-sho
 pub run_kept : {V : Type 0} (t : Pair V → Bool) (r was : List (Pair V)) → IsRun was → r ≡ filter t was → 0 < length r → IsRun r
 run_kept t r was h e l = record { some = l; room = omega (arith, h.room, filter-shorter t was, ap length e) }
 
--- the first of two lists' elements, where the first has one and where it has none, and the last
+-- the first of two lists' elements, where the first has one and where it has none
 first_there : {X : Type 0} (xs ys : List X) (x : X) → Some x ≡ slice_get xs 0 → Some x ≡ slice_get (xs ++ ys) 0
 first_there [] ys x e = cc
 first_there (y ∷ xs) ys x e = e
@@ -253,27 +236,13 @@ first_past : {X : Type 0} (xs ys : List X) → None ≡ slice_get xs 0 → slice
 first_past [] ys e = refl
 first_past (y ∷ xs) ys e = cc
 
-last_there : {X : Type 0} (xs ys : List X) (x : X) → Some x ≡ last_of ys → Some x ≡ last_of (xs ++ ys)
-last_there xs [] x e = cc
-last_there xs (y ∷ ys) x e = e ∙ sym (last-append xs (y ∷ ys) (omega arith))
-
-last_past : {X : Type 0} (xs ys : List X) → None ≡ last_of ys → last_of xs ≡ last_of (xs ++ ys)
-last_past xs [] e = ap last_of (sym (append-nil xs))
-last_past xs (y ∷ ys) e = absurd (none_some (last_of (y ∷ ys)) (sym e) (slice_get_some (y ∷ ys) (length (y ∷ ys) - 1) (omega arith)))
-
--- the pair after a key, or before it, in the run that the key belongs to or in the next one
+-- the pair after a key, in the run that the key belongs to or in the next one
 module _ {V : Type 0} (key : List Datum) (runs : List (List (Pair V))) (i : ℕ) (d : List (Pair V)) (h : IsIn key runs i) where
   pub after_there : (p : Pair V) → Some p ≡ slice_get (pairs_above key (get_or runs i d)) 0 → Some p ≡ slice_get (pairs_above key (joined runs)) 0
   after_there p e = first_there (pairs_above key (get_or runs i d)) (joined (drop (suc i) runs)) p e ∙ ap (λ l. slice_get l 0) (sym (above-in key runs i d h))
 
   pub after_past : None ≡ slice_get (pairs_above key (get_or runs i d)) 0 → slice_get (joined (drop (i + 1) runs)) 0 ≡ slice_get (pairs_above key (joined runs)) 0
   after_past e = rw add-one (first_past (pairs_above key (get_or runs i d)) (joined (drop (suc i) runs)) e ∙ ap (λ l. slice_get l 0) (sym (above-in key runs i d h)))
-
-  pub before_there : (p : Pair V) → Some p ≡ last_of (pairs_below key (get_or runs i d)) → Some p ≡ last_of (pairs_below key (joined runs))
-  before_there p e = last_there (joined (take i runs)) (pairs_below key (get_or runs i d)) p e ∙ ap last_of (sym (below-in key runs i d h))
-
-  pub before_past : None ≡ last_of (pairs_below key (get_or runs i d)) → last_of (joined (take i runs)) ≡ last_of (pairs_below key (joined runs))
-  before_past e = last_past (joined (take i runs)) (pairs_below key (get_or runs i d)) e ∙ ap last_of (sym (below-in key runs i d h))
 
 -- the first pair that passes, in the run in which they begin to, or in the next one
 module _ {V : Type 0} (t : Pair V → Bool) (runs : List (List (Pair V))) (i : ℕ) (d : List (Pair V)) (h : IsTurn t runs i) where

@@ -11,13 +11,11 @@ use Rattle.psm_table.specs.declared.map.Pair.{Pair}
 use Rattle.psm_table.specs.Held.{live_rows, row_of, the_row, HasItsKey}
 use Rattle.psm_table.specs.Key.{key_order, row_order, values_at}
 use Rattle.psm_table.specs.Map.{AreAscending, exchanged, pair_with, pairs_above, pairs_below, with_pair, with_value}
-use Rattle.psm_table.specs.Place.{ahead, following}
-use Rattle.psm_table.specs.Rows.{last_of, put, row_with, rows_above, rows_below, without}
+use Rattle.psm_table.specs.Place.{ahead}
+use Rattle.psm_table.specs.Rows.{put, row_with, rows_above, rows_below, without}
 use Rattle.psm_table.proofs.KeyLaws.{key_order-refl, key_order-total}
 use Rattle.psm_table.proofs.Filters.{equal_is, none_some, filter-whole, filter-empty, AllPairs-rest}
 use Rattle.psm_table.proofs.Pairs.{Rises, after_equal, after_greater, with_value-greater}
-use Rattle.psm_table.proofs.Walks.{last-append}
-use Rattle.std.proofs.lemmas.List.{append-nil}
 
 abbrev pub Row : Type 0
 Row = List Datum
@@ -225,13 +223,3 @@ keyed-with_pair columns row pairs h =
 -- a walk past a key without a row, and to a row
 pub flagged-ahead : (pairs : List Slot) (p : Slot) → p.value ≡ None → live_rows (ahead pairs (Some p)) ≡ live_rows (pairs_above p.key pairs)
 flagged-ahead pairs p e = ap (λ o. cons_option o (live_rows (pairs_above p.key pairs))) e
-
-pub flagged-following : (pairs : List Slot) (p : Slot) → p.value ≡ None → live_rows (following pairs (Some p)) ≡ live_rows (pairs_below p.key pairs)
-flagged-following pairs p e =
-    filter_map-append (λ (q : Slot). q.value) (pairs_below p.key pairs) (p ∷ [])
-    ∙ ap (λ o. live_rows (pairs_below p.key pairs) ++ cons_option o []) e ∙ append-nil (live_rows (pairs_below p.key pairs))
-
-pub live-following : (pairs : List Slot) (p : Slot) (row : Row) → p.value ≡ Some row → last_of (live_rows (following pairs (Some p))) ≡ Some row
-live-following pairs p row e =
-    ap last_of (filter_map-append (λ (q : Slot). q.value) (pairs_below p.key pairs) (p ∷ []) ∙ ap (λ o. live_rows (pairs_below p.key pairs) ++ cons_option o []) e)
-    ∙ last-append (live_rows (pairs_below p.key pairs)) row

@@ -80,26 +80,9 @@ module _ (def : TableDef) (values : List Datum) (filled : has_null values ≡ fa
 
 -- ---- in a walk
 
-pub columns_of_rows : (def : TableDef) (columns : List ℕ) (rows : List Row) → All (λ c. c < length def.columns) columns → All (IsRow def) rows → All (λ row. AreColumnsOf row columns) rows
-columns_of_rows def columns [] c h = All-nil (λ (row : Row). AreColumnsOf row columns)
-columns_of_rows def columns (row ∷ rows) c h =
-    All-cons (λ (row : Row). AreColumnsOf row columns) row rows
-    (subst (λ n. All (λ c. c < n) columns) (sym (All-head (IsRow def) row rows h).long) c)
-    (columns_of_rows def columns rows c (All-tail (IsRow def) row rows h))
-
-module _ (columns : List ℕ) (rows : List Row) (row : Row) (left : List Row) (is : rows ≡ row ∷ left) (exist : All (λ row. AreColumnsOf row columns) rows) where
-  here : All (λ row. AreColumnsOf row columns) (row ∷ left)
-  here = subst (All (λ row. AreColumnsOf row columns)) is exist
-
-  pub next_exists : AreColumnsOf row columns
-  next_exists = All-head (λ (row : Row). AreColumnsOf row columns) row left here
-
-  pub others_exist : All (λ row. AreColumnsOf row columns) left
-  others_exist = All-tail (λ (row : Row). AreColumnsOf row columns) row left here
-
-  -- a row that doesn't have the values is passed over
-  pub passed_over : (values : List Datum) → equal_values values (values_at columns row) ≡ false → has_values columns values rows ≡ has_values columns values left
-  passed_over values e = ap (has_values columns values) is ∙ ap (λ b. b || has_values columns values left) e
+-- a row that doesn't have the values is passed over
+pub passed_over : (columns : List ℕ) (values : List Datum) (rows : List Row) (row : Row) (left : List Row) → rows ≡ row ∷ left → equal_values values (values_at columns row) ≡ false → has_values columns values rows ≡ has_values columns values left
+passed_over columns values rows row left is e = ap (has_values columns values) is ∙ ap (λ b. b || has_values columns values left) e
 
 -- ---- by the entries of a list
 
@@ -111,35 +94,3 @@ entered_in def lists sets rows k columns m is at long h i d l =
     subst (λ es. HasEntry def (get_or rows i d) columns es) (get-entries sets k m [] inside ∙ ap (λ (n : Mapped (Unit {0})). keys_of n.pairs) (sym at))
     (subst (λ cs. HasEntry def (get_or rows i d) cs (get_or (entries_of sets) k [])) (get_or_from_slice_get lists k columns columns is)
     (all_zip-at (HasEntry def (get_or rows i d)) lists (entries_of sets) k columns [] (h i d l) (omega (arith, inside, length-entries sets))))
-
-module _ (columns : List ℕ) (values : List Datum) (pairs : List (Pair (Option Row))) where
-  -- whether the row of an entry has the values
-  abbrev pub has_by : List Datum → Bool
-  has_by entry = row_has columns values (row_of (drop (length columns) entry) pairs)
-
-  found_row : (key : List Datum) (o : Option Row) → row_of key pairs ≡ o → row_has columns values o ≡ true → has_values columns values (live_rows pairs) ≡ true
-  found_row key None is e = cc
-  found_row key (Some row) is e =
-      row-live (λ r. equal_values values (values_at columns r) ≡ true → has_values columns values (live_rows pairs) ≡ true) key pairs row is
-      (λ i d l f. list_any_at (λ r. equal_values values (values_at columns r)) (live_rows pairs) i d l f) e
-
-  pub found_by : (key : List Datum) → row_has columns values (row_of key pairs) ≡ true → has_values columns values (live_rows pairs) ≡ true
-  found_by key e = found_row key (row_of key pairs) refl e
-
-  -- where no entry with the values has a row with them, no row has them
-  module _ (def : TableDef) (up : AreAscending pairs) (keyed : All (HasItsKey def.key) pairs) (ascend : IsAscending def.key (live_rows pairs)) (entries : List (Pair (Unit {0})))
-      (entered : All (λ row. HasEntry def row columns (keys_of entries)) (live_rows pairs)) (silent : All (Silent values has_by) entries) where
-    others : (i : ℕ) (d : Row) → i < length (live_rows pairs) → (b : Bool) → equal_values values (values_at columns (get_or (live_rows pairs) i d)) ≡ b → b ≡ false
-    others i d l false e = refl
-    others i d l true e =
-        let it : Row = get_or (live_rows pairs) i d in
-        let t = equal_parts values (values_at columns it) e in
-        let p = pair_there entries (entry_of def columns it) (Silent values has_by) (entered i d l t.1) silent in
-        let back = leads_back def it pairs up keyed ascend i d l columns (p.0).key p.1 in
-        let width : length columns ≡ length values = sym (equal_length values (values_at columns it) t.2 ∙ length-values_at columns it) in
-        let prefix : prefix_order values (p.0).key ≡ Equal =
-        subst (λ n. key_order (take n (p.0).key) values ≡ Equal) width (equal_trans (take (length columns) (p.0).key) (values_at columns it) values back.0 (equal_sym values (values_at columns it) t.2)) in
-        sym e ∙ ap (row_has columns values) (sym back.1) ∙ p.2 (ap is_eq prefix)
-
-    pub none_found : has_values columns values (live_rows pairs) ≡ false
-    none_found = list_any_none (λ r. equal_values values (values_at columns r)) (live_rows pairs) (λ i d l. others i d l (equal_values values (values_at columns (get_or (live_rows pairs) i d))) refl)

@@ -1,9 +1,10 @@
 -- Entries of a UNIQUE list that tell of rows with given values: a walk over them, and the rows that they tell of.
 use Rattle.std.proofs.Common.{◌≡◌, ◌<◌, ℕ, zero, suc, List, [], ◌∷◌, Bool, true, false, not, ◌&&◌, ◌||◌, inl, inr, length, get_or, drop, take, refl, ap, sym, subst, ◌∙◌, arith, Some, None}
-use Rattle.std.specs.Prelude.{if◌then◌else◌, All, Option, cond, filter, find, slice_get}
+use Rattle.std.specs.Prelude.{if◌then◌else◌, All, IfNone, IfSome, Option, cond, filter, find, is_some, slice_get}
 use Rattle.std.proofs.lemmas.List.Elements.{All-cons, All-filter, All-head, All-nil, All-tail}
 use Rattle.std.proofs.lemmas.Bool.{cases_lt}
 use Rattle.std.proofs.lemmas.List.{get_or_past}
+use Rattle.std.proofs.lemmas.List.Folds.{list_any_at, list_any_none}
 use Rattle.std.proofs.lemmas.Option.{slice_get-get_or}
 use Rattle.std.specs.Ordering.{is_eq, is_gt, is_lt}
 use Rattle.std.specs.declared.cmp.Ordering.{Ordering}
@@ -15,6 +16,8 @@ use Rattle.psm_table.specs.declared.definition.TableDef.{TableDef}
 use Rattle.psm_table.specs.Held.{live_rows, row_of, HasItsKey}
 use Rattle.psm_table.specs.Index.{row_has}
 use Rattle.psm_table.specs.Key.{key_order, row_order, values_at, AreColumnsOf}
+use Rattle.psm_table.specs.declared.unique.Found.{Found}
+use Rattle.psm_table.specs.Keyed.{has_values}
 use Rattle.psm_table.specs.Map.{keys_of, pairs_above, pairs_from, prefix_order, AreAscending}
 use Rattle.psm_table.specs.Matching.{few, rows_with}
 use Rattle.psm_table.specs.Place.{ahead}
@@ -26,8 +29,7 @@ use Rattle.psm_table.proofs.Filters.{filter-empty, filtered, find_passes, equal_
 use Rattle.psm_table.proofs.KeyLaws.{key_order-refl}
 use Rattle.psm_table.proofs.Lives.{rows-find}
 use Rattle.psm_table.proofs.PrefixWalks.{silent-end}
-use Rattle.psm_table.proofs.Referring.{has_by}
-use Rattle.psm_table.proofs.Rivals.{equal_length, equal_parts, equal_sym, equal_trans, leads_back, pair_there, then_equal, Entry, Row, Slot}
+use Rattle.psm_table.proofs.Rivals.{equal_length, equal_parts, equal_sym, equal_trans, leads_back, pair_there, row-live, then_equal, Entry, Row, Slot}
 use Rattle.psm_table.proofs.Searches.{turned_less}
 use Rattle.psm_table.proofs.RowOrders.{length-values_at}
 use Rattle.psm_table.proofs.Walks.{ahead-filter, up-above, up-from}
@@ -133,12 +135,16 @@ module _ (columns : List ℕ) (values : List Datum) (pairs : List Slot) where
   pub passed-less : (entries : List Entry) (p : Entry) (next : Option Entry) → AreAscending entries → next ≡ slice_get (pairs_above p.key entries) 0 → length (ahead entries next) < length (ahead entries (Some p))
   passed-less entries p next up e = omega (arith, ap length (next_above entries p next up e))
 
+  -- whether the row of an entry has the values
+  abbrev has_by : List Datum → Bool
+  has_by entry = row_has columns values (row_of (drop (length columns) entry) pairs)
+
   -- behind the entries with the values none tells
   pub passed-end : (entries : List Entry) (from : Option Entry) (p : Entry) → Passed entries from (Some p) → is_eq (prefix_order values p.key) ≡ false → telling columns values pairs (ahead entries from) ≡ []
   passed-end entries from p w e =
-      let silent = silent-end values (has_by columns values pairs) entries p (All-head High p (pairs_above p.key entries) w.high) e in
+      let silent = silent-end values has_by entries p (All-head High p (pairs_above p.key entries) w.high) e in
       w.rest ∙ filter-empty (tells columns values pairs) (ahead entries (Some p))
-      (λ k d l. second_false (is_eq (prefix_order values (get_or (ahead entries (Some p)) k d).key)) (has_by columns values pairs (get_or (ahead entries (Some p)) k d).key) (silent k d l))
+      (λ k d l. second_false (is_eq (prefix_order values (get_or (ahead entries (Some p)) k d).key)) (has_by (get_or (ahead entries (Some p)) k d).key) (silent k d l))
 
   pub passed-found : (entries : List Entry) (from : Option Entry) (p : Entry) (row : Row) → Passed entries from (Some p) → is_eq (prefix_order values p.key) ≡ true
       → row_having columns values (row_of (drop (length columns) p.key) pairs) ≡ Some row → IsFirst columns values pairs entries (ahead entries from) p row
@@ -279,6 +285,23 @@ module _ (columns : List ℕ) (values : List Datum) (pairs : List Slot) (def : T
       filter-empty (λ row. equal_values values (values_at columns row)) (live_rows pairs)
       (λ i d l. false_if (equal_values values (values_at columns (get_or (live_rows pairs) i d)))
       (λ f. (told (λ q. ⊥) i d (subst (All (λ q. ⊥)) (sym e) (All-nil (λ (q : Entry). ⊥))) l f).1))
+
+  -- no row has the values where no entry tells, and one does where one tells
+  none_has : telling columns values pairs entries ≡ [] → has_values columns values (live_rows pairs) ≡ false
+  none_has e =
+      list_any_none (λ row. equal_values values (values_at columns row)) (live_rows pairs)
+      (λ i d l. false_if (equal_values values (values_at columns (get_or (live_rows pairs) i d)))
+      (λ f. (told (λ q. ⊥) i d (subst (All (λ q. ⊥)) (sym e) (All-nil (λ (q : Entry). ⊥))) l f).1))
+
+  one_has : (e : Entry) (row : Row) → row_of (drop (length columns) e.key) pairs ≡ Some row → equal_values values (values_at columns row) ≡ true → has_values columns values (live_rows pairs) ≡ true
+  one_has e row is has =
+      row-live (λ r. equal_values values (values_at columns r) ≡ true → has_values columns values (live_rows pairs) ≡ true) (drop (length columns) e.key) pairs row is
+      (λ i d l f. list_any_at (λ r. equal_values values (values_at columns r)) (live_rows pairs) i d l f) has
+
+  pub is_found : (from : Option Entry) (o : Option Found) → AreAscending entries → from ≡ slice_get (pairs_from values entries) 0 → IfNone o (telling columns values pairs (ahead entries from) ≡ [])
+      → IfSome o (λ f. IsFirst columns values pairs entries (ahead entries from) f.entry.now f.row.now) → is_some o ≡ has_values columns values (live_rows pairs)
+  is_found from None order is none first = sym (none_has (sym (all-ahead columns values pairs entries from order is) ∙ none))
+  is_found from (Some f) order is none first = sym (one_has f.entry.now f.row.now first.its first.has)
 
   -- the row of an entry is found by the key part
   of_entry : (e : Entry) (row : Row) → row_of (drop (length columns) e.key) pairs ≡ Some row → row_with def.key (drop (length columns) e.key) (live_rows pairs) ≡ Some row

@@ -1,7 +1,7 @@
--- Walks over pairs in ascending order of their keys, from one pair to the next or the one before.
-use Rattle.std.proofs.Common.{◌≡◌, length-append, suc, ◌-◌, ◌<◌, List, [], ◌∷◌, ◌++◌, length, get_or, Bool, true, false, not, refl, ap, sym, subst, ◌∙◌, arith, Some, None}
-use Rattle.std.specs.Prelude.{All, cond, Option, filter, slice_get}
-use Rattle.std.proofs.lemmas.List.Elements.{All-head, All-tail, All-filter}
+-- Walks over pairs in ascending order of their keys, from one pair to the next.
+use Rattle.std.proofs.Common.{◌≡◌, suc, ◌-◌, ◌<◌, List, [], ◌∷◌, length, get_or, Bool, true, false, not, refl, ap, sym, subst, ◌∙◌, arith}
+use Rattle.std.specs.Prelude.{All, cond, filter, slice_get}
+use Rattle.std.proofs.lemmas.List.Elements.{All-head, All-filter}
 use Rattle.std.specs.declared.cmp.Ordering.{Ordering}
 use Rattle.std.specs.declared.cmp.Ordering.TheVariants.{Less, Equal, Greater}
 use Rattle.std.specs.Ordering.{is_lt, is_gt}
@@ -9,12 +9,12 @@ use Rattle.psm_value.specs.declared.datum.Datum.{Datum}
 use Rattle.psm_table.specs.declared.map.Pair.{Pair}
 use Rattle.psm_table.specs.Cuts.{is_past}
 use Rattle.psm_table.specs.Key.{key_order}
-use Rattle.psm_table.specs.Map.{AreAscending, pairs_above, pairs_below, prefix_order}
-use Rattle.psm_table.specs.Place.{ahead, following}
+use Rattle.psm_table.specs.Map.{AreAscending, pairs_above, prefix_order}
+use Rattle.psm_table.specs.Place.{ahead}
 use Rattle.psm_table.specs.Rows.{last_of}
 use Rattle.psm_table.proofs.KeyLaws.{key_order-refl}
-use Rattle.psm_table.proofs.Filters.{filter-whole, filter-empty, greater_is, AllPairs-first, AllPairs-rest}
-use Rattle.psm_table.proofs.Searches.{turned_greater, less_before_less, greater_after_greater}
+use Rattle.psm_table.proofs.Filters.{filter-whole, greater_is, AllPairs-first, AllPairs-rest}
+use Rattle.psm_table.proofs.Searches.{turned_greater, greater_after_greater}
 use Rattle.psm_table.proofs.Prefixes.{prefix-greater, prefix-less}
 use Rattle.psm_table.proofs.Pairs.{Rises}
 
@@ -24,42 +24,25 @@ last-cons x y xs =
     let b : length (y ∷ xs) - 1 ≡ length xs = omega arith in
     ap (slice_get (x ∷ y ∷ xs)) a ∙ sym (ap (slice_get (y ∷ xs)) b)
 
-not_less : (o r : Ordering) → (o ≡ Less → r ≡ Less) → is_lt r ≡ false → is_lt o ≡ false
-not_less Less r h f = absurd (let g : is_lt Less ≡ false = ap is_lt (sym (h refl)) ∙ f in cc)
-not_less Equal r h f = refl
-not_less Greater r h f = refl
-
 not_less_from : (o r : Ordering) → (o ≡ Less → r ≡ Less) → not (is_lt r) ≡ true → not (is_lt o) ≡ true
 not_less_from Less r h f = absurd (let g : not (is_lt Less) ≡ true = ap (λ x. not (is_lt x)) (sym (h refl)) ∙ f in cc)
 not_less_from Equal r h f = refl
 not_less_from Greater r h f = refl
 
 module _ {V : Type 0} where
-  -- the pairs above the first are the others, and none is below it
+  -- the pairs above the first are the others
   pub above_first : (p : Pair V) (ps : List (Pair V)) → AreAscending (p ∷ ps) → pairs_above p.key (p ∷ ps) ≡ ps
   above_first p ps up =
       let self : key_order p.key p.key ≡ Equal = key_order-refl p.key in
       let t = filter-whole (λ (q : Pair V). is_gt (key_order q.key p.key)) ps (λ k d l. ap is_gt (turned_greater (get_or ps k d).key p.key (AllPairs-first Rises p ps up k d l))) in
       rw self t
 
-  pub below_first : (p : Pair V) (ps : List (Pair V)) → AreAscending (p ∷ ps) → pairs_below p.key (p ∷ ps) ≡ []
-  below_first p ps up =
-      let self : key_order p.key p.key ≡ Equal = key_order-refl p.key in
-      let t = filter-empty (λ (q : Pair V). is_lt (key_order q.key p.key)) ps (λ k d l. ap is_lt (turned_greater (get_or ps k d).key p.key (AllPairs-first Rises p ps up k d l))) in
-      rw self t
-
   above_later : (p x : Pair V) (ps : List (Pair V)) → key_order p.key x.key ≡ Less → pairs_above x.key (p ∷ ps) ≡ pairs_above x.key ps
   above_later p x ps e = rw e refl
 
-  below_later : (p x : Pair V) (ps : List (Pair V)) → key_order p.key x.key ≡ Less → pairs_below x.key (p ∷ ps) ≡ p ∷ pairs_below x.key ps
-  below_later p x ps e = rw e refl
-
-  -- Up: with a pair each greater one passes; Down: with a pair each smaller one
+  -- with a pair each greater one passes
   abbrev pub Up : (Pair V → Bool) → Type 0
   Up t = (p q : Pair V) → Rises p q → t p ≡ true → t q ≡ true
-
-  abbrev pub Down : (Pair V → Bool) → Type 0
-  Down t = (p q : Pair V) → Rises p q → t p ≡ false → t q ≡ false
 
   module _ (t : Pair V → Bool) where
     -- the first of the pairs that pass: those above it are the others
@@ -90,49 +73,9 @@ module _ {V : Type 0} where
   ahead-all [] up = refl
   ahead-all (p ∷ ps) up = ap (λ rest. p ∷ rest) (above_first p ps up)
 
-  -- the last pair, where there is one, is greater than p
-  abbrev IsLater : Pair V → Option (Pair V) → Type 0
-  IsLater p None = ⊥
-  IsLater p (Some x) = Rises p x
-
-  last-later : (p y : Pair V) (l : List (Pair V)) → All (λ q. Rises p q) (y ∷ l) → IsLater p (last_of (y ∷ l))
-  last-later p y [] h = All-head (λ q. Rises p q) y [] h
-  last-later p y (z ∷ l) h = subst (IsLater p) (sym (last-cons y z l)) (last-later p z l (All-tail (λ q. Rises p q) y (z ∷ l) h))
-
-  following-cons : (p : Pair V) (ps : List (Pair V)) (o : Option (Pair V)) → IsLater p o → following (p ∷ ps) o ≡ p ∷ following ps o
-  following-cons p ps None later = absurd later
-  following-cons p ps (Some x) later = ap (λ low. low ++ x ∷ []) (below_later p x ps later)
-
-  module _ (t : Pair V → Bool) where
-    -- the pairs l that pass after p, which passes too
-    down_list : (p : Pair V) (ps l : List (Pair V)) → AreAscending (p ∷ ps) → All (λ q. Rises p q) l → following ps (last_of l) ≡ l → following (p ∷ ps) (last_of (p ∷ l)) ≡ p ∷ l
-    down_list p ps [] up later h = ap (λ low. low ++ p ∷ []) (below_first p ps up)
-    down_list p ps (y ∷ l) up later h =
-        ap (following (p ∷ ps)) (last-cons p y l) ∙ following-cons p ps (last_of (y ∷ l)) (last-later p y l later) ∙ ap (λ rest. p ∷ rest) h
-
-    down_first : (p : Pair V) (ps : List (Pair V)) (b : Bool) → Down t → AreAscending (p ∷ ps) → t p ≡ b → following ps (last_of (filter t ps)) ≡ filter t ps
-        → following (p ∷ ps) (last_of (cond b (p ∷ filter t ps) (filter t ps))) ≡ cond b (p ∷ filter t ps) (filter t ps)
-    down_first p ps true closed up e h = down_list p ps (filter t ps) up (All-filter t (λ q. Rises p q) ps (AllPairs-first Rises p ps up)) h
-    down_first p ps false closed up e h =
-        let none : filter t ps ≡ [] = filter-empty t ps (λ k d l. closed p (get_or ps k d) (AllPairs-first Rises p ps up k d l) e) in
-        subst (λ l. following (p ∷ ps) (last_of l) ≡ l) (sym none) refl
-
-    -- the last pair that passes and those before it are all that pass
-    pub following-filter : (pairs : List (Pair V)) → Down t → AreAscending pairs → following pairs (last_of (filter t pairs)) ≡ filter t pairs
-    following-filter [] closed up = refl
-    following-filter (p ∷ ps) closed up = down_first p ps (t p) closed up refl (following-filter ps closed (AllPairs-rest Rises p ps up))
-
-  pub following-all : (pairs : List (Pair V)) → AreAscending pairs → following pairs (last_of pairs) ≡ pairs
-  following-all pairs up =
-      let whole : filter (λ (p : Pair V). true) pairs ≡ pairs = filter-whole (λ (p : Pair V). true) pairs (λ k d l. refl) in
-      ap (λ l. following pairs (last_of l)) (sym whole) ∙ following-filter (λ (p : Pair V). true) pairs (λ p q l e. cc) up ∙ whole
-
-  -- the pairs above and below a key, and those from values on
+  -- the pairs above a key, and those from values on
   pub up-above : (key : List Datum) → Up (λ p. is_gt (key_order p.key key))
   up-above key p q r e = ap is_gt (greater_after_greater p.key q.key key r (greater_is (key_order p.key key) e))
-
-  pub down-below : (key : List Datum) → Down (λ p. is_lt (key_order p.key key))
-  down-below key p q r e = not_less (key_order q.key key) (key_order p.key key) (λ l. less_before_less p.key q.key key r l) e
 
   pub up-from : (values : List Datum) → Up (λ p. not (is_lt (prefix_order values p.key)))
   up-from values p q r e = not_less_from (prefix_order values q.key) (prefix_order values p.key) (λ l. prefix-less values p.key q.key r l) e
@@ -143,11 +86,3 @@ module _ {V : Type 0} where
 
 pub next_less : {X : Type 0} (xs ys : List X) (x : X) → xs ≡ ys → length xs < length (x ∷ ys)
 next_less xs ys x e = omega (arith, ap length e)
-
-pub last_less : {X : Type 0} (xs ys : List X) (x : X) → xs ≡ ys → length xs < length (ys ++ x ∷ [])
-last_less xs ys x e = omega (arith, ap length e, length-append ys (x ∷ []))
-
-pub last-append : {X : Type 0} (xs : List X) (x : X) → last_of (xs ++ x ∷ []) ≡ Some x
-last-append [] x = refl
-last-append (y ∷ []) x = refl
-last-append (y ∷ z ∷ xs) x = last-cons y z (xs ++ x ∷ []) ∙ last-append (z ∷ xs) x

@@ -50,17 +50,7 @@ module _ {V : Type 0} where
   pairs_past None pairs = pairs
   pairs_past (Some probe) pairs = pairs_above (probe_key probe) pairs
 
-  -- the pairs before a key; without a key all
-  abbrev pub pairs_short_of : Option Probe → List (Pair V) → List (Pair V)
-  pairs_short_of None pairs = pairs
-  pairs_short_of (Some probe) pairs = pairs_below (probe_key probe) pairs
-
   -- a pair and those after it
   abbrev pub ahead : List (Pair V) → Option (Pair V) → List (Pair V)
   ahead pairs None = []
   ahead pairs (Some p) = p ∷ pairs_above p.key pairs
-
-  -- a pair and those before it
-  abbrev pub following : List (Pair V) → Option (Pair V) → List (Pair V)
-  following pairs None = []
-  following pairs (Some p) = pairs_below p.key pairs ++ p ∷ []

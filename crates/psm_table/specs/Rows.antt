@@ -38,8 +38,3 @@ row_after columns (Some key) rows = slice_get (rows_above columns key rows) 0
 -- the last element of a list
 abbrev pub last_of : {X : Type 0} → List X → Option X
 last_of xs = slice_get xs (length xs - 1)
-
--- the last row with a smaller key; without a key the last row
-abbrev pub row_before : List ℕ → Option (List Datum) → List (List Datum) → Option (List Datum)
-row_before columns None rows = last_of rows
-row_before columns (Some key) rows = last_of (rows_below columns key rows)

@@ -3,18 +3,17 @@ ghost use Rattle.std.specs.Prelude.{◌≡◌, [], All, Bool, true, is_some, fil
 ghost use Rattle.std.specs.Option.{option_copied, ForSome};
 ghost use Rattle.psm_table.specs.Held.{live_rows, row_of};
 ghost use Rattle.psm_table.specs.Key.{values_at, AreColumnsOf};
-ghost use Rattle.psm_table.specs.Map.{value_of, AreAscending, pairs_from, pairs_above, pairs_below, with_pair, with_value};
-ghost use Rattle.psm_table.specs.Place.{ahead, following, pairs_past, pairs_short_of, probe_key, FitsProbe, StandsAt};
+ghost use Rattle.psm_table.specs.Map.{value_of, AreAscending, pairs_from, pairs_above, with_pair, with_value};
+ghost use Rattle.psm_table.specs.Place.{ahead, pairs_past, probe_key, FitsProbe, StandsAt};
 ghost use Rattle.psm_value.specs.declared.datum.Datum.{Datum};
 ghost use Rattle.psm_table.specs.declared.map.Pair.{Pair};
-ghost use Rattle.psm_table.specs.Rows.{last_of};
 ghost use Rattle.psm_table.specs.Runs.{joined, IsRun};
 
 use crate::key::Key;
 use crate::probe::Probe;
 use crate::row::Row;
 use crate::run::Run;
-use crate::runs::{first_from, last_before, locate, locate_past, put, retain_at};
+use crate::runs::{first_from, locate, locate_past, put, retain_at};
 use std::alloc::{AllocError, Global};
 use std::marker::Model;
 
@@ -125,23 +124,6 @@ impl<V: Drop> OrderedMap<V> {
         }
     }
 
-    /// The last pair with a smaller key.
-    pub(crate) fn before(&self, probe: Probe<'_>) -> Option<&Pair<V>>
-        requires { FitsProbe probe }
-        ensures pair { option_copied result ≡ last_of (pairs_below (probe_key probe.entry) self.now.pairs) }
-        ensures ordered { AreAscending self.now.pairs }
-    {
-        let runs = self.runs.as_slice();
-        if runs.is_empty() {
-            return None;
-        }
-        let at = locate(runs, probe);
-        match runs[at].before(probe) {
-            Some(pair) => Some(pair),
-            None => last_before(runs, at),
-        }
-    }
-
     /// Lends the runs.
     pub(crate) fn runs(&self) -> &[Run<V>]
         ensures pairs { joined result.now ≡ self.now.pairs }
@@ -157,14 +139,6 @@ impl<V: Drop> OrderedMap<V> {
         ensures ordered { AreAscending self.now.pairs }
     {
         first_from(self.runs.as_slice(), 0)
-    }
-
-    /// The last pair.
-    pub(crate) fn last(&self) -> Option<&Pair<V>>
-        ensures pair { option_copied result ≡ last_of self.now.pairs }
-        ensures ordered { AreAscending self.now.pairs }
-    {
-        last_before(self.runs.as_slice(), self.runs.len())
     }
 
     /// The first pair whose key begins with what is looked for, or with greater values.
@@ -356,17 +330,6 @@ impl OrderedMap<Option<Row>> {
         }
     }
 
-    /// The row before a key, or the last.
-    pub(crate) fn row_before(&self, probe: Option<Probe<'_>>) -> Option<&Row>
-        requires { ForSome probe FitsProbe }
-        ensures { option_copied result ≡ last_of (live_rows (pairs_short_of probe.entry self.now.pairs)) }
-    {
-        match probe {
-            Some(probe) => self.row_following(self.before(probe)),
-            None => self.row_following(self.last()),
-        }
-    }
-
     /// The first row from a pair on.
     fn row_ahead<'a>(&'a self, pair: Option<&'a Pair<Option<Row>>>) -> Option<&'a Row>
         ensures { option_copied result ≡ slice_get (live_rows (ahead self.now.pairs (option_copied pair.entry))) 0 }
@@ -376,20 +339,6 @@ impl OrderedMap<Option<Row>> {
             match &pair.value {
                 Some(row) => return Some(row),
                 None => next = self.after(Probe::Of(pair.key.values())),
-            }
-        }
-        None
-    }
-
-    /// The last row up to a pair.
-    fn row_following<'a>(&'a self, pair: Option<&'a Pair<Option<Row>>>) -> Option<&'a Row>
-        ensures { option_copied result ≡ last_of (live_rows (following self.now.pairs (option_copied pair.entry))) }
-    {
-        let mut next = pair;
-        while let Some(pair) = next {
-            match &pair.value {
-                Some(row) => return Some(row),
-                None => next = self.before(Probe::Of(pair.key.values())),
             }
         }
         None

@@ -1,5 +1,5 @@
 //! Keys that are looked for, lent from a row or a list of values.
-ghost use Rattle.std.specs.Prelude.{◌≡◌, ◌<◌, ◌++◌, ◌∷◌, [], length, slice_get, slice_index_or};
+ghost use Rattle.std.specs.Prelude.{◌≡◌, ◌<◌, ◌∷◌, [], length, slice_get, slice_index_or};
 ghost use Rattle.std.specs.Option.{option_copied};
 ghost use Rattle.psm_value.specs.declared.datum.Datum.TheVariants.{Null};
 ghost use Rattle.psm_num.specs.Order.{order};

@@ -38,57 +38,8 @@ pub(crate) fn list_of(lists: &[List<u32>], columns: &[u32]) -> Option<usize>
     None
 }
 
-/// Whether one of the rows has the values in the columns of a list, by the entries of the list. It takes no memory.
-pub(crate) fn has_entry_with(
-    def: &TableDef,
-    columns: &[u32],
-    rows: &OrderedMap<Option<Row>>,
-    entries: &OrderedMap<()>,
-    values: &[Datum],
-) -> bool
-    requires filled { has_null values.now ≡ false }
-    requires exist { All (λ row. AreColumnsOf row columns.now) (live_rows rows.now.pairs) }
-    requires order { AreAscending rows.now.pairs }
-    requires at_keys { All (HasItsKey def.now.key) rows.now.pairs }
-    requires ascend { IsAscending def.now.key (live_rows rows.now.pairs) }
-    requires entered { All (λ row. HasEntry def.now row columns.now (keys_of entries.now.pairs)) (live_rows rows.now.pairs) }
-    ensures { result ≡ has_values columns.now values.now (live_rows rows.now.pairs) }
-{
-    let probe = Probe::Of(values);
-    let mut next = entries.from(probe);
-    'walk: while let Some(entry) = next {
-        let found = entry.key.values();
-        if !order_of_prefix(found, probe).is_eq() {
-            return false;
-        }
-        if has_row_of(rows, key_part(found, columns.len()), columns, values) {
-            return true;
-        }
-        next = entries.after(Probe::Of(found));
-    }
-    false
-}
-
-/// Whether the key has a row, which has the values in the columns.
-fn has_row_of(
-    rows: &OrderedMap<Option<Row>>,
-    key: &[Datum],
-    columns: &[u32],
-    values: &[Datum],
-) -> bool
-    requires filled { has_null values.now ≡ false }
-    requires exist { All (λ row. AreColumnsOf row columns.now) (live_rows rows.now.pairs) }
-    ensures { result ≡ row_has columns.now values.now (row_of key.now rows.now.pairs) }
-{
-    match rows.row_at(Probe::Of(key)) {
-        Some(row) => has_in(row.values(), columns, values),
-        None => false,
-    }
-}
-
 /// Whether one of the rows of a walk has the values in the columns. It takes no memory.
 pub(crate) fn has_row_with(mut rows: RowsLeft<'_>, columns: &[u32], values: &[Datum]) -> bool
-    requires columns { All (λ row. AreColumnsOf row columns.now) rows }
     requires filled { has_null values.now ≡ false }
     ensures { result ≡ has_values columns.now values.now rows.entry }
 {

@@ -7,11 +7,10 @@ ghost use Rattle.std.specs.Ordering.{is_gt};
 ghost use Rattle.psm_table.specs.Cuts.{is_past};
 ghost use Rattle.psm_table.specs.Held.{row_of};
 ghost use Rattle.psm_table.specs.Key.{key_order, leading_number, values_at, AreColumnsOf};
-ghost use Rattle.psm_table.specs.Map.{value_of, pairs_from, pairs_above, pairs_below, with_pair, with_value, AreAscending};
+ghost use Rattle.psm_table.specs.Map.{value_of, pairs_from, pairs_above, with_pair, with_value, AreAscending};
 ghost use Rattle.psm_table.specs.Place.{probe_key, FitsProbe, IsAt, IsGap};
 ghost use Rattle.psm_value.specs.declared.datum.Datum.{Datum};
 ghost use Rattle.psm_table.specs.declared.map.Pair.{Pair};
-ghost use Rattle.psm_table.specs.Rows.{last_of};
 ghost use Rattle.psm_table.specs.Runs.{begins, head_of, most_pairs, IsRun};
 
 use crate::key::Key;
@@ -117,18 +116,6 @@ impl<V: Drop> Run<V> {
         }
     }
 
-    /// The last pair with a smaller key.
-    pub(crate) fn before(&self, probe: Probe<'_>) -> Option<&Pair<V>>
-        requires { FitsProbe probe }
-        ensures { option_copied result ≡ last_of (pairs_below (probe_key probe.entry) self.now) }
-    {
-        let smaller = match self.find(probe) {
-            Ok(at) => at,
-            Err(at) => at,
-        };
-        self.pairs[..smaller].last()
-    }
-
     /// Lends the pairs.
     pub(crate) fn pairs(&self) -> &[Pair<V>]
         ensures value { result.now ≡ self.now }
@@ -142,13 +129,6 @@ impl<V: Drop> Run<V> {
         ensures { option_copied result ≡ slice_get self.now 0 }
     {
         self.pairs.first()
-    }
-
-    /// The last pair.
-    pub(crate) fn last(&self) -> Option<&Pair<V>>
-        ensures { option_copied result ≡ last_of self.now }
-    {
-        self.pairs.last()
     }
 
     /// Whether the first pair has a greater key. Where the numbers differ with which both begin, these decide.

@@ -6,7 +6,6 @@ ghost use Rattle.psm_table.specs.Cuts.{is_past};
 ghost use Rattle.psm_table.specs.Map.{with_pair, AreAscending};
 ghost use Rattle.psm_table.specs.Place.{probe_key, FitsProbe};
 ghost use Rattle.psm_table.specs.declared.map.Pair.{Pair};
-ghost use Rattle.psm_table.specs.Rows.{last_of};
 ghost use Rattle.psm_table.specs.Runs.{joined, most_pairs, AreRunsBut, IsIn, IsRun, IsTurn};
 
 use crate::key::Key;
@@ -67,15 +66,6 @@ pub(crate) fn first_from<V: Drop>(runs: &[Run<V>], at: usize) -> Option<&Pair<V>
     } else {
         None
     }
-}
-
-/// The last pair of the runs before a place.
-pub(crate) fn last_before<V: Drop>(runs: &[Run<V>], at: usize) -> Option<&Pair<V>>
-    requires place { at ≤ length runs.now }
-    requires runs { All IsRun runs.now }
-    ensures { option_copied result ≡ last_of (joined (take at runs.now)) }
-{
-    if at == 0 { None } else { runs[at - 1].last() }
 }
 
 /// Puts a pair in, in the place of that of its key if there is one. A run that is full then is cut in two, for which

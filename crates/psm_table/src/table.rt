@@ -7,7 +7,7 @@ ghost use Rattle.psm_table.specs.Key.{values_at};
 ghost use Rattle.psm_table.specs.Keyed.{has_values};
 ghost use Rattle.psm_table.specs.Matching.{few, matched, rows_with};
 ghost use Rattle.psm_table.specs.Queries.{in_walk};
-ghost use Rattle.psm_table.specs.Rows.{row_after, row_before};
+ghost use Rattle.psm_table.specs.Rows.{row_after};
 ghost use Rattle.psm_table.specs.State.{has_key, IsTidy, Inserts, Changes, KeepsRow, StillKeeps};
 ghost use Rattle.psm_table.specs.Table.{IsTable, empty_table, keyed, most_rows, namesake, with_row, without_row};
 ghost use Rattle.psm_table.specs.Unique.{clashes, has_null};
@@ -19,10 +19,10 @@ use crate::index::{enter, has_rival, settle_entries};
 use crate::key::Key;
 use crate::map::{HasRow, OrderedMap};
 use crate::probe::Probe;
-use crate::referred::{begins, has_entry_with, has_row_with, list_of};
+use crate::referred::{begins, has_row_with, list_of};
 use crate::row::Row;
 use crate::run::insert_reserved;
-use crate::unique::{Matching, look_up};
+use crate::unique::{Matching, has_entry_with, look_up};
 use crate::walk::RowsLeft;
 use psm_list::List;
 use psm_value::{Datum, Steps};
@@ -314,42 +314,6 @@ impl Table {
         }
     }
 
-    /// The last row with a smaller key; without a key the last row.
-    pub fn prev_before(&self, key: Option<&Key>) -> Option<&Row>
-        requires { ForSome key (λ k. IsKey self.now.contents.def k.now) }
-        ensures row { option_copied result ≡ row_before self.now.contents.def.key (option_copied key.entry) self.now.contents.rows }
-        ensures fits { IfSome result (λ row. IsRow self.now.contents.def row.now) }
-    {
-        match key {
-            Some(key) => self.rows.row_before(Some(Probe::Of(key.values()))),
-            None => self.rows.row_before(None),
-        }
-    }
-
-    /// The first row whose key is greater than that of a row, which need not be the table's. It takes no memory.
-    pub fn row_following(&self, row: &Row) -> Option<&Row>
-        requires { HasColumns self.now.contents.def row.now }
-        ensures row { option_copied result ≡ row_after self.now.contents.def.key (Some (values_at self.now.contents.def.key row.now)) self.now.contents.rows }
-        ensures fits { IfSome result (λ row. IsRow self.now.contents.def row.now) }
-    {
-        self.rows.row_after(Some(Probe::In {
-            columns: self.def.key.items(),
-            row: row.values(),
-        }))
-    }
-
-    /// The last row whose key is smaller than that of a row, which need not be the table's. It takes no memory.
-    pub fn row_before_row(&self, row: &Row) -> Option<&Row>
-        requires { HasColumns self.now.contents.def row.now }
-        ensures row { option_copied result ≡ row_before self.now.contents.def.key (Some (values_at self.now.contents.def.key row.now)) self.now.contents.rows }
-        ensures fits { IfSome result (λ row. IsRow self.now.contents.def row.now) }
-    {
-        self.rows.row_before(Some(Probe::In {
-            columns: self.def.key.items(),
-            row: row.values(),
-        }))
-    }
-
     /// A walk over the rows in ascending order of their keys; downward, in descending order. It goes on without a search.
     pub fn rows(&self, downward: bool) -> RowsLeft<'_>
         ensures rows { result ≡ in_walk downward self.now.contents.rows }
@@ -359,7 +323,8 @@ impl Table {
     }
 
     /// A walk over the rows between two cuts, in ascending order of their keys; downward, in descending order. Where a cut lacks,
-    /// the walk begins or ends with the table. It takes two searches, no memory, and goes on without a search.
+    /// the walk begins or ends with the table. It takes two searches and a third within one run, no memory, and goes on without a
+    /// search.
     pub fn rows_between(
         &self,
         low: Option<Cut<'_>>,
@@ -384,9 +349,8 @@ impl Table {
 
     /// Whether a row has the values in the columns (ISO/IEC 9075:1992, 11.8). By the columns of the key that is one search, by
     /// those with which the key begins two, by those of a UNIQUE list or an index one for each row with the values that the table
-    /// keeps, and else a walk over the rows. It takes no memory.
+    /// keeps, and else a walk over the rows. A column that there isn't counts as null. It takes no memory.
     pub fn has(&self, columns: &[u32], values: &[Datum]) -> bool
-        requires columns { All (λ c. c < length self.now.contents.def.columns) columns.now }
         requires filled { has_null values.now ≡ false }
         ensures { result ≡ has_values columns.now values.now self.now.contents.rows }
     {

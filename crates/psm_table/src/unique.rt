@@ -3,6 +3,7 @@ ghost use Rattle.std.specs.Prelude.{◌≡◌, [], length, not, true, false, All
 ghost use Rattle.std.specs.Ordering.{is_lt};
 ghost use Rattle.std.specs.Option.{option_copied};
 ghost use Rattle.psm_table.specs.Held.{live_rows, row_of, HasItsKey};
+ghost use Rattle.psm_table.specs.Keyed.{has_values};
 ghost use Rattle.psm_table.specs.Map.{keys_of, prefix_order, AreAscending};
 ghost use Rattle.psm_table.specs.Matching.{few, matched, rows_with};
 ghost use Rattle.psm_table.specs.Place.{ahead};
@@ -61,6 +62,26 @@ pub(crate) fn look_up<'a>(
         Some(_) => Matching::Several,
         None => Matching::One(first.row),
     }
+}
+
+/// Whether one of the rows has the values in the columns of a list, by the entries of the list. It takes no memory.
+#[tactic(auto, using(crate::proofs::Tellings::is_found))]
+pub(crate) fn has_entry_with(
+    def: &TableDef,
+    columns: &[u32],
+    rows: &OrderedMap<Option<Row>>,
+    entries: &OrderedMap<()>,
+    values: &[Datum],
+) -> bool
+    requires filled { has_null values.now ≡ false }
+    requires order { AreAscending rows.now.pairs }
+    requires at_keys { All (HasItsKey def.now.key) rows.now.pairs }
+    requires ascend { IsAscending def.now.key (live_rows rows.now.pairs) }
+    requires entered { All (λ row. HasEntry def.now row columns.now (keys_of entries.now.pairs)) (live_rows rows.now.pairs) }
+    ensures { result ≡ has_values columns.now values.now (live_rows rows.now.pairs) }
+{
+    let from = entries.from(Probe::Of(values));
+    first_found(columns, rows, entries, from, values).is_some()
 }
 
 /// The first entry from one on that begins with the values and whose row has them. Those from this one on begin with no smaller
