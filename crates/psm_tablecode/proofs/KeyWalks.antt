@@ -20,15 +20,17 @@ use Rattle.psm_table.specs.Table.{Contents}
 use Rattle.psm_table.specs.Unique.{equal_values}
 use Rattle.psm_table.proofs.Filters.{AllPairs-rest, filter-empty}
 use Rattle.psm_table.proofs.Undo.{after_equal}
-use Rattle.psm_tablecode.specs.Asked.{columns_in, few_or, key_asked, rows_at, rows_from, rows_of, unique_asked, walk_by, walk_for}
+use Rattle.psm_tablecode.specs.Asked.{columns_in, few_or, key_asked, rows_at, rows_from, rows_of, unique_asked, walk_asked, walk_by, walk_for}
 use Rattle.psm_tablecode.specs.Bounds.{bounds_asked, bounds_of, rows_within, Bounds}
 use Rattle.psm_tablecode.specs.Codes.{over}
 use Rattle.psm_tablecode.specs.Edges.{lies_within, rows_between}
+use Rattle.psm_tablecode.specs.Folding.{folded_test}
 use Rattle.psm_tablecode.specs.Tests.{are_quiet}
 use Rattle.psm_tablecode.specs.declared.walking.Edge.{Edge}
 use Rattle.psm_tablecode.specs.declared.walking.Unique.{Unique}
 use Rattle.psm_tablecode.specs.declared.walking.Walk.{Walk}
 use Rattle.psm_tablecode.proofs.EdgeLaws.{rows_all, rows_among}
+use Rattle.psm_tablecode.proofs.FoldLaws.{tests_same}
 use Rattle.psm_tablecode.proofs.Ranges.{asked_by, walked-where, walked_within}
 use Rattle.psm_tablecode.proofs.Stepped.{filter-reverse}
 use Rattle.psm_tablecode.proofs.Sought.{asked_only, asked_quiet}
@@ -95,31 +97,34 @@ module _ {A : Type 0} (t : Contents) (vars : List Datum) (test : Option (List Li
   for_key downward lines (Some key) e =
       walked-key t.def.key key (test_of (over vars) (Some lines)) take (λ row. asked_quiet row vars t.def.key lines key e) (λ row. asked_only row vars t.def.key lines key e) downward t.rows up
 
-  for_test : (downward : Bool) (o : Option (List Line)) → walked (test_of (over vars) o) take (rows_of t (walk_for t downward vars o)) ≡ walked (test_of (over vars) o) take (in_walk downward t.rows)
+  for_test : (downward : Bool) (o : Option (List Line)) → walked (test_of (over vars) o) take (rows_of t (walk_asked t.def downward vars o)) ≡ walked (test_of (over vars) o) take (in_walk downward t.rows)
   for_test downward None = ap (λ rows. walked (test_of (over vars) None) take (in_walk downward rows)) (rows_all t.def.key t.rows)
   for_test downward (Some lines) = for_key downward lines (key_asked t.def.key vars (Some lines)) refl
 
   pub walked_for : (downward : Bool) → walked (test_of (over vars) test) take (rows_of t (walk_for t downward vars test)) ≡ walked (test_of (over vars) test) take (in_walk downward t.rows)
-  walked_for downward = for_test downward test
+  walked_for downward =
+      let same = tests_same vars test in
+      sym (ap (λ (f : List Datum → Result Truth SqlState). walked f take (rows_of t (walk_for t downward vars test))) same)
+      ∙ for_test downward (folded_test vars test) ∙ ap (λ (f : List Datum → Result Truth SqlState). walked f take (in_walk downward t.rows)) same
 
   pub walked_by : (downward : Bool) (walk : Walk) → walk ≡ walk_for t downward vars test → walked (test_of (over vars) test) take (rows_of t walk) ≡ walked (test_of (over vars) test) take (in_walk downward t.rows)
   walked_by downward walk e = ap (λ (w : Walk). walked (test_of (over vars) test) take (rows_of t w)) e ∙ walked_for downward
 
 -- where a test asks for bounds and for nothing else, the walk is over the rows between them
 bounded : (t : Contents) (vars : List Datum) (downward : Bool) (lines : List Line) (bounds : Bounds) → key_asked t.def.key vars (Some lines) ≡ None → unique_asked t.def.unique vars (Some lines) ≡ None
-    → bounds_asked t.def.key vars (Some lines) ≡ Some bounds → bounds_of t.def.key vars lines ≡ bounds → rows_of t (walk_for t downward vars (Some lines)) ≡ rows_within t downward (Some bounds)
+    → bounds_asked t.def.key vars (Some lines) ≡ Some bounds → bounds_of t.def.key vars lines ≡ bounds → rows_of t (walk_asked t.def downward vars (Some lines)) ≡ rows_within t downward (Some bounds)
 bounded t vars downward lines bounds k u b e =
     (λ i. rows_of t (walk_by downward (k i) (u i) (b i))) ∙ ap (λ (x : Bounds). rows_of t (walk_by downward None None (Some x))) (sym e)
     ∙ rows_among t.def.key vars lines downward t.rows ∙ ap (λ (x : Bounds). rows_within t downward (Some x)) e
 
 pub rows_bounded : (t : Contents) (vars : List Datum) (downward : Bool) (test : Option (List Line)) (bounds : Bounds) → key_asked t.def.key vars test ≡ None → unique_asked t.def.unique vars test ≡ None
-    → bounds_asked t.def.key vars test ≡ Some bounds → rows_of t (walk_for t downward vars test) ≡ rows_within t downward (Some bounds)
+    → bounds_asked t.def.key vars test ≡ Some bounds → rows_of t (walk_asked t.def downward vars test) ≡ rows_within t downward (Some bounds)
 rows_bounded t vars downward None bounds k u b = absurd (cc)
 rows_bounded t vars downward (Some lines) bounds k u b = bounded t vars downward lines bounds k u b (asked_by (are_quiet lines) (bounds_of t.def.key vars lines) bounds b).1
 
 -- where it asks for values in a UNIQUE list and for no key, the walk is over the row with them
 pub rows_looked : (t : Contents) (vars : List Datum) (downward : Bool) (test : Option (List Line)) (unique : Unique) → key_asked t.def.key vars test ≡ None → unique_asked t.def.unique vars test ≡ Some unique
-    → rows_of t (walk_for t downward vars test) ≡ rows_at t downward unique
+    → rows_of t (walk_asked t.def downward vars test) ≡ rows_at t downward unique
 rows_looked t vars downward test unique k u = λ i. rows_of t (walk_by downward (k i) (u i) (bounds_asked t.def.key vars test))
 
 -- no walk has more rows than the table

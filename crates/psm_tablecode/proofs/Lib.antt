@@ -3,6 +3,8 @@ pub mod RemainingRowsLaws
 pub mod Conjunctions
 pub mod EdgeLaws
 pub mod Faults
+pub mod FoldLaws
+pub mod FoldSteps
 pub mod Fitting
 pub mod KeyWalks
 pub mod Made

@@ -7,9 +7,9 @@ use Rattle.psm_exprcode.specs.declared.op.Line.{Line}
 use Rattle.psm_table.specs.Unique.{has_null, is_null}
 use Rattle.psm_tablecode.specs.declared.walking.Unique.{Unique}
 use Rattle.psm_tablecode.specs.declared.walking.Walk.{Walk}
-use Rattle.psm_tablecode.specs.Asked.{columns_in, each_filled, each_sought, filled, most_lists, unique_asked, unique_by, unique_from, unique_in, unique_or, unique_with, walk_by, with_first, IsLookUp}
+use Rattle.psm_tablecode.specs.Asked.{columns_in, each_filled, each_sought, filled, most_lists, unique_asked, unique_by, unique_from, unique_in, unique_or, unique_with, walk_by, IsLookUp}
 use Rattle.psm_tablecode.specs.Bounds.{Bounds}
-use Rattle.psm_tablecode.specs.Tests.{are_quiet, sought}
+use Rattle.psm_tablecode.specs.Tests.{are_quiet, sought, with_first}
 use Rattle.psm_tablecode.proofs.Collecting.{first_of}
 use Rattle.psm_tablecode.proofs.Seeking.{each_end, each_first, each_long, each_next, each_none, Seeks}
 

@@ -12,9 +12,9 @@ use Rattle.psm_tablecode.specs.declared.asking.Found.{Found}
 use Rattle.psm_tablecode.specs.declared.walking.Walk.{Walk}
 use Rattle.psm_tablecode.specs.Aims.{is_of_two, made_for, maker, of_four, of_three, seen, width}
 use Rattle.psm_tablecode.specs.declared.walking.Unique.{Unique}
-use Rattle.psm_tablecode.specs.Asked.{each_of, each_sought, key_asked, unique_in, walk_by, with_first}
+use Rattle.psm_tablecode.specs.Asked.{each_of, each_sought, key_asked, unique_in, walk_by}
 use Rattle.psm_tablecode.specs.Bounds.{bounds_asked, bounds_by, bounds_of, bounds_with, end_of, high_sought, low_sought, of_range, Bounds, End}
-use Rattle.psm_tablecode.specs.Tests.{are_quiet, first_four, first_three, fixed, free, is_column, is_equality, made, made_equal, sought}
+use Rattle.psm_tablecode.specs.Tests.{are_quiet, first_four, first_three, fixed, free, is_column, is_equality, made, made_equal, sought, with_first}
 use Rattle.psm_tablecode.proofs.Collecting.{first_of}
 use Rattle.psm_tablecode.proofs.Windows as windows
 

@@ -24,8 +24,8 @@ use Rattle.psm_exprcode.specs.Comparison.{truth_of}
 use Rattle.psm_exprcode.specs.Evaluated.{evaluated, Outcome}
 use Rattle.psm_table.specs.Evaluator.{test_of}
 use Rattle.psm_table.specs.Key.{key_order, row_order, values_at}
-use Rattle.psm_tablecode.specs.Asked.{each_sought, key_asked, with_first}
-use Rattle.psm_tablecode.specs.Tests.{are_quiet, fixed, is_column, is_equality, made_equal, opposite, sought}
+use Rattle.psm_tablecode.specs.Asked.{each_sought, key_asked}
+use Rattle.psm_tablecode.specs.Tests.{are_quiet, fixed, is_column, is_equality, made_equal, opposite, sought, with_first}
 use Rattle.psm_tablecode.specs.Codes.{over, truth_in}
 use Rattle.psm_tablecode.proofs.Conjunctions.{all_true, raises_nothing, says, Meets}
 use Rattle.psm_tablecode.proofs.Made.{three_hold}

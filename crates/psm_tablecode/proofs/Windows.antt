@@ -13,11 +13,11 @@ use Rattle.psm_tablecode.proofs.Collecting.{first_of}
 abbrev pub op_at : List Line → ℕ → Option Op
 op_at lines at = option_map (λ l. l.op) (slice_get lines at)
 
-line_of : (m : Option Line) (o : Op) → Some o ≡ option_map (λ (l : Line). l.op) m → (l : Line) × (m ≡ Some l) × (l.op ≡ o)
+pub line_of : (m : Option Line) (o : Op) → Some o ≡ option_map (λ (l : Line). l.op) m → (l : Line) × (m ≡ Some l) × (l.op ≡ o)
 line_of (Some l) o e = (l, refl, (let same : l.op ≡ o = cc in same))
 line_of None o e = absurd (cc)
 
-line_none : (m : Option Line) → None ≡ option_map (λ (l : Line). l.op) m → m ≡ None
+pub line_none : (m : Option Line) → None ≡ option_map (λ (l : Line). l.op) m → m ≡ None
 line_none None e = refl
 line_none (Some l) e = cc
 
@@ -31,10 +31,10 @@ module _ (lines : List Line) (at : ℕ) where
   next_is : suc at ≡ at + 1
   next_is = omega arith
 
-  line_is : (l : Line) → slice_get lines at ≡ Some l → drop at lines ≡ l ∷ drop (at + 1) lines
+  pub line_is : (l : Line) → slice_get lines at ≡ Some l → drop at lines ≡ l ∷ drop (at + 1) lines
   line_is l e = first_of lines at l (slice_get_within lines at l e) (sym (get_or_from_slice_get lines at l l e))
 
-  past_is : slice_get lines at ≡ None → (drop at lines ≡ []) × (drop (at + 1) lines ≡ [])
+  pub past_is : slice_get lines at ≡ None → (drop at lines ≡ []) × (drop (at + 1) lines ≡ [])
   past_is e = let p = none_past lines at e in (p.0, ap (λ n. drop n lines) (sym next_is) ∙ p.1)
 
   -- ---- lines that raise nothing

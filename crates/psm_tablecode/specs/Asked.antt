@@ -5,6 +5,7 @@ use Rattle.std.specs.Prelude.{◌≡◌, ◌<◌, Bool, false, ℕ, suc, List, [
 use Rattle.std.specs.List.{cons_option}
 use Rattle.psm_value.specs.declared.datum.Datum.{Datum}
 use Rattle.psm_exprcode.specs.declared.op.Line.{Line}
+use Rattle.psm_table.specs.declared.definition.TableDef.{TableDef}
 use Rattle.psm_table.specs.Matching.{few, rows_with}
 use Rattle.psm_table.specs.Queries.{in_walk}
 use Rattle.psm_table.specs.Table.{keyed, Contents}
@@ -14,14 +15,10 @@ use Rattle.psm_tablecode.specs.declared.walking.Unique.{Unique}
 use Rattle.psm_tablecode.specs.declared.walking.Walk.{Walk}
 use Rattle.psm_tablecode.specs.Bounds.{bounds_asked, Bounds}
 use Rattle.psm_tablecode.specs.Edges.{high_edge, low_edge, rows_between}
-use Rattle.psm_tablecode.specs.Tests.{are_quiet, sought}
+use Rattle.psm_tablecode.specs.Folding.{folded_test}
+use Rattle.psm_tablecode.specs.Tests.{are_quiet, sought, with_first}
 
 -- ---- keys
-
-abbrev pub with_first : Option Datum → Option (List Datum) → Option (List Datum)
-with_first None key = None
-with_first (Some d) None = None
-with_first (Some d) (Some key) = Some (d ∷ key)
 
 -- the values of some columns, if there is one for each
 abbrev pub each_of : (ℕ → Option Datum) → List ℕ → Option (List Datum)
@@ -129,6 +126,10 @@ high_by None None None = None
 abbrev pub walk_by : Bool → Option (List Datum) → Option Unique → Option Bounds → Walk
 walk_by downward key unique bounds = record { downward = downward; key = key; unique = unique_by key unique; low = low_by key unique bounds; high = high_by key unique bounds }
 
--- the walk of a statement with a test
+-- the walk for which a test asks as it stands
+abbrev pub walk_asked : TableDef → Bool → List Datum → Option (List Line) → Walk
+walk_asked def downward vars test = walk_by downward (key_asked def.key vars test) (unique_asked def.unique vars test) (bounds_asked def.key vars test)
+
+-- the walk of a statement with a test: the one for which the test asks once it is folded
 abbrev pub walk_for : Contents → Bool → List Datum → Option (List Line) → Walk
-walk_for t downward vars test = walk_by downward (key_asked t.def.key vars test) (unique_asked t.def.unique vars test) (bounds_asked t.def.key vars test)
+walk_for t downward vars test = walk_asked t.def downward vars (folded_test vars test)

@@ -5,6 +5,7 @@ pub mod Codes
 pub mod Edges
 pub mod RemainingRows
 pub mod Faults
+pub mod Folding
 pub mod NewRows
 pub mod Rows
 pub mod Tests

@@ -83,6 +83,12 @@ fixed vars (op.Constant k d) = Some d
 fixed vars (op.Variable i) = slice_get vars i
 fixed vars o = None
 
+-- a value before others, if all are there
+abbrev pub with_first : Option Datum → Option (List Datum) → Option (List Datum)
+with_first None ds = None
+with_first (Some d) None = None
+with_first (Some d) (Some ds) = Some (d ∷ ds)
+
 -- the value to which two operands would be equal, if one is the column
 abbrev pub opposite : ℕ → List Datum → Op → Op → Option Datum
 opposite c vars a b = if is_column c a then fixed vars b else if is_column c b then fixed vars a else None

@@ -3,11 +3,13 @@ ghost use Rattle.std.specs.Prelude.{◌≡◌, ◌+◌, ◌-◌, ◌≤◌, ◌<
 ghost use Rattle.std.specs.Option.{option_copied, option_map, option_or};
 ghost use Rattle.psm_tablecode.specs.Aims.{made_for, maker, of_four, of_three, of_two, seen};
 ghost use Rattle.psm_tablecode.specs.Aims as aims;
-ghost use Rattle.psm_tablecode.specs.Asked.{each_filled, each_sought, filled, key_asked, over_all, unique_asked, unique_from, unique_in, walk_by};
+ghost use Rattle.psm_tablecode.specs.Asked.{each_filled, each_sought, filled, key_asked, over_all, unique_asked, unique_from, unique_in, walk_asked, walk_by};
 ghost use Rattle.psm_tablecode.specs.Bounds as bounds;
 ghost use Rattle.psm_tablecode.specs.Edges as edges;
+ghost use Rattle.psm_tablecode.specs.Folding.{folded_test};
 ghost use Rattle.psm_tablecode.specs.Tests as asked;
 
+use crate::folding::folded;
 use crate::walking::{Edge, Unique, Walk};
 use psm_exprcode::{ExprCode, Op, RawExpr};
 use psm_table::{Key, List, Parts, TableDef};
@@ -35,11 +37,11 @@ pub(crate) struct Found<'a> {
     pub is_in: bool,
 }
 
-/// The walk for which a test asks over a table: to the row of a key, where its predicates raise no condition and some that
-/// have to be true make each column of the key equal to a constant or a variable; else to the row with those values in a
-/// UNIQUE list, where they do so with each of its columns; else over the rows between edges, where they do so with the first
-/// columns of the key, or give a range of the next one; else over all rows. It takes memory for the key, the values or the
-/// edges alone.
+/// The walk for which a test asks over a table, once it is folded where it could raise a condition: to the row of a key, where
+/// its predicates raise none and some that have to be true make each column of the key equal to a constant or a variable;
+/// else to the row with those values in a UNIQUE list, where they do so with each of its columns; else over the rows between
+/// edges, where they do so with the first columns of the key, or give a range of the next one; else over all rows. It takes
+/// memory for the key, the values or the edges, and for values and lines where operations are folded.
 pub(crate) fn walk_asked(
     alloc: Global,
     downward: bool,
@@ -47,22 +49,17 @@ pub(crate) fn walk_asked(
     test: Option<&ExprCode>,
     vars: &[Datum],
 ) -> Result<Walk, AllocError>
-    ensures { IfOk result (λ walk. walk ≡ walk_by downward (key_asked def.now.key vars.now (option_copied test.entry)) (unique_asked def.now.unique vars.now (option_copied test.entry)) (bounds.bounds_asked def.now.key vars.now (option_copied test.entry))) }
+    ensures { IfOk result (λ walk. walk ≡ walk_asked def.now downward vars.now (folded_test vars.now (option_copied test.entry))) }
 {
     let Some(code) = test else {
         return Ok(over_all(downward));
     };
     if are_quiet(code.lines()) {
-        walk_sought(
-            alloc,
-            downward,
-            def.key.items(),
-            def.unique.items(),
-            code.lines(),
-            vars,
-        )
-    } else {
-        Ok(over_all(downward))
+        return walk_by_quiet(alloc, downward, def, code.lines(), vars);
+    }
+    match folded(alloc, code.lines(), vars)? {
+        Some(lines) => walk_by_quiet(alloc, downward, def, &lines, vars),
+        None => Ok(over_all(downward)),
     }
 }
 
@@ -113,7 +110,28 @@ fn is_quiet(op: &Op) -> bool
     }
 }
 
-// The same of lines that raise nothing.
+// The walk for which lines ask that raise nothing.
+fn walk_by_quiet(
+    alloc: Global,
+    downward: bool,
+    def: &TableDef,
+    lines: &RawExpr,
+    vars: &[Datum],
+) -> Result<Walk, AllocError>
+    requires { asked.are_quiet lines.now ≡ true }
+    ensures { IfOk result (λ walk. walk ≡ walk_asked def.now downward vars.now (Some lines.now)) }
+{
+    walk_sought(
+        alloc,
+        downward,
+        def.key.items(),
+        def.unique.items(),
+        lines,
+        vars,
+    )
+}
+
+// The same of the columns of a key and of UNIQUE lists.
 #[tactic(auto, using(crate::proofs::Seeking::seeks_first, crate::proofs::Seeking::seeks_next, crate::proofs::Seeking::seeks_none, crate::proofs::Seeking::seeks_end))]
 fn walk_sought(
     alloc: Global,
@@ -688,7 +706,7 @@ fn is_column(column: u32, op: &Op) -> bool
 }
 
 // The value that an operation puts on whichever row.
-fn fixed<'a>(op: &'a Op, vars: &'a [Datum]) -> Option<&'a Datum>
+pub(crate) fn fixed<'a>(op: &'a Op, vars: &'a [Datum]) -> Option<&'a Datum>
     ensures { option_copied result ≡ asked.fixed vars.now op.now }
 {
     match op {

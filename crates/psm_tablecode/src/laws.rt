@@ -16,6 +16,7 @@ ghost use Rattle.psm_tablecode.specs.declared.walking.Unique.{Unique};
 ghost use Rattle.psm_tablecode.specs.Asked.{columns_in, key_asked, rows_at, rows_of, unique_asked, walk_for, IsLookUp};
 ghost use Rattle.psm_tablecode.specs.Bounds.{bounds_asked, is_between, rows_within, Bounds};
 ghost use Rattle.psm_tablecode.specs.Codes.{over};
+ghost use Rattle.psm_tablecode.specs.Folding.{folded_test};
 
 /// What access by key rests on (ISO/IEC 9075:1992, 7.6 and 8.2). A test that asks for a key raises no condition on any row,
 /// and is true on rows with that key alone: numbers are equal by value and texts with the shorter padded, and nothing is
@@ -35,7 +36,7 @@ pub fn access_by_key()
 pub fn access_by_unique()
     ensures quiet { (lists : List (List ℕ)) (test : List Line) (vars row : List Datum) (unique : Unique) → unique_asked lists vars (Some test) ≡ Some unique → (t : Truth) × (test_of (over vars) (Some test) row ≡ Ok t) }
     ensures only { (lists : List (List ℕ)) (test : List Line) (vars row : List Datum) (unique : Unique) → unique_asked lists vars (Some test) ≡ Some unique → test_of (over vars) (Some test) row ≡ Ok True → equal_values unique.values (values_at (columns_in lists unique.list) row) ≡ true }
-    ensures rows { (t : Contents) (downward : Bool) (test : Option (List Line)) (vars : List Datum) (unique : Unique) → key_asked t.def.key vars test ≡ None → unique_asked t.def.unique vars test ≡ Some unique → rows_of t (walk_for t downward vars test) ≡ rows_at t downward unique }
+    ensures rows { (t : Contents) (downward : Bool) (test : Option (List Line)) (vars : List Datum) (unique : Unique) → key_asked t.def.key vars (folded_test vars test) ≡ None → unique_asked t.def.unique vars (folded_test vars test) ≡ Some unique → rows_of t (walk_for t downward vars test) ≡ rows_at t downward unique }
     ensures one { (t : Contents) (downward : Bool) (unique : Unique) → AreUnique t.def t.rows → IsLookUp t.def.unique unique → rows_at t downward unique ≡ rows_with (columns_in t.def.unique unique.list) unique.values t.rows }
 {}
 
@@ -48,5 +49,12 @@ pub fn access_between_bounds()
     ensures quiet { (columns : List ℕ) (test : List Line) (vars row : List Datum) (bounds : Bounds) → bounds_asked columns vars (Some test) ≡ Some bounds → (t : Truth) × (test_of (over vars) (Some test) row ≡ Ok t) }
     ensures only { (columns : List ℕ) (test : List Line) (vars row : List Datum) (bounds : Bounds) → bounds_asked columns vars (Some test) ≡ Some bounds → test_of (over vars) (Some test) row ≡ Ok True → is_between columns bounds row ≡ true }
     ensures walk { (t : Contents) (downward : Bool) (test : Option (List Line)) (vars : List Datum) (take : List Datum → Result ℕ SqlState) → walked (test_of (over vars) test) take (rows_within t downward (bounds_asked t.def.key vars test)) ≡ walked (test_of (over vars) test) take (in_walk downward t.rows) }
-    ensures rows { (t : Contents) (downward : Bool) (test : Option (List Line)) (vars : List Datum) (bounds : Bounds) → key_asked t.def.key vars test ≡ None → unique_asked t.def.unique vars test ≡ None → bounds_asked t.def.key vars test ≡ Some bounds → rows_of t (walk_for t downward vars test) ≡ rows_within t downward (Some bounds) }
+    ensures rows { (t : Contents) (downward : Bool) (test : Option (List Line)) (vars : List Datum) (bounds : Bounds) → key_asked t.def.key vars (folded_test vars test) ≡ None → unique_asked t.def.unique vars (folded_test vars test) ≡ None → bounds_asked t.def.key vars (folded_test vars test) ≡ Some bounds → rows_of t (walk_for t downward vars test) ≡ rows_within t downward (Some bounds) }
+{}
+
+/// What constant folding rests on (ISO/IEC 9075:1992, clauses 6 and 8). The test by which a walk is chosen has values in place
+/// of operations on constants and variables, and has on each row the truth value that the test of the statement has, or raises
+/// the condition that it raises.
+pub fn constant_folding()
+    ensures { (test : Option (List Line)) (vars row : List Datum) → test_of (over vars) (folded_test vars test) row ≡ test_of (over vars) test row }
 {}

@@ -4,13 +4,14 @@
 
 mod asking;
 mod evaluating;
+mod folding;
 mod laws;
 mod raising;
 mod typing;
 mod walking;
 
 pub use evaluating::{meets, taken, truth, value, values};
-pub use laws::{access_between_bounds, access_by_key, access_by_unique};
+pub use laws::{access_between_bounds, access_by_key, access_by_unique, constant_folding};
 pub use psm_cond::DataFault;
 pub use psm_exprcode::{Aggregate, ExprCode, Items, Operand, Query, SetFunction};
 pub use raising::raised;

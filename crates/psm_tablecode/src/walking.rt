@@ -55,9 +55,10 @@ pub struct Walk {
 }
 
 /// The walk of a statement with a test: over the row of the key for which the test asks, or over that with the values for
-/// which it asks in a UNIQUE list, or over the rows between the bounds for which it asks, or over all rows. What a statement
-/// takes of the rows that meet the test, and the first condition that is raised, are those of a walk over all rows. It takes
-/// memory for the key, the values or the edges alone.
+/// which it asks in a UNIQUE list, or over the rows between the bounds for which it asks, or over all rows. Where the test
+/// could raise a condition, operations on constants and variables alone that raise none are replaced by their values first.
+/// What a statement takes of the rows that meet the test, and the first condition that is raised, are those of a walk over
+/// all rows. It takes memory for the key, the values or the edges, and for values and lines where operations are replaced.
 pub fn walk_of(
     alloc: Global,
     table: &Table,

@@ -1,3 +1,4 @@
+use Rattle.psm_tablecode.specs.Folding.{folded_test}
 use Rattle.psm_tablecode.proofs.KeyWalks.{rows_bounded}
 use Rattle.psm_tablecode.proofs.Ranges.{bounds_only, bounds_quiet, walked_within}
 use Rattle.psm_tablecode.proofs.laws.access_between_bounds.Goals as goal
@@ -12,4 +13,4 @@ pub returns-clause-walk : goal.returns-clause-walk
 returns-clause-walk c = λ t downward test vars take. walked_within t vars take downward test
 
 pub returns-clause-rows : goal.returns-clause-rows
-returns-clause-rows c = λ t downward test vars bounds k u b. rows_bounded t vars downward test bounds k u b
+returns-clause-rows c = λ t downward test vars bounds k u b. rows_bounded t vars downward (folded_test vars test) bounds k u b
