@@ -1,7 +1,7 @@
 -- The number at the head of a run.
 use Rattle.std.proofs.Common.{◌≡◌, ℕ, zero, suc, ◌<◌, ◌≤◌, List, [], ◌∷◌, ◌++◌, length, set, drop, Bool, true, not, refl, ap, sym, ◌∙◌, arith, Some}
 use Rattle.std.proofs.Math.Dec.{eqb-suc-zero}
-use Rattle.std.specs.Prelude.{false, insert, nat_eq, if◌then◌else◌, slice_get, Option, None}
+use Rattle.std.specs.Prelude.{false, insert, nat_eq, if◌then◌else◌, slice_index_or, Option, None}
 use Rattle.std.specs.declared.cmp.Ordering.TheVariants.{Less, Equal, Greater}
 use Rattle.std.specs.Ordering.{is_gt, is_lt, ordering_then}
 use Rattle.psm_num.specs.Num.{Num as Number}
@@ -10,7 +10,7 @@ use Rattle.psm_value.specs.declared.datum.Datum.{Datum}
 use Rattle.psm_value.specs.declared.datum.Datum.TheVariants.{Null, Num, Text}
 use Rattle.psm_table.specs.declared.map.Pair.{Pair}
 use Rattle.psm_table.specs.Cuts.{is_past}
-use Rattle.psm_table.specs.Key.{key_order, leading_number}
+use Rattle.psm_table.specs.Key.{key_order, leading_number, number_of}
 use Rattle.psm_table.specs.Map.{prefix_order}
 use Rattle.psm_table.specs.Runs.{begins, head_of}
 
@@ -25,17 +25,15 @@ leading_is (Null ∷ vs) a e = cc
 leading_is (Num n ∷ vs) a e = ap (λ m. Num m ∷ vs) (sym (ap (or_else a) e))
 leading_is (Text t ∷ vs) a e = cc
 
-abbrev number_in : Option Datum → Option Number
-number_in None = None
-number_in (Some Null) = None
-number_in (Some (Num n)) = Some n
-number_in (Some (Text t)) = None
-
-pub leading_first : (key : List Datum) → leading_number key ≡ number_in (slice_get key 0)
+pub leading_first : (key : List Datum) → number_of (slice_index_or key 0 Null) ≡ leading_number key
 leading_first [] = refl
 leading_first (Null ∷ vs) = refl
 leading_first (Num n ∷ vs) = refl
 leading_first (Text t ∷ vs) = refl
+
+pub leading_none : (key : List Datum) → length key ≡ 0 → None ≡ leading_number key
+leading_none [] e = refl
+leading_none (v ∷ vs) e = absurd (omega (arith, e))
 
 -- the numbers with which two keys begin decide where they differ
 module _ (key k : List Datum) (a b : Number) (e : Some a ≡ leading_number key) (f : Some b ≡ leading_number k) where

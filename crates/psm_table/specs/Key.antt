@@ -23,6 +23,12 @@ row_order columns key row = key_order (values_at columns row) key
 abbrev pub AreColumnsOf : List Datum → List ℕ → Type 0
 AreColumnsOf row columns = All (λ c. c < length row) columns
 
+-- the number that a value is, if it is one
+abbrev pub number_of : Datum → Option Number
+number_of Null = None
+number_of (Num n) = Some n
+number_of (Text t) = None
+
 -- the number with which a key begins, if it begins with one
 abbrev pub leading_number : List Datum → Option Number
 leading_number [] = None

@@ -17,7 +17,9 @@ pub mod Place
 pub mod Queries
 pub mod Rows
 pub mod Runs
+pub mod Side
 pub mod State
+pub mod Stored
 pub mod Table
 pub mod Told
 pub mod Unique

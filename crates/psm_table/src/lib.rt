@@ -14,6 +14,7 @@ mod referred;
 mod row;
 mod run;
 mod runs;
+mod stored;
 mod table;
 mod unique;
 mod walk;

@@ -13,10 +13,10 @@ ghost use Rattle.psm_value.specs.declared.datum.Datum.{Datum};
 ghost use Rattle.psm_table.specs.declared.map.Pair.{Pair};
 ghost use Rattle.psm_table.specs.Runs.{begins, head_of, most_pairs, IsRun};
 
-use crate::key::Key;
 use crate::map::{Copied, Pair, Test};
-use crate::probe::{Probe, is_past, order_of_numbers};
+use crate::probe::{Probe, order_of_numbers};
 use crate::row::Row;
+use crate::stored::{StoredKey, is_past};
 use psm_num::Dec;
 use std::alloc::{AllocError, Global};
 use std::cmp::Ordering;
@@ -88,12 +88,12 @@ impl<V: Drop> Run<V> {
     }
 
     /// Puts a pair in, in the place of that of its key if there is one. It takes no memory.
-    pub(crate) fn insert(&mut self, key: Key, value: V)
+    pub(crate) fn insert(&mut self, key: StoredKey, value: V)
         requires { length self.old < most_pairs }
         ensures pairs { self.new ≡ with_pair (record { key = key; value = value }) self.old }
         ensures some { 0 < length self.new }
     {
-        match self.find(Probe::Of(key.values())) {
+        match self.find(key.probe()) {
             Ok(at) => {
                 self.head = head_with(self.head, at, &key);
                 self.pairs[at] = Pair { key, value };
@@ -186,7 +186,7 @@ impl<V: Drop> Run<V> {
         ensures { result ≡ begins (λ p. is_past (probe_key probe.entry) is_behind p.key) self.now }
     {
         match self.pairs.as_slice() {
-            [first, ..] => is_past(first.key.values(), probe, is_behind),
+            [first, ..] => is_past(&first.key, probe, is_behind),
             [] => false,
         }
     }
@@ -339,7 +339,7 @@ pub(crate) fn turn<V: Drop>(pairs: &[Pair<V>], probe: Probe<'_>, is_behind: bool
     let mut high = pairs.len();
     while low < high {
         let middle = low + (high - low) / 2;
-        if is_past(pairs[middle].key.values(), probe, is_behind) {
+        if is_past(&pairs[middle].key, probe, is_behind) {
             high = middle;
         } else {
             low = middle + 1;
@@ -359,7 +359,7 @@ fn head_of<V: Drop>(pairs: &[Pair<V>]) -> Option<Dec>
 }
 
 /// The number with which the first pair's key begins, once a pair is put in at a place or written over.
-fn head_with(head: Option<Dec>, at: usize, key: &Key) -> Option<Dec>
+fn head_with(head: Option<Dec>, at: usize, key: &StoredKey) -> Option<Dec>
     ensures { result ≡ (if nat_eq at 0 then leading_number key.now else head) }
 {
     if at == 0 { key.leading_number() } else { head }

@@ -464,7 +464,11 @@ impl Table {
         ensures keeps { StillKeeps self.old self.new }
         ensures tidy { IsTidy self.old → IsTidy self.new }
     {
-        let key = Key::of_row(self.alloc, self.def.key.items(), &row)?;
+        let probe = Probe::In {
+            columns: self.def.key.items(),
+            row: row.values(),
+        };
+        let key = StoredKey::of(self.alloc, probe)?;
         self.rows.reserve()?;
         enter(
             self.alloc,
