@@ -19,5 +19,5 @@ pub mod Rows
 pub mod Runs
 pub mod State
 pub mod Table
-pub mod Told
+pub mod MatchingEntries
 pub mod Unique
