@@ -21,5 +21,5 @@ pub mod Side
 pub mod State
 pub mod Stored
 pub mod Table
-pub mod Told
+pub mod MatchingEntries
 pub mod Unique

@@ -5,7 +5,7 @@ ghost use Rattle.psm_table.specs.Definition.{IsDefinition, IsRow, IsKey, HasColu
 ghost use Rattle.psm_table.specs.Held.{entries_of};
 ghost use Rattle.psm_table.specs.Key.{values_at};
 ghost use Rattle.psm_table.specs.Keyed.{has_values};
-ghost use Rattle.psm_table.specs.Matching.{few, matched, rows_with};
+ghost use Rattle.psm_table.specs.Matching.{at_most_one, matched, rows_with};
 ghost use Rattle.psm_table.specs.Queries.{in_walk};
 ghost use Rattle.psm_table.specs.Rows.{row_after};
 ghost use Rattle.psm_table.specs.State.{has_key, IsTidy, Inserts, Changes, KeepsRow, StillKeeps};
@@ -255,7 +255,7 @@ impl Table {
         }
     }
 
-    /// Lets the rows go that were taken or put out, but for a few: what the table keeps after it is no more than
+    /// Lets the rows go that were taken or put out, but for a at_most_one: what the table keeps after it is no more than
     /// twice its rows and 64. No row of the table changes. It takes no memory.
     pub fn settle(&mut self)
         ensures rows { self.new.contents ≡ self.old.contents }
@@ -372,7 +372,7 @@ impl Table {
     pub fn by_unique(&self, list: usize, values: &[Datum]) -> Matching<'_>
         requires list { list < length self.now.contents.def.unique }
         requires filled { has_null values.now ≡ false }
-        ensures found { matched result ≡ few (rows_with (slice_index_or self.now.contents.def.unique list []) values.now self.now.contents.rows) }
+        ensures found { matched result ≡ at_most_one (rows_with (slice_index_or self.now.contents.def.unique list []) values.now self.now.contents.rows) }
         ensures table { IsTable self.now.contents }
     {
         let columns = self.def.unique.items()[list].items();

@@ -5,8 +5,8 @@ use Rattle.std.specs.Ordering.{is_eq}
 use Rattle.psm_table.specs.Held.{row_of}
 use Rattle.psm_table.specs.Map.{pairs_above, prefix_order}
 use Rattle.psm_table.specs.Place.{ahead}
-use Rattle.psm_table.specs.Told.{row_having}
-use Rattle.psm_table.proofs.Tellings.{passed-end, passed-less, passed-step, Passed}
+use Rattle.psm_table.specs.MatchingEntries.{row_having}
+use Rattle.psm_table.proofs.MatchingEntries.{passed-end, passed-less, passed-step, Passed}
 use Rattle.psm_table.proofs.unique.first_found.Goals as goal
 
 pub returns-then-not-is_eq-clause-none : goal.returns-then-not-is_eq-clause-none

@@ -2,7 +2,7 @@ use Rattle.std.proofs.Common.{ap, ◌∙◌}
 use Rattle.std.specs.Prelude.{slice_get}
 use Rattle.std.specs.Option.{option_copied}
 use Rattle.psm_table.specs.Map.{pairs_above}
-use Rattle.psm_table.proofs.Tellings.{high-above, high-from, nothing, one_row, several}
+use Rattle.psm_table.proofs.MatchingEntries.{high-above, high-from, nothing, one_row, several}
 use Rattle.psm_table.proofs.unique.look_up.Goals as goal
 
 pub first_found-requires-clause-high : goal.first_found-requires-clause-high

@@ -1,4 +1,4 @@
--- Entries of a UNIQUE list that tell of rows with given values: a walk over them, and the rows that they tell of.
+-- Matching entries of a UNIQUE list: a walk over entries, and the rows of those that match.
 use Rattle.std.proofs.Common.{◌≡◌, ◌<◌, ℕ, zero, suc, List, [], ◌∷◌, Bool, true, false, not, ◌&&◌, ◌||◌, inl, inr, length, get_or, drop, take, refl, ap, sym, subst, ◌∙◌, arith, Some, None}
 use Rattle.std.specs.Prelude.{if◌then◌else◌, All, IfNone, IfSome, Option, cond, filter, find, is_some, slice_get}
 use Rattle.std.proofs.lemmas.List.Elements.{All-cons, All-filter, All-head, All-nil, All-tail}
@@ -19,11 +19,11 @@ use Rattle.psm_table.specs.Key.{key_order, row_order, values_at, AreColumnsOf}
 use Rattle.psm_table.specs.declared.unique.Found.{Found}
 use Rattle.psm_table.specs.Keyed.{has_values}
 use Rattle.psm_table.specs.Map.{keys_of, pairs_above, pairs_from, prefix_order, AreAscending}
-use Rattle.psm_table.specs.Matching.{few, rows_with}
+use Rattle.psm_table.specs.Matching.{at_most_one, rows_with}
 use Rattle.psm_table.specs.Place.{ahead}
 use Rattle.psm_table.specs.Rows.{row_with, IsAscending}
 use Rattle.psm_table.specs.State.{entry_of, HasEntry}
-use Rattle.psm_table.specs.Told.{row_having, tells, telling, IsFirst}
+use Rattle.psm_table.specs.MatchingEntries.{row_having, is_matching, matching_entries, IsFirst}
 use Rattle.psm_table.specs.Unique.{equal_values, has_null, is_null}
 use Rattle.psm_table.proofs.Filters.{filter-empty, filtered, find_passes, equal_is, greater_is, unfiltered, AllPairs-first, AllPairs-rest}
 use Rattle.psm_table.proofs.KeyLaws.{key_order-refl}
@@ -113,9 +113,9 @@ module _ (columns : List ℕ) (values : List Datum) (pairs : List Slot) where
   abbrev High : Entry → Type 0
   High p = not (is_lt (prefix_order values p.key)) ≡ true
 
-  -- a walk has come from one entry to another: those passed tell of no row, and those left begin with no smaller values
+  -- a walk has come from one entry to another: none of those passed matches, and those left begin with no smaller values
   pub record Passed (entries : List Entry) (from next : Option Entry) : Type 0 where
-    pub rest : telling columns values pairs (ahead entries from) ≡ telling columns values pairs (ahead entries next)
+    pub rest : matching_entries columns values pairs (ahead entries from) ≡ matching_entries columns values pairs (ahead entries next)
     pub high : All High (ahead entries next)
 
   pub passed-start : (entries : List Entry) (from : Option Entry) → All High (ahead entries from) → Passed entries from from
@@ -125,10 +125,10 @@ module _ (columns : List ℕ) (values : List Datum) (pairs : List Slot) where
       → row_having columns values (row_of (drop (length columns) p.key) pairs) ≡ None → next ≡ slice_get (pairs_above p.key entries) 0 → Passed entries from next
   passed-step entries from p next up w none e =
       let same = next_above entries p next up e in
-      let silent : tells columns values pairs p ≡ false =
+      let silent : is_matching columns values pairs p ≡ false =
       second_false (is_eq (prefix_order values p.key)) (row_has columns values (row_of (drop (length columns) p.key) pairs)) (λ b. has-none (row_of (drop (length columns) p.key) pairs) none) in
       record {
-        rest = w.rest ∙ failing (tells columns values pairs) p (pairs_above p.key entries) silent ∙ ap (telling columns values pairs) (sym same);
+        rest = w.rest ∙ failing (is_matching columns values pairs) p (pairs_above p.key entries) silent ∙ ap (matching_entries columns values pairs) (sym same);
         high = subst (All High) (sym same) (All-tail High p (pairs_above p.key entries) w.high);
       }
 
@@ -139,11 +139,11 @@ module _ (columns : List ℕ) (values : List Datum) (pairs : List Slot) where
   abbrev has_by : List Datum → Bool
   has_by entry = row_has columns values (row_of (drop (length columns) entry) pairs)
 
-  -- behind the entries with the values none tells
-  pub passed-end : (entries : List Entry) (from : Option Entry) (p : Entry) → Passed entries from (Some p) → is_eq (prefix_order values p.key) ≡ false → telling columns values pairs (ahead entries from) ≡ []
+  -- after the entries with the values none matches
+  pub passed-end : (entries : List Entry) (from : Option Entry) (p : Entry) → Passed entries from (Some p) → is_eq (prefix_order values p.key) ≡ false → matching_entries columns values pairs (ahead entries from) ≡ []
   passed-end entries from p w e =
       let silent = silent-end values has_by entries p (All-head High p (pairs_above p.key entries) w.high) e in
-      w.rest ∙ filter-empty (tells columns values pairs) (ahead entries (Some p))
+      w.rest ∙ filter-empty (is_matching columns values pairs) (ahead entries (Some p))
       (λ k d l. second_false (is_eq (prefix_order values (get_or (ahead entries (Some p)) k d).key)) (has_by (get_or (ahead entries (Some p)) k d).key) (silent k d l))
 
   pub passed-found : (entries : List Entry) (from : Option Entry) (p : Entry) (row : Row) → Passed entries from (Some p) → is_eq (prefix_order values p.key) ≡ true
@@ -154,15 +154,15 @@ module _ (columns : List ℕ) (values : List Datum) (pairs : List Slot) where
         begins = e;
         its = t.0;
         has = t.1;
-        rest = w.rest ∙ passing (tells columns values pairs) p (pairs_above p.key entries) (both (is_eq (prefix_order values p.key)) (row_has columns values (row_of (drop (length columns) p.key) pairs)) e (ap (row_has columns values) t.0 ∙ t.1));
+        rest = w.rest ∙ passing (is_matching columns values pairs) p (pairs_above p.key entries) (both (is_eq (prefix_order values p.key)) (row_has columns values (row_of (drop (length columns) p.key) pairs)) e (ap (row_has columns values) t.0 ∙ t.1));
       }
 
-  -- the walk begins with all entries that tell
-  pub all-ahead : (entries : List Entry) (from : Option Entry) → AreAscending entries → from ≡ slice_get (pairs_from values entries) 0 → telling columns values pairs (ahead entries from) ≡ telling columns values pairs entries
+  -- the walk begins with all matching entries
+  pub all-ahead : (entries : List Entry) (from : Option Entry) → AreAscending entries → from ≡ slice_get (pairs_from values entries) 0 → matching_entries columns values pairs (ahead entries from) ≡ matching_entries columns values pairs entries
   all-ahead entries from up e =
-      ap (λ o. telling columns values pairs (ahead entries o)) e
-      ∙ ap (telling columns values pairs) (ahead-filter (λ (p : Entry). not (is_lt (prefix_order values p.key))) entries (up-from values) up)
-      ∙ twice (tells columns values pairs) (λ (p : Entry). not (is_lt (prefix_order values p.key)))
+      ap (λ o. matching_entries columns values pairs (ahead entries o)) e
+      ∙ ap (matching_entries columns values pairs) (ahead-filter (λ (p : Entry). not (is_lt (prefix_order values p.key))) entries (up-from values) up)
+      ∙ twice (is_matching columns values pairs) (λ (p : Entry). not (is_lt (prefix_order values p.key)))
       (λ p f. first_false (is_eq (prefix_order values p.key)) (row_has columns values (row_of (drop (length columns) p.key) pairs)) (not_low (prefix_order values p.key) f)) entries
 
   pub high-from : (entries : List Entry) (from : Option Entry) → AreAscending entries → from ≡ slice_get (pairs_from values entries) 0 → All High (ahead entries from)
@@ -178,13 +178,13 @@ module _ (columns : List ℕ) (values : List Datum) (pairs : List Slot) where
 
 -- ---- the rows
 
-few_more : (row : Row) (rows : List Row) → few rows ≡ None → few (row ∷ rows) ≡ None
-few_more row [] e = cc
-few_more row (x ∷ []) e = cc
-few_more row (x ∷ y ∷ rows) e = refl
+several_more : (row : Row) (rows : List Row) → at_most_one rows ≡ None → at_most_one (row ∷ rows) ≡ None
+several_more row [] e = cc
+several_more row (x ∷ []) e = cc
+several_more row (x ∷ y ∷ rows) e = refl
 
-few_two : (row : Row) (rows : List Row) → (y : Row) × (ys : List Row) × (rows ≡ y ∷ ys) → few (row ∷ rows) ≡ None
-few_two row rows t = ap (λ l. few (row ∷ l)) t.2
+several_two : (row : Row) (rows : List Row) → (y : Row) × (ys : List Row) × (rows ≡ y ∷ ys) → at_most_one (row ∷ rows) ≡ None
+several_two row rows t = ap (λ l. at_most_one (row ∷ l)) t.2
 
 -- a row that a search finds and that passes a filter is among those that do
 one-first : (p : Row → Bool) (x : Row) (xs : List Row) (o : Option Row) (r : Row) (b c : Bool) → p x ≡ b → cond c (Some x) o ≡ Some r → p r ≡ true
@@ -200,17 +200,17 @@ one p q [] r f g = cc
 one p q (x ∷ xs) r f g = one-first p x xs (find q xs) r (p x) (q x) refl f g (λ e. one p q xs r e g)
 
 -- and where two searches find different ones, there are several
-two-more : (x : Row) (l : List Row) (b : Bool) → few l ≡ None → few (cond b (x ∷ l) l) ≡ None
-two-more x l true e = few_more x l e
+two-more : (x : Row) (l : List Row) (b : Bool) → at_most_one l ≡ None → at_most_one (cond b (x ∷ l) l) ≡ None
+two-more x l true e = several_more x l e
 two-more x l false e = e
 
-two-here : (p : Row → Bool) (x : Row) (l : List Row) (r : Row) (b : Bool) → p x ≡ b → x ≡ r → p r ≡ true → (y : Row) × (ys : List Row) × (l ≡ y ∷ ys) → few (cond b (x ∷ l) l) ≡ None
-two-here p x l r true e same g t = few_two x l t
+two-here : (p : Row → Bool) (x : Row) (l : List Row) (r : Row) (b : Bool) → p x ≡ b → x ≡ r → p r ≡ true → (y : Row) × (ys : List Row) × (l ≡ y ∷ ys) → at_most_one (cond b (x ∷ l) l) ≡ None
+two-here p x l r true e same g t = several_two x l t
 two-here p x l r false e same g t = absurd (let a : false ≡ true = sym e ∙ ap p same ∙ g in cc)
 
 two-first : (p : Row → Bool) (x : Row) (l : List Row) (a b : Option Row) (r s : Row) (c d : Bool) → cond c (Some x) a ≡ Some r → cond d (Some x) b ≡ Some s → p r ≡ true → p s ≡ true → (r ≡ s → ⊥)
-    → (a ≡ Some r → (y : Row) × (ys : List Row) × (l ≡ y ∷ ys)) → (b ≡ Some s → (y : Row) × (ys : List Row) × (l ≡ y ∷ ys)) → (a ≡ Some r → b ≡ Some s → few l ≡ None)
-    → few (cond (p x) (x ∷ l) l) ≡ None
+    → (a ≡ Some r → (y : Row) × (ys : List Row) × (l ≡ y ∷ ys)) → (b ≡ Some s → (y : Row) × (ys : List Row) × (l ≡ y ∷ ys)) → (a ≡ Some r → b ≡ Some s → at_most_one l ≡ None)
+    → at_most_one (cond (p x) (x ∷ l) l) ≡ None
 two-first p x l a b r s true true e f g h other i j k =
     let left : x ≡ r = cc in
     let right : x ≡ s = cc in
@@ -223,7 +223,7 @@ two-first p x l a b r s false true e f g h other i j k =
     two-here p x l s (p x) refl right h (i e)
 two-first p x l a b r s false false e f g h other i j k = two-more x l (p x) (k e f)
 
-two : (p q t : Row → Bool) (rows : List Row) (r s : Row) → find q rows ≡ Some r → find t rows ≡ Some s → p r ≡ true → p s ≡ true → (r ≡ s → ⊥) → few (filter p rows) ≡ None
+two : (p q t : Row → Bool) (rows : List Row) (r s : Row) → find q rows ≡ Some r → find t rows ≡ Some s → p r ≡ true → p s ≡ true → (r ≡ s → ⊥) → at_most_one (filter p rows) ≡ None
 two p q t [] r s e f g h other = cc
 two p q t (x ∷ xs) r s e f g h other =
     two-first p x (filter p xs) (find q xs) (find t xs) r s (q x) (t x) e f g h other (λ a. one p q xs r a g) (λ a. one p t xs s a h) (λ a b. two p q t xs r s a b g h other)
@@ -265,40 +265,40 @@ join_equal (suc n) (x ∷ a) (y ∷ b) e f =
 
 module _ (columns : List ℕ) (values : List Datum) (pairs : List Slot) (def : TableDef) (up : AreAscending pairs) (keyed : All (HasItsKey def.key) pairs) (ascend : IsAscending def.key (live_rows pairs))
     (entries : List Entry) (entered : All (λ row. HasEntry def row columns (keys_of entries)) (live_rows pairs)) where
-  -- each row with the values has an entry that tells
-  told : (R : Entry → Type 0) (i : ℕ) (d : Row) → All R (telling columns values pairs entries) → i < length (live_rows pairs) → equal_values values (values_at columns (get_or (live_rows pairs) i d)) ≡ true
+  -- each row with the values has a matching entry
+  has_entry : (R : Entry → Type 0) (i : ℕ) (d : Row) → All R (matching_entries columns values pairs entries) → i < length (live_rows pairs) → equal_values values (values_at columns (get_or (live_rows pairs) i d)) ≡ true
       → (q : Entry) × R q × (row_of (drop (length columns) q.key) pairs ≡ Some (get_or (live_rows pairs) i d))
-  told R i d all l e =
+  has_entry R i d all l e =
       let it : Row = get_or (live_rows pairs) i d in
       let t = equal_parts values (values_at columns it) e in
-      let p = pair_there entries (entry_of def columns it) (λ q. tells columns values pairs q ≡ true → R q) (entered i d l t.1) (kept (tells columns values pairs) R entries all) in
+      let p = pair_there entries (entry_of def columns it) (λ q. is_matching columns values pairs q ≡ true → R q) (entered i d l t.1) (kept (is_matching columns values pairs) R entries all) in
       let back = leads_back def it pairs up keyed ascend i d l columns (p.0).key p.1 in
       let width : length columns ≡ length values = sym (equal_length values (values_at columns it) t.2 ∙ length-values_at columns it) in
       let prefix : prefix_order values (p.0).key ≡ Equal =
       subst (λ n. key_order (take n (p.0).key) values ≡ Equal) width (equal_trans (take (length columns) (p.0).key) (values_at columns it) values back.0 (equal_sym values (values_at columns it) t.2)) in
-      let tell : tells columns values pairs p.0 ≡ true =
+      let matching : is_matching columns values pairs p.0 ≡ true =
       both (is_eq (prefix_order values (p.0).key)) (row_has columns values (row_of (drop (length columns) (p.0).key) pairs)) (ap is_eq prefix) (ap (row_has columns values) back.1 ∙ e) in
-      (p.0, p.2 tell, back.1)
+      (p.0, p.2 matching, back.1)
 
-  none_with : telling columns values pairs entries ≡ [] → rows_with columns values (live_rows pairs) ≡ []
+  none_with : matching_entries columns values pairs entries ≡ [] → rows_with columns values (live_rows pairs) ≡ []
   none_with e =
       filter-empty (λ row. equal_values values (values_at columns row)) (live_rows pairs)
       (λ i d l. false_if (equal_values values (values_at columns (get_or (live_rows pairs) i d)))
-      (λ f. (told (λ q. ⊥) i d (subst (All (λ q. ⊥)) (sym e) (All-nil (λ (q : Entry). ⊥))) l f).1))
+      (λ f. (has_entry (λ q. ⊥) i d (subst (All (λ q. ⊥)) (sym e) (All-nil (λ (q : Entry). ⊥))) l f).1))
 
-  -- no row has the values where no entry tells, and one does where one tells
-  none_has : telling columns values pairs entries ≡ [] → has_values columns values (live_rows pairs) ≡ false
+  -- no row has the values where no entry matches, and one does where one matches
+  none_has : matching_entries columns values pairs entries ≡ [] → has_values columns values (live_rows pairs) ≡ false
   none_has e =
       list_any_none (λ row. equal_values values (values_at columns row)) (live_rows pairs)
       (λ i d l. false_if (equal_values values (values_at columns (get_or (live_rows pairs) i d)))
-      (λ f. (told (λ q. ⊥) i d (subst (All (λ q. ⊥)) (sym e) (All-nil (λ (q : Entry). ⊥))) l f).1))
+      (λ f. (has_entry (λ q. ⊥) i d (subst (All (λ q. ⊥)) (sym e) (All-nil (λ (q : Entry). ⊥))) l f).1))
 
   one_has : (e : Entry) (row : Row) → row_of (drop (length columns) e.key) pairs ≡ Some row → equal_values values (values_at columns row) ≡ true → has_values columns values (live_rows pairs) ≡ true
   one_has e row is has =
       row-live (λ r. equal_values values (values_at columns r) ≡ true → has_values columns values (live_rows pairs) ≡ true) (drop (length columns) e.key) pairs row is
       (λ i d l f. list_any_at (λ r. equal_values values (values_at columns r)) (live_rows pairs) i d l f) has
 
-  pub is_found : (from : Option Entry) (o : Option Found) → AreAscending entries → from ≡ slice_get (pairs_from values entries) 0 → IfNone o (telling columns values pairs (ahead entries from) ≡ [])
+  pub is_found : (from : Option Entry) (o : Option Found) → AreAscending entries → from ≡ slice_get (pairs_from values entries) 0 → IfNone o (matching_entries columns values pairs (ahead entries from) ≡ [])
       → IfSome o (λ f. IsFirst columns values pairs entries (ahead entries from) f.entry.now f.row.now) → is_some o ≡ has_values columns values (live_rows pairs)
   is_found from None order is none first = sym (none_has (sym (all-ahead columns values pairs entries from order is) ∙ none))
   is_found from (Some f) order is none first = sym (one_has f.entry.now f.row.now first.its first.has)
@@ -307,12 +307,12 @@ module _ (columns : List ℕ) (values : List Datum) (pairs : List Slot) (def : T
   of_entry : (e : Entry) (row : Row) → row_of (drop (length columns) e.key) pairs ≡ Some row → row_with def.key (drop (length columns) e.key) (live_rows pairs) ≡ Some row
   of_entry e row is = sym (rows-find def.key (drop (length columns) e.key) pairs up keyed) ∙ is
 
-  one_with : (e : Entry) (row : Row) → telling columns values pairs entries ≡ e ∷ [] → row_of (drop (length columns) e.key) pairs ≡ Some row → equal_values values (values_at columns row) ≡ true
+  one_with : (e : Entry) (row : Row) → matching_entries columns values pairs entries ≡ e ∷ [] → row_of (drop (length columns) e.key) pairs ≡ Some row → equal_values values (values_at columns row) ≡ true
       → rows_with columns values (live_rows pairs) ≡ row ∷ []
   one_with e row all is has =
       only def.key (λ r. equal_values values (values_at columns r)) (λ r. is_eq (row_order def.key (drop (length columns) e.key) r)) (live_rows pairs) row ascend (of_entry e row is) has
       (λ i d l f.
-      let t = told (λ q. row_of (drop (length columns) q.key) pairs ≡ Some row) i d
+      let t = has_entry (λ q. row_of (drop (length columns) q.key) pairs ≡ Some row) i d
       (subst (All (λ q. row_of (drop (length columns) q.key) pairs ≡ Some row)) (sym all) (All-cons (λ (q : Entry). row_of (drop (length columns) q.key) pairs ≡ Some row) e [] is (All-nil (λ (q : Entry). row_of (drop (length columns) q.key) pairs ≡ Some row)))) l f in
       let same : Some (get_or (live_rows pairs) i d) ≡ Some row = sym t.2 ∙ t.1 in
       cc)
@@ -333,27 +333,27 @@ module _ (columns : List ℕ) (values : List Datum) (pairs : List Slot) (def : T
       (equal_trans (take (length columns) a.key) values (take (length columns) b.key) left (equal_sym (take (length columns) b.key) values right))
       (equal_trans (drop (length columns) a.key) (values_at def.key row) (drop (length columns) b.key) (equal_sym (values_at def.key row) (drop (length columns) a.key) first) second)
 
-  -- what two walks find, the second behind what the first found
-  pub nothing : (from : Option Entry) → AreAscending entries → from ≡ slice_get (pairs_from values entries) 0 → telling columns values pairs (ahead entries from) ≡ []
-      → Some [] ≡ few (rows_with columns values (live_rows pairs))
-  nothing from order is none = sym (ap few (none_with (sym (all-ahead columns values pairs entries from order is) ∙ none)))
+  -- what two walks find, the second after what the first found
+  pub nothing : (from : Option Entry) → AreAscending entries → from ≡ slice_get (pairs_from values entries) 0 → matching_entries columns values pairs (ahead entries from) ≡ []
+      → Some [] ≡ at_most_one (rows_with columns values (live_rows pairs))
+  nothing from order is none = sym (ap at_most_one (none_with (sym (all-ahead columns values pairs entries from order is) ∙ none)))
 
   module _ (from next : Option Entry) (e : Entry) (row : Row) where
     pub one_row : AreAscending entries → from ≡ slice_get (pairs_from values entries) 0 → IsFirst columns values pairs entries (ahead entries from) e row → next ≡ slice_get (pairs_above e.key entries) 0
-        → telling columns values pairs (ahead entries next) ≡ [] → Some (row ∷ []) ≡ few (rows_with columns values (live_rows pairs))
+        → matching_entries columns values pairs (ahead entries next) ≡ [] → Some (row ∷ []) ≡ at_most_one (rows_with columns values (live_rows pairs))
     one_row order is first after none =
-        let rest : telling columns values pairs (pairs_above e.key entries) ≡ [] = sym (ap (telling columns values pairs) (next_above entries e next order after)) ∙ none in
-        sym (ap few (one_with e row (sym (all-ahead columns values pairs entries from order is) ∙ first.rest ∙ ap (λ l. e ∷ l) rest) first.its first.has))
+        let rest : matching_entries columns values pairs (pairs_above e.key entries) ≡ [] = sym (ap (matching_entries columns values pairs) (next_above entries e next order after)) ∙ none in
+        sym (ap at_most_one (one_with e row (sym (all-ahead columns values pairs entries from order is) ∙ first.rest ∙ ap (λ l. e ∷ l) rest) first.its first.has))
 
     pub several : (q : Entry) (other : Row) → AreAscending entries → IsFirst columns values pairs entries (ahead entries from) e row → next ≡ slice_get (pairs_above e.key entries) 0
-        → IsFirst columns values pairs entries (ahead entries next) q other → None ≡ few (rows_with columns values (live_rows pairs))
+        → IsFirst columns values pairs entries (ahead entries next) q other → None ≡ at_most_one (rows_with columns values (live_rows pairs))
     several q other order first after second =
-        let above : All (λ p. key_order p.key e.key ≡ Greater) (telling columns values pairs (ahead entries next)) =
-        All-filter (tells columns values pairs) (λ p. key_order p.key e.key ≡ Greater) (ahead entries next)
+        let above : All (λ p. key_order p.key e.key ≡ Greater) (matching_entries columns values pairs (ahead entries next)) =
+        All-filter (is_matching columns values pairs) (λ p. key_order p.key e.key ≡ Greater) (ahead entries next)
         (subst (All (λ p. key_order p.key e.key ≡ Greater)) (sym (next_above entries e next order after))
         (filtered (λ (p : Entry). is_gt (key_order p.key e.key)) (λ p. key_order p.key e.key ≡ Greater) (λ p f. greater_is (key_order p.key e.key) f) entries)) in
         let later : key_order q.key e.key ≡ Greater =
-        All-head (λ (p : Entry). key_order p.key e.key ≡ Greater) q (telling columns values pairs (pairs_above q.key entries)) (subst (All (λ p. key_order p.key e.key ≡ Greater)) second.rest above) in
+        All-head (λ (p : Entry). key_order p.key e.key ≡ Greater) q (matching_entries columns values pairs (pairs_above q.key entries)) (subst (All (λ p. key_order p.key e.key ≡ Greater)) second.rest above) in
         sym (two (λ r. equal_values values (values_at columns r)) (λ r. is_eq (row_order def.key (drop (length columns) e.key) r)) (λ r. is_eq (row_order def.key (drop (length columns) q.key) r)) (live_rows pairs) row other
         (of_entry e row first.its) (of_entry q other second.its) first.has second.has
         (λ same.
