@@ -12,8 +12,8 @@ use Rattle.psm_table.specs.Runs.{IsIn}
 
 -- the key that is looked for
 abbrev pub probe_key : Probe → List Datum
-probe_key (Number n) = Num n ∷ []
-probe_key (Numbers first second) = Num first ∷ Num second ∷ []
+probe_key (Number n) = Num n.now ∷ []
+probe_key (Numbers first second) = Num first.now ∷ Num second.now ∷ []
 probe_key (One value) = value.now ∷ []
 probe_key (Two first second) = first.now ∷ second.now ∷ []
 probe_key (Of key) = key.now

@@ -1,4 +1,4 @@
-//! Keys that are looked for: numbers, or values that are lent from a row or a list.
+//! Keys that are looked for, lent from a row or a list of values.
 ghost use Rattle.std.specs.Prelude.{◌≡◌, ◌<◌, ◌∷◌, [], length, slice_index_or, IfOk};
 ghost use Rattle.psm_value.specs.declared.datum.Datum.TheVariants.{Null};
 ghost use Rattle.psm_num.specs.Order.{order};
@@ -16,9 +16,9 @@ use std::cmp::Ordering;
 #[derive(Clone, Copy)]
 pub(crate) enum Probe<'a> {
     /// One number.
-    Number(Dec),
+    Number(&'a Dec),
     /// Two numbers.
-    Numbers(Dec, Dec),
+    Numbers(&'a Dec, &'a Dec),
     /// One value.
     One(&'a Datum),
     /// Two values.
@@ -38,11 +38,11 @@ pub(crate) enum Probe<'a> {
     },
 }
 
-/// A side of a comparison: a number, or a value that is lent.
+/// A side of a comparison: a number, or any value.
 #[derive(Clone, Copy)]
 pub(crate) enum Side<'a> {
-    Number(Dec),
-    Lent(&'a Datum),
+    Number(&'a Dec),
+    Value(&'a Datum),
 }
 
 impl<'a> Side<'a> {
@@ -51,8 +51,8 @@ impl<'a> Side<'a> {
         ensures { side_value result ≡ value.now }
     {
         match value {
-            Datum::Num(number) => Side::Number(*number),
-            _ => Side::Lent(value),
+            Datum::Num(number) => Side::Number(number),
+            _ => Side::Value(value),
         }
     }
 
@@ -61,9 +61,9 @@ impl<'a> Side<'a> {
         ensures { result ≡ number_of (side_value self.entry) }
     {
         match self {
-            Side::Number(number) => Some(number),
-            Side::Lent(Datum::Num(number)) => Some(*number),
-            Side::Lent(_) => None,
+            Side::Number(number) => Some(*number),
+            Side::Value(Datum::Num(number)) => Some(*number),
+            Side::Value(_) => None,
         }
     }
 
@@ -72,8 +72,8 @@ impl<'a> Side<'a> {
         ensures { IfOk result (λ copy. copy ≡ side_value self.entry) }
     {
         match self {
-            Side::Number(number) => Ok(Datum::Num(number)),
-            Side::Lent(value) => value.copy(alloc),
+            Side::Number(number) => Ok(Datum::Num(*number)),
+            Side::Value(value) => value.copy(alloc),
         }
     }
 
@@ -82,10 +82,10 @@ impl<'a> Side<'a> {
         ensures { result ≡ data_order (side_value self.entry) (side_value other.entry) }
     {
         match (self, other) {
-            (Side::Number(a), Side::Number(b)) => order_of_numbers(a, b),
-            (Side::Number(a), Side::Lent(b)) => Datum::Num(a).total_cmp(b),
-            (Side::Lent(a), Side::Number(b)) => a.total_cmp(&Datum::Num(b)),
-            (Side::Lent(a), Side::Lent(b)) => a.total_cmp(b),
+            (Side::Number(a), Side::Number(b)) => order_of_numbers(*a, *b),
+            (Side::Number(a), Side::Value(b)) => Datum::Num(*a).total_cmp(b),
+            (Side::Value(a), Side::Number(b)) => a.total_cmp(&Datum::Num(*b)),
+            (Side::Value(a), Side::Value(b)) => a.total_cmp(b),
         }
     }
 }
@@ -97,7 +97,7 @@ impl<'a> Probe<'a> {
         ensures fits { FitsProbe result }
     {
         match value {
-            Datum::Num(number) => Probe::Number(*number),
+            Datum::Num(number) => Probe::Number(number),
             _ => Probe::One(value),
         }
     }
@@ -108,7 +108,7 @@ impl<'a> Probe<'a> {
         ensures fits { FitsProbe result }
     {
         match (first, second) {
-            (Datum::Num(a), Datum::Num(b)) => Probe::Numbers(*a, *b),
+            (Datum::Num(a), Datum::Num(b)) => Probe::Numbers(a, b),
             _ => Probe::Two(first, second),
         }
     }

@@ -1,12 +1,13 @@
 //! Keys as pairs keep them: a value or two numbers without memory of their own, or any number of values in a vector.
-ghost use Rattle.std.specs.Prelude.{◌≡◌, ◌∷◌, [], take, drop, length, IfOk};
+ghost use Rattle.std.specs.Prelude.{◌≡◌, ◌∷◌, [], take, drop, IfOk};
 ghost use Rattle.psm_value.specs.declared.datum.Datum.TheVariants.{Num};
 ghost use Rattle.psm_table.specs.Cuts.{is_past};
-ghost use Rattle.psm_table.specs.Key.{key_order, leading_number};
+ghost use Rattle.psm_table.specs.Key.{key_order, leading_number, values_at, AreColumnsOf};
 ghost use Rattle.psm_table.specs.Map.{prefix_order};
 ghost use Rattle.psm_table.specs.Place.{probe_key, FitsProbe};
 
 use crate::probe::{Probe, order_of, order_of_numbers};
+use crate::row::Row;
 use psm_num::Dec;
 use psm_value::Datum;
 use std::alloc::{AllocError, Global};
@@ -47,12 +48,21 @@ impl StoredKey {
     {
         let sought = probe.narrowed();
         let parts = match sought {
-            Probe::Number(number) => StoredParts::One(Datum::Num(number)),
-            Probe::Numbers(first, second) => StoredParts::Numbers(first, second),
+            Probe::Number(number) => StoredParts::One(Datum::Num(*number)),
+            Probe::Numbers(first, second) => StoredParts::Numbers(*first, *second),
             Probe::One(value) => StoredParts::One(value.copy(alloc)?),
             _ => StoredParts::Many(sought.copied(alloc)?),
         };
         Ok(StoredKey { parts })
+    }
+
+    /// The row's values in the columns.
+    pub(crate) fn of_row(alloc: Global, columns: &[u32], row: &Row) -> Result<StoredKey, AllocError>
+        requires { AreColumnsOf row.now columns.now }
+        ensures { IfOk result (λ key. key ≡ values_at columns.now row.now) }
+    {
+        let row = row.values();
+        StoredKey::of(alloc, Probe::In { columns, row })
     }
 
     /// The same key in memory of its own.
@@ -69,7 +79,7 @@ impl StoredKey {
     {
         match &self.parts {
             StoredParts::One(value) => Probe::one(value),
-            StoredParts::Numbers(first, second) => Probe::Numbers(*first, *second),
+            StoredParts::Numbers(first, second) => Probe::Numbers(first, second),
             StoredParts::Many(values) => Probe::Of(values.as_slice()),
         }
     }
@@ -81,7 +91,7 @@ impl StoredKey {
     {
         match (&self.parts, len) {
             (StoredParts::One(_) | StoredParts::Numbers(_, _), 0) => Probe::Of(&[]),
-            (StoredParts::Numbers(first, _), 1) => Probe::Number(*first),
+            (StoredParts::Numbers(first, _), 1) => Probe::Number(first),
             (StoredParts::Many(values), _) => Probe::Of(&values[..len.min(values.len())]),
             _ => self.probe(),
         }
@@ -94,7 +104,7 @@ impl StoredKey {
     {
         match (&self.parts, width) {
             (_, 0) => self.probe(),
-            (StoredParts::Numbers(_, second), 1) => Probe::Number(*second),
+            (StoredParts::Numbers(_, second), 1) => Probe::Number(second),
             (StoredParts::Many(values), _) => Probe::Of(&values[width.min(values.len())..]),
             _ => Probe::Of(&[]),
         }
@@ -113,9 +123,9 @@ impl StoredKey {
         ensures { result ≡ key_order self.now (probe_key probe.entry) }
     {
         match (&self.parts, probe) {
-            (StoredParts::One(Datum::Num(a)), Probe::Number(b)) => order_of_numbers(*a, b),
+            (StoredParts::One(Datum::Num(a)), Probe::Number(b)) => order_of_numbers(*a, *b),
             (StoredParts::Numbers(a, b), Probe::Numbers(first, second)) => {
-                order_of_pairs(*a, *b, first, second)
+                order_of_pairs(*a, *b, *first, *second)
             }
             (StoredParts::One(value), Probe::One(sought)) => value.total_cmp(sought),
             (StoredParts::Many(values), Probe::Two(first, second)) => {
@@ -159,7 +169,9 @@ pub(crate) fn order_of_prefix(key: &StoredKey, probe: Probe<'_>) -> Ordering
 {
     let sought = probe.narrowed();
     match (&key.parts, sought) {
-        (StoredParts::Numbers(first, _), Probe::Number(number)) => order_of_numbers(*first, number),
+        (StoredParts::Numbers(first, _), Probe::Number(number)) => order_of_numbers(
+            *first, *number,
+        ),
         (StoredParts::Many(values), Probe::One(value)) if !values.is_empty() => {
             order_of(&values[0], value)
         }

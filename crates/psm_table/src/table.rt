@@ -1,4 +1,4 @@
-ghost use Rattle.std.specs.Prelude.{◌≡◌, ◌+◌, ◌≤◌, ◌<◌, ◌↔◌, [], length, slice_index_or, None, Some, IsTrue, is_some, true, false, All, IfSome, IfNone, IfOk, if◌then◌else◌, take};
+ghost use Rattle.std.specs.Prelude.{◌≡◌, ◌+◌, ◌≤◌, ◌<◌, ◌↔◌, [], length, slice_index_or, None, Some, IsTrue, is_some, true, false, IfSome, IfNone, IfOk, if◌then◌else◌, take};
 ghost use Rattle.std.specs.Option.{option_copied, ForSome};
 ghost use Rattle.psm_table.specs.Cuts.{rows_between};
 ghost use Rattle.psm_table.specs.Definition.{IsDefinition, IsRow, IsKey, HasColumns};
@@ -22,6 +22,7 @@ use crate::probe::Probe;
 use crate::referred::{begins, has_row_with, list_of};
 use crate::row::Row;
 use crate::run::insert_reserved;
+use crate::stored::StoredKey;
 use crate::unique::{Matching, has_entry_with, look_up};
 use crate::walk::RowsLeft;
 use psm_list::List;
@@ -464,11 +465,7 @@ impl Table {
         ensures keeps { StillKeeps self.old self.new }
         ensures tidy { IsTidy self.old → IsTidy self.new }
     {
-        let probe = Probe::In {
-            columns: self.def.key.items(),
-            row: row.values(),
-        };
-        let key = StoredKey::of(self.alloc, probe)?;
+        let key = StoredKey::of_row(self.alloc, self.def.key.items(), &row)?;
         self.rows.reserve()?;
         enter(
             self.alloc,

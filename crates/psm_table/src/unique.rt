@@ -1,23 +1,23 @@
 //! Look-ups by a UNIQUE list of columns (ISO/IEC 9075:1992, 8.9).
-ghost use Rattle.std.specs.Prelude.{◌≡◌, [], length, not, true, false, All, IfNone, IfSome};
+ghost use Rattle.std.specs.Prelude.{◌≡◌, [], not, true, false, All, IfNone, IfSome};
 ghost use Rattle.std.specs.Ordering.{is_lt};
 ghost use Rattle.std.specs.Option.{option_copied};
 ghost use Rattle.psm_table.specs.Held.{live_rows, row_of, HasItsKey};
 ghost use Rattle.psm_table.specs.Keyed.{has_values};
 ghost use Rattle.psm_table.specs.Map.{keys_of, prefix_order, AreAscending};
 ghost use Rattle.psm_table.specs.Matching.{at_most_one, matched, rows_with};
-ghost use Rattle.psm_table.specs.Place.{ahead};
+ghost use Rattle.psm_table.specs.Place.{ahead, probe_key, FitsProbe};
 ghost use Rattle.psm_table.specs.Rows.{IsAscending};
 ghost use Rattle.psm_table.specs.State.{HasEntry};
 ghost use Rattle.psm_table.specs.MatchingEntries.{row_having, matching_entries, IsFirst};
 ghost use Rattle.psm_table.specs.Unique.{has_null};
 
 use crate::definition::TableDef;
-use crate::index::key_part;
 use crate::map::{OrderedMap, Pair};
-use crate::probe::{Probe, order_of_prefix};
+use crate::probe::Probe;
 use crate::referred::has_in;
 use crate::row::Row;
+use crate::stored::order_of_prefix;
 use psm_value::Datum;
 
 /// What a look-up by a UNIQUE list finds.
@@ -57,7 +57,7 @@ pub(crate) fn look_up<'a>(
     let Some(first) = first_found(columns, rows, entries, from, values) else {
         return Matching::Nothing;
     };
-    let rest = entries.after(Probe::Of(first.entry.key.values()));
+    let rest = entries.after(first.entry.key.probe());
     match first_found(columns, rows, entries, rest, values) {
         Some(_) => Matching::Several,
         None => Matching::One(first.row),
@@ -99,14 +99,13 @@ fn first_found<'a>(
     let probe = Probe::Of(values);
     let mut next = from;
     'walk: while let Some(entry) = next {
-        let found = entry.key.values();
-        if !order_of_prefix(found, probe).is_eq() {
+        if !order_of_prefix(&entry.key, probe).is_eq() {
             return None;
         }
-        if let Some(row) = row_with(rows, key_part(found, columns.len()), columns, values) {
+        if let Some(row) = row_with(rows, entry.key.rest(columns.len()), columns, values) {
             return Some(Found { entry, row });
         }
-        next = entries.after(Probe::Of(found));
+        next = entries.after(entry.key.probe());
     }
     None
 }
@@ -114,14 +113,15 @@ fn first_found<'a>(
 /// The row of the key, if it has one and this has the values in the columns.
 fn row_with<'a>(
     rows: &'a OrderedMap<Option<Row>>,
-    key: &[Datum],
+    key: Probe<'_>,
     columns: &[u32],
     values: &[Datum],
 ) -> Option<&'a Row>
+    requires fits { FitsProbe key }
     requires filled { has_null values.now ≡ false }
-    ensures { option_copied result ≡ row_having columns.now values.now (row_of key.now rows.now.pairs) }
+    ensures { option_copied result ≡ row_having columns.now values.now (row_of (probe_key key.entry) rows.now.pairs) }
 {
-    match rows.row_at(Probe::Of(key)) {
+    match rows.row_at(key) {
         Some(row) if has_in(row.values(), columns, values) => Some(row),
         _ => None,
     }

@@ -13,7 +13,7 @@ use Rattle.psm_table.proofs.run.Run.insert.Goals as goal
 pub invariant_of-self : goal.invariant_of-self
 invariant_of-self g c =
     let p : Pair g.row.V.Denot = record { key = c.args.key; value = c.args.value } in
-    let here : IsAt c.args.key c.args.self.now c.in-Ok.at = subst (λ k. IsAt k c.args.self.now c.in-Ok.at) c.values.ensures c.in-Ok.ensures.found in
+    let here : IsAt c.args.key c.args.self.now c.in-Ok.at = subst (λ k. IsAt k c.args.self.now c.in-Ok.at) c.probe.ensures.key c.in-Ok.ensures.found in
     let found : IsAt c.args.key c.self.inside.pairs.items c.in-Ok.at = subst (λ l. IsAt c.args.key l c.in-Ok.at) (sym c.self.view_is) here in (
       subst AreAscending (sym (overwritten p c.self.inside.pairs.items c.in-Ok.at found)) (ascending-with_pair p c.self.inside.pairs.items c.self.invariant.0),
       omega (arith, length-set c.self.inside.pairs.items c.in-Ok.at p, c.self.invariant.1),
@@ -25,7 +25,7 @@ invariant_of-self g c =
 pub invariant_of-self-in-Err : goal.invariant_of-self-in-Err
 invariant_of-self-in-Err g c =
     let p : Pair g.row.V.Denot = record { key = c.args.key; value = c.args.value } in
-    let here : IsGap c.args.key c.args.self.now c.in-Err.at = subst (λ k. IsGap k c.args.self.now c.in-Err.at) c.values.ensures c.in-Err.ensures.absent in
+    let here : IsGap c.args.key c.args.self.now c.in-Err.at = subst (λ k. IsGap k c.args.self.now c.in-Err.at) c.probe.ensures.key c.in-Err.ensures.absent in
     let gap : IsGap c.args.key c.self.inside.pairs.items c.in-Err.at = subst (λ l. IsGap c.args.key l c.in-Err.at) (sym c.self.view_is) here in
     let room : length c.insert_reserved.new.items.items ≤ most_pairs = omega (arith, c.insert_reserved.ensures.len, c.requires, ap length c.self.view_is) in (
       subst AreAscending (sym (c.insert_reserved.ensures.items ∙ inserted p c.self.inside.pairs.items c.in-Err.at gap)) (ascending-with_pair p c.self.inside.pairs.items c.self.invariant.0),
@@ -38,13 +38,13 @@ invariant_of-self-in-Err g c =
 pub returns-in-Ok-clause-pairs : goal.returns-in-Ok-clause-pairs
 returns-in-Ok-clause-pairs g c =
     let p : Pair g.row.V.Denot = record { key = c.args.key; value = c.args.value } in
-    let here : IsAt c.args.key c.args.self.now c.in-Ok.at = subst (λ k. IsAt k c.args.self.now c.in-Ok.at) c.values.ensures c.in-Ok.ensures.found in
+    let here : IsAt c.args.key c.args.self.now c.in-Ok.at = subst (λ k. IsAt k c.args.self.now c.in-Ok.at) c.probe.ensures.key c.in-Ok.ensures.found in
     let found : IsAt c.args.key c.self.inside.pairs.items c.in-Ok.at = subst (λ l. IsAt c.args.key l c.in-Ok.at) (sym c.self.view_is) here in
     overwritten p c.self.inside.pairs.items c.in-Ok.at found ∙ ap (with_pair p) c.self.view_is
 
 pub returns-in-Ok-clause-some : goal.returns-in-Ok-clause-some
 returns-in-Ok-clause-some g c =
     let p : Pair g.row.V.Denot = record { key = c.args.key; value = c.args.value } in
-    let here : IsAt c.args.key c.args.self.now c.in-Ok.at = subst (λ k. IsAt k c.args.self.now c.in-Ok.at) c.values.ensures c.in-Ok.ensures.found in
+    let here : IsAt c.args.key c.args.self.now c.in-Ok.at = subst (λ k. IsAt k c.args.self.now c.in-Ok.at) c.probe.ensures.key c.in-Ok.ensures.found in
     let found : IsAt c.args.key c.self.inside.pairs.items c.in-Ok.at = subst (λ l. IsAt c.args.key l c.in-Ok.at) (sym c.self.view_is) here in
     omega (arith, length-set c.self.inside.pairs.items c.in-Ok.at p, found.inside)
