@@ -1,5 +1,5 @@
 //! Look-ups by a UNIQUE list of columns (ISO/IEC 9075:1992, 8.9).
-ghost use Rattle.std.specs.Prelude.{◌≡◌, [], length, not, true, false, All, IfNone, IfSome};
+ghost use Rattle.std.specs.Prelude.{◌≡◌, [], not, true, false, All, IfNone, IfSome};
 ghost use Rattle.std.specs.Ordering.{is_lt};
 ghost use Rattle.std.specs.Option.{option_copied};
 ghost use Rattle.psm_table.specs.Held.{live_rows, row_of, HasItsKey};
