@@ -323,9 +323,9 @@ impl Table {
         RowsLeft::all(&self.rows, downward)
     }
 
-    /// A walk over the rows between two cuts, in ascending order of their keys; downward, in descending order. Where a cut lacks,
-    /// the walk begins or ends with the table. It takes two searches and a third within one run, no memory, and goes on without a
-    /// search.
+    /// A walk over the rows between two cuts, in ascending order of their keys; downward, in descending order. Without a low or a
+    /// high cut it begins or ends with the table. It takes two searches and a third within one run, and no memory; its rows then
+    /// come without a search.
     pub fn rows_between(
         &self,
         low: Option<Cut<'_>>,
@@ -348,9 +348,10 @@ impl Table {
         has_rival(&self.def, &self.rows, unique, row.values())
     }
 
-    /// Whether a row has the values in the columns (ISO/IEC 9075:1992, 11.8). By the columns of the key that is one search, by
-    /// those with which the key begins two, by those of a UNIQUE list or an index one for each row with the values that the table
-    /// keeps, and else a walk over the rows. A column that there isn't counts as null. It takes no memory.
+    /// Whether a row has the values in the columns (ISO/IEC 9075:1992, 11.8). By the columns of the key that takes one search, by
+    /// those with which the key begins at most three, by those of a UNIQUE list or an index two, and two more for each row with
+    /// the values that was taken or put out and is still kept; else it is a walk over the rows. A column that the table doesn't
+    /// have counts as null. It takes no memory.
     pub fn has(&self, columns: &[u32], values: &[Datum]) -> bool
         requires filled { has_null values.now ≡ false }
         ensures { result ≡ has_values columns.now values.now self.now.contents.rows }
@@ -368,8 +369,8 @@ impl Table {
     }
 
     /// Looks rows up by a UNIQUE list (ISO/IEC 9075:1992, 8.9): the one row that has the values in the columns of the list, or that
-    /// none or several have them. Several can have them in the middle of a statement alone. It searches once for each row with the
-    /// values that the table keeps, and takes no memory.
+    /// none or several have them. Several can have them in the middle of a statement alone. It takes two searches for each row with
+    /// the values, also for one that was taken or put out and is still kept, and one more. It takes no memory.
     pub fn by_unique(&self, list: usize, values: &[Datum]) -> Matching<'_>
         requires list { list < length self.now.contents.def.unique }
         requires filled { has_null values.now ≡ false }
