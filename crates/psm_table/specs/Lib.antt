@@ -8,6 +8,7 @@ pub mod Held
 pub mod Index
 pub mod Key
 pub mod Keyed
+pub mod Leading
 pub mod Left
 pub mod Map
 pub mod Mapped

@@ -8,6 +8,7 @@ mod fault;
 mod index;
 mod key;
 mod laws;
+mod leading;
 mod map;
 mod probe;
 mod referred;

@@ -3,10 +3,12 @@ ghost use Rattle.std.specs.Prelude.{◌≡◌, ◌<◌, ◌∷◌, [], length, s
 ghost use Rattle.psm_value.specs.declared.datum.Datum.TheVariants.{Null};
 ghost use Rattle.psm_num.specs.Order.{order};
 ghost use Rattle.psm_value.specs.Order.{data_order};
-ghost use Rattle.psm_table.specs.Key.{key_order, leading_number, number_of};
+ghost use Rattle.psm_table.specs.Key.{key_order};
+ghost use Rattle.psm_table.specs.Leading.{leading_of, number_at, number_of};
 ghost use Rattle.psm_table.specs.Place.{probe_key, FitsProbe};
 ghost use Rattle.psm_table.specs.Side.{side_value};
 
+use crate::leading::Leading;
 use psm_num::Dec;
 use psm_value::Datum;
 use std::alloc::{AllocError, Global};
@@ -175,16 +177,28 @@ impl<'a> Probe<'a> {
         }
     }
 
-    /// The number with which what is looked for begins, if it begins with one.
-    #[tactic(auto, using(crate::proofs::Heads::leading_first, crate::proofs::Heads::leading_none))]
-    pub(crate) fn leading_number(self) -> Option<Dec>
+    /// The number at a place, if there is one.
+    #[tactic(auto, using(crate::proofs::Heads::number_past))]
+    fn number(self, i: usize) -> Option<Dec>
         requires { FitsProbe self }
-        ensures { result ≡ leading_number (probe_key self.entry) }
+        ensures { result ≡ number_at (probe_key self.entry) i }
     {
-        if self.len() == 0 {
-            return None;
+        if i < self.len() {
+            self.value(i).number()
+        } else {
+            None
         }
-        self.value(0).number()
+    }
+
+    /// The numbers with which what is looked for begins.
+    pub(crate) fn leading(self) -> Leading
+        requires { FitsProbe self }
+        ensures { result ≡ leading_of (probe_key self.entry) }
+    {
+        Leading {
+            first: self.number(0),
+            second: self.number(1),
+        }
     }
 
     /// The same values in memory of their own.

@@ -21,7 +21,7 @@ pub(crate) fn locate<V: Drop>(runs: &[Run<V>], probe: Probe<'_>) -> usize
     ensures { 0 < length runs.now → IsIn (probe_key probe.entry) runs.now result }
 {
     let sought = probe.narrowed();
-    let leading = sought.leading_number();
+    let leading = sought.leading();
     let mut low = 0;
     let mut high = runs.len();
     while low < high {
@@ -42,7 +42,7 @@ pub(crate) fn locate_past<V: Drop>(runs: &[Run<V>], probe: Probe<'_>, is_behind:
     requires runs { All IsRun runs.now }
     ensures { 0 < length runs.now → IsTurn (λ p. is_past (probe_key probe.entry) is_behind p.key) runs.now result }
 {
-    let leading = probe.leading_number();
+    let leading = probe.leading();
     let mut low = 0;
     let mut high = runs.len();
     while low < high {

@@ -2,10 +2,12 @@
 ghost use Rattle.std.specs.Prelude.{◌≡◌, ◌∷◌, [], take, drop, IfOk};
 ghost use Rattle.psm_value.specs.declared.datum.Datum.TheVariants.{Num};
 ghost use Rattle.psm_table.specs.Cuts.{is_past};
-ghost use Rattle.psm_table.specs.Key.{key_order, leading_number, values_at, AreColumnsOf};
+ghost use Rattle.psm_table.specs.Key.{key_order, values_at, AreColumnsOf};
+ghost use Rattle.psm_table.specs.Leading.{leading_of};
 ghost use Rattle.psm_table.specs.Map.{prefix_order};
 ghost use Rattle.psm_table.specs.Place.{probe_key, FitsProbe};
 
+use crate::leading::Leading;
 use crate::probe::{Probe, order_of, order_of_numbers};
 use crate::row::Row;
 use psm_num::Dec;
@@ -110,11 +112,11 @@ impl StoredKey {
         }
     }
 
-    /// The number with which the key begins, if it begins with one.
-    pub(crate) fn leading_number(&self) -> Option<Dec>
-        ensures { result ≡ leading_number self.now }
+    /// The numbers with which the key begins.
+    pub(crate) fn leading(&self) -> Leading
+        ensures { result ≡ leading_of self.now }
     {
-        self.probe().leading_number()
+        self.probe().leading()
     }
 
     /// The order of the key and what is looked for.

@@ -4,7 +4,7 @@ use Rattle.std.specs.Prelude.{nat_eq, if◌then◌else◌}
 use Rattle.psm_table.specs.declared.map.Pair.{Pair}
 use Rattle.psm_table.specs.Map.{AreAscending, with_pair}
 use Rattle.psm_table.specs.Place.{IsAt, IsGap}
-use Rattle.psm_table.specs.Key.{leading_number}
+use Rattle.psm_table.specs.Leading.{leading_of}
 use Rattle.psm_table.specs.Runs.{head_of, most_pairs}
 use Rattle.psm_table.proofs.Heads.{head-insert, head-write}
 use Rattle.psm_table.proofs.Pairs.{ascending-with_pair, inserted, overwritten}
@@ -18,7 +18,7 @@ invariant_of-self g c =
       subst AreAscending (sym (overwritten p c.self.inside.pairs.items c.in-Ok.at found)) (ascending-with_pair p c.self.inside.pairs.items c.self.invariant.0),
       omega (arith, length-set c.self.inside.pairs.items c.in-Ok.at p, c.self.invariant.1),
       c.self.invariant.2,
-      c.head_with-self-inside.ensures ∙ ap (λ h. if nat_eq c.in-Ok.at 0 then leading_number c.args.key else h) c.self.invariant.3
+      c.head_with-self-inside.ensures ∙ ap (λ h. if nat_eq c.in-Ok.at 0 then leading_of c.args.key else h) c.self.invariant.3
           ∙ sym (head-write c.self.inside.pairs.items c.in-Ok.at p found.inside),
     )
 
@@ -31,7 +31,7 @@ invariant_of-self-in-Err g c =
       subst AreAscending (sym (c.insert_reserved.ensures.items ∙ inserted p c.self.inside.pairs.items c.in-Err.at gap)) (ascending-with_pair p c.self.inside.pairs.items c.self.invariant.0),
       room,
       omega (arith, c.insert_reserved.ensures.capacity, c.self.invariant.2),
-      c.head_with-self-inside-in-Err.ensures ∙ ap (λ h. if nat_eq c.in-Err.at 0 then leading_number c.args.key else h) c.self.invariant.3
+      c.head_with-self-inside-in-Err.ensures ∙ ap (λ h. if nat_eq c.in-Err.at 0 then leading_of c.args.key else h) c.self.invariant.3
           ∙ sym (ap head_of c.insert_reserved.ensures.items ∙ head-insert c.self.inside.pairs.items c.in-Err.at p gap.inside),
     )
 
