@@ -1,5 +1,5 @@
 -- The number of the line that follows, after one step more.
-use Rattle.std.proofs.Common.{arith, ◌≡◌, ℕ, suc, ◌++◌, List, [], ◌∷◌, Option, Some, None, length, length-append}
+use Rattle.std.proofs.Common.{arith, ◌≡◌, ℕ, suc, ◌++◌, List, [], ◌∷◌, Option, Some, None, length-append}
 use Rattle.std.specs.Prelude.{drop, reverse}
 use Rattle.psm_exprcode.specs.declared.op.Letter.{Letter}
 use Rattle.psm_exprcode.specs.declared.op.Op.{Op}

@@ -10,11 +10,11 @@ use Rattle.psm_resolved.specs.declared.statement.ResolvedArgument.TheVariants as
 use Rattle.psm_resolved.specs.declared.statement.ResolvedDeclaration.{ResolvedDeclaration}
 use Rattle.psm_code.specs.declared.instruction.Instruction.{Instruction}
 use Rattle.psm_codegen.specs.declared.known.Known.{Known}
-use Rattle.psm_codegen.specs.Exprs.{Arguments, Writes}
-use Rattle.psm_codegen.specs.Labels.{Drafted, patched, patched_instruction}
-use Rattle.psm_codegen.specs.Simples.{CallArguments, Declares, Default, Signals, WritesRows, copied, letter_of_slots}
+use Rattle.psm_codegen.specs.Exprs.{Writes}
+use Rattle.psm_codegen.specs.Labels.{Drafted, patched_instruction}
+use Rattle.psm_codegen.specs.Simples.{CallArguments, Declares, Default, Signals, copied, letter_of_slots}
 use Rattle.psm_codegen.specs.Written.{Written, applied, letter_at, takes}
-use Rattle.psm_codegen.proofs.CallForms.{declaration_written, default_null, inout_written, out_written, row_written, signals_with, signals_without}
+use Rattle.psm_codegen.proofs.CallForms.{declaration_written, default_null, inout_written, out_written, signals_with, signals_without}
 use Rattle.psm_codegen.proofs.DraftSteps.{applied_drafted, copied_drafted, here_drafted, takes_drafted}
 use Rattle.psm_codegen.proofs.Drafts.{one, two}
 

@@ -1,6 +1,6 @@
 -- The lines of each form of expression, of those of its parts, with labels.
-use Rattle.std.proofs.Common.{arith, ◌≡◌, ◌+◌, ◌≤◌, ◌<◌, ℕ, suc, true, List, [], ◌∷◌, ◌++◌, Option, Some, None, map, length, take, get_or, ap, refl, sym, ◌∙◌, subst, option_map}
-use Rattle.std.specs.Prelude.{Result, Ok, Err, IfOk}
+use Rattle.std.proofs.Common.{◌≡◌, ◌+◌, ℕ, true, List, [], ◌∷◌, ◌++◌, Option, Some, None, length, ap, refl, sym, ◌∙◌, subst}
+use Rattle.std.specs.Prelude.{Result, IfOk}
 use Rattle.std.specs.declared.alloc.AllocError.{AllocError}
 use Rattle.psm_list.specs.Several.{Several}
 use Rattle.psm_value.specs.declared.datum.Datum.TheVariants as data_of

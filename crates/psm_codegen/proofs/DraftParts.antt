@@ -1,5 +1,5 @@
 -- Steps of all that is written of a routine, with labels.
-use Rattle.std.proofs.Common.{◌≡◌, ℕ, suc, Bool, List, [], ◌∷◌, ◌++◌, length, map, Option, Some, None, ap, refl, sym, subst, ◌∙◌}
+use Rattle.std.proofs.Common.{◌≡◌, ℕ, suc, Bool, List, [], ◌∷◌, ◌++◌, length, map, Some, None, ap, refl, sym, subst, ◌∙◌}
 use Rattle.std.proofs.lemmas.List.{length-map, map-append}
 use Rattle.psm_cond.specs.declared.handlers.ConditionValue.{ConditionValue}
 use Rattle.psm_cond.specs.declared.handlers.Context.{Context}
@@ -17,10 +17,10 @@ use Rattle.psm_codegen.specs.declared.known.Known.{Known}
 use Rattle.psm_codegen.specs.FunctionBuilder.{FunctionBuilder, at, block_entered, next_context, several_values, with_code, with_handler, with_plain}
 use Rattle.psm_codegen.specs.Labels.{Drafted, DraftedParts, patched, patched_context, patched_instruction, patched_parts}
 use Rattle.psm_codegen.specs.Simples.{changed, stored}
-use Rattle.psm_codegen.specs.Statements.{WritesCursors, fetched, jumped, passed}
+use Rattle.psm_codegen.specs.Statements.{WritesCursors, fetched, passed}
 use Rattle.psm_codegen.specs.Statements as written
 use Rattle.psm_codegen.specs.Writing.{BeginsWith}
-use Rattle.psm_codegen.specs.Written.{Written, bound, letters_at, plain, puts, takes, with_label}
+use Rattle.psm_codegen.specs.Written.{Written, bound, letters_at, plain, puts, with_label}
 use Rattle.psm_codegen.proofs.Drafts.{begins-same, one, placed, scope, step}
 use Rattle.psm_codegen.proofs.DraftSteps.{stored_labels}
 use Rattle.psm_codegen.proofs.Patches.{here-patched, patched-plain, patched-puts, patched-stored}

@@ -27,7 +27,7 @@ use Rattle.psm_codegen.specs.declared.enclosing.EnclosingBlock.{EnclosingBlock}
 use Rattle.psm_codegen.specs.declared.known.Known.{Known}
 use Rattle.psm_codegen.specs.Exprs.{Writes}
 use Rattle.psm_codegen.specs.FunctionBuilder.{FunctionBuilder, iterates, leaves, with_code, with_plain}
-use Rattle.psm_codegen.specs.Labels.{Drafted, DraftedParts, patched, patched_block, patched_instruction, patched_parts}
+use Rattle.psm_codegen.specs.Labels.{Drafted, DraftedParts, patched, patched_block, patched_parts}
 use Rattle.psm_codegen.specs.Queries.{QueryMade, item_letters}
 use Rattle.psm_codegen.specs.Simples.{CallArguments, Deletes, Signals, Updates, WritesAnywhere, WritesRows, WritesSimple, changed, condition_items, condition_number, declared_with, letters_of_columns, number_op, procedure_number, retrieved, statement_items, stored}
 use Rattle.psm_codegen.specs.Written.{Written, applied, letter_at, letters_at, plain, puts, takes, with_query}

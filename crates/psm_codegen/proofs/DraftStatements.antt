@@ -1,5 +1,5 @@
 -- The lines of a statement that has statements, with labels.
-use Rattle.std.proofs.Common.{◌≡◌, ℕ, suc, Bool, true, false, nat_eq, List, [], ◌∷◌, map, length, Option, Some, None, ap, sym, refl, ◌∙◌}
+use Rattle.std.proofs.Common.{◌≡◌, ℕ, suc, false, List, [], ◌∷◌, map, length, Some, None, ap, sym, ◌∙◌}
 use Rattle.std.proofs.lemmas.List.{length-map}
 use Rattle.psm_exprcode.specs.declared.op.Letter.{Letter}
 use Rattle.psm_exprcode.specs.declared.op.Letter.TheVariants.{B, N}
@@ -11,17 +11,15 @@ use Rattle.psm_resolved.specs.declared.statement.ResolvedBranch.{ResolvedBranch,
 use Rattle.psm_resolved.specs.declared.statement.ResolvedCursor.{ResolvedCursor}
 use Rattle.psm_resolved.specs.declared.statement.ResolvedFor.{ResolvedFor}
 use Rattle.psm_resolved.specs.declared.statement.ResolvedHandler.{ResolvedHandler, out-ResolvedHandler}
-use Rattle.psm_resolved.specs.declared.statement.ResolvedSimple.{ResolvedSimple}
-use Rattle.psm_resolved.specs.declared.statement.ResolvedStatement.{ResolvedStatement, out-ResolvedStatement}
-use Rattle.psm_resolved.specs.declared.statement.ResolvedStatement.TheOpen.{ResolvedStatement-F}
+use Rattle.psm_resolved.specs.declared.statement.ResolvedStatement.{ResolvedStatement}
 use Rattle.psm_resolved.specs.declared.statement.ResolvedStatement.TheOpen as layers
 use Rattle.psm_codegen.specs.declared.enclosing.EnclosingBlock.{EnclosingBlock}
 use Rattle.psm_codegen.specs.declared.enclosing.EnclosingBlock.TheVariants.{Loop, Block, Rows}
 use Rattle.psm_codegen.specs.declared.known.Known.{Known}
 use Rattle.psm_codegen.specs.Exprs.{Writes}
 use Rattle.psm_codegen.specs.FunctionBuilder.{FunctionBuilder, at, block_entered, next_context, with_code, with_handler, with_plain}
-use Rattle.psm_codegen.specs.Labels.{Drafted, DraftedParts, patched, patched_block, patched_context, patched_parts}
-use Rattle.psm_codegen.specs.Simples.{Declares, WritesSimple}
+use Rattle.psm_codegen.specs.Labels.{Drafted, DraftedParts, patched_block, patched_context, patched_parts}
+use Rattle.psm_codegen.specs.Simples.{Declares}
 use Rattle.psm_codegen.specs.Statements as written
 use Rattle.psm_codegen.specs.Statements.{WritesBranches, WritesComparisons, WritesCursors, WritesElse, WritesHandlers, WritesStatement, WritesStatements, fetched, jumped, passed}
 use Rattle.psm_codegen.specs.StatementForms.{WritesForm}

@@ -1,4 +1,4 @@
-use Rattle.std.proofs.Common.{ap, refl, sym, ◌∙◌}
+use Rattle.std.proofs.Common.{ap, sym, ◌∙◌}
 use Rattle.psm_resolved.specs.declared.statement.ResolvedSimple.TheVariants as simples
 use Rattle.psm_codegen.proofs.CallForms.{ok_as}
 use Rattle.psm_codegen.proofs.DraftSimples.{anywhere_drafted, iterate_drafted, leave_drafted}
