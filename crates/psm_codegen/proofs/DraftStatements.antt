@@ -23,7 +23,7 @@ use Rattle.psm_codegen.specs.Simples.{Declares}
 use Rattle.psm_codegen.specs.Statements as written
 use Rattle.psm_codegen.specs.Statements.{WritesBranches, WritesComparisons, WritesCursors, WritesElse, WritesHandlers, WritesStatement, WritesStatements, fetched, jumped, passed}
 use Rattle.psm_codegen.specs.StatementForms.{WritesForm}
-use Rattle.psm_codegen.specs.Written.{applied, bound, last_letter, takes, taken, with_label}
+use Rattle.psm_codegen.specs.Written.{Written, applied, bound, last_letter, takes, taken, with_label}
 use Rattle.psm_codegen.proofs.Counts.{here-applied, here-takes}
 use Rattle.psm_codegen.proofs.DraftParts.{cursors_parts, entered_parts, fetched_parts, handler_parts, parts_alone, passed_parts, placed_parts, plain_parts, puts_parts, scoped_parts}
 use Rattle.psm_codegen.proofs.Drafts.{four, one, six, three, two}
@@ -145,11 +145,13 @@ handler_drafted {context = context} {number = number} {inner = inner} {h = h} {p
     three (handler_parts context (out-ResolvedHandler h).kind (out-ResolvedHandler h).values h3) x (plain_parts inner (instruction.EndAction number) h4)
     (λ σ a x c hs r ys. handler_written action h0 h1 (h2 ∙ next-patched σ p) a x c hs r ys)
 
--- ---- a CASE without ELSE
+-- ---- a CASE without ELSE. What is seen inside of the parts is i
 
-pub no_case_drafted : {context resume : ℕ} {p l t q : FunctionBuilder} → resume ≡ length p.code.labels → l ≡ with_code (with_label None p.code) p → t ≡ with_code (takes context resume instruction.NoCase 0 l.code) l → q ≡ with_code (bound resume t.code) t
-    → DraftedParts (λ σ y z. z ≡ with_code (takes context (suc (at y)) instruction.NoCase 0 y.code) y) p q
-no_case_drafted {context} {resume} {p} n m h e = one (scoped_parts n m (puts_parts context resume instruction.NoCase 0 [] h) e)
+pub no_case_drafted : {context resume : ℕ} {p l i q : FunctionBuilder} {v : Written} → resume ≡ length p.code.labels → l ≡ with_code (with_label None p.code) p → i ≡ l → v ≡ takes context resume instruction.NoCase 0 i.code
+    → q ≡ with_code (bound resume v) i → DraftedParts (λ σ y z. z ≡ with_code (takes context (suc (at y)) instruction.NoCase 0 y.code) y) p q
+no_case_drafted {context} {resume} {p} {l} {i} {q} {v} n m s h e =
+    let raised : with_code v i ≡ with_code (takes context resume instruction.NoCase 0 l.code) l = ap (λ w. with_code w i) h ∙ ap (λ z. with_code (takes context resume instruction.NoCase 0 z.code) z) s in
+    one (scoped_parts n m (puts_parts context resume instruction.NoCase 0 [] raised) e)
     (λ σ s.
     let v = patched_parts σ p in
     s.0 ∙ ap (λ k. with_code (takes context k instruction.NoCase 0 v.code) v) (s.1 ∙ ap at s.0 ∙ here-takes context (σ resume) instruction.NoCase 0 v.code))

@@ -82,7 +82,7 @@ still-function functions.CharLength σ = refl
 still-function functions.Upper σ = refl
 still-function functions.Lower σ = refl
 
-still-number : (n : ResolvedNumber) → Still (number_op n)
+pub still-number : (n : ResolvedNumber) → Still (number_op n)
 still-number (numbers.Constant n) σ = refl
 still-number (numbers.Variable slot) σ = refl
 

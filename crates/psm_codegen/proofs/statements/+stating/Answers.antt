@@ -1,6 +1,7 @@
-use Rattle.std.proofs.Common.{ap, map, sym, ◌∙◌, None, Some}
+use Rattle.std.proofs.Common.{◌∷◌, ap, map, sym, ◌∙◌, None, Some}
 use Rattle.psm_resolved.specs.declared.statement.ResolvedStatement.{ResolvedStatement, out-ResolvedStatement}
 use Rattle.psm_resolved.specs.declared.statement.ResolvedStatement.TheVariants as statements
+use Rattle.psm_codegen.specs.declared.enclosing.EnclosingBlock.TheVariants.{Loop}
 use Rattle.psm_codegen.specs.Labels.{patched_block}
 use Rattle.psm_codegen.specs.Statements.{WritesBranches, WritesComparisons, WritesHandlers, WritesStatements, more, none, no_branch, no_comparison, no_handler}
 use Rattle.psm_codegen.proofs.CallForms.{ok_as}
@@ -53,7 +54,7 @@ pub repeated-returns : goal.repeated-returns
 repeated-returns t c = ok_as c.take.result (λ a. repeat_drafted c.args.enclosing.now c.args.level c.args.list.now c.args.until.now c.in_ok-start.ensures.number c.in_ok-start.ensures.labels c.in_ok-again.ensures.number c.in_ok-again.ensures.labels c.in_ok-plain.ensures c.in_ok-within.ensures c.in_ok-bind.ensures c.in_ok-evaluated.ensures.written c.in_ok-evaluated.ensures.alone a) c.take.ensures
 
 pub over_rows-returns : goal.over_rows-returns
-over_rows-returns t c = ok_as c.plain-2.result (λ a. for_drafted c.args.enclosing.now c.args.level c.args.head.now c.args.list.now c.in_ok-cursor.ensures c.in_ok-number.ensures c.in_ok-out.ensures.number c.in_ok-out.ensures.labels c.in_ok-inner.ensures.number c.in_ok-inner.ensures.entered c.in_ok-open.ensures c.in_ok-again.ensures.number c.in_ok-again.ensures.labels c.in_ok-plain.ensures c.in_ok-fetch_row.ensures (within_same (c.as_slice.ensures.value ∙ c.in_ok-all.ensures) c.in_ok-within.ensures) c.in_ok-jump.ensures c.in_ok-bind.ensures a) c.plain-2.ensures
+over_rows-returns t c = ok_as c.plain-2.result (λ a. for_drafted c.args.enclosing.now c.args.level c.args.head.now c.args.list.now c.in_ok-cursor.ensures c.in_ok-number.ensures c.in_ok-out.ensures.number c.in_ok-out.ensures.labels c.in_ok-inner.ensures.number c.in_ok-inner.ensures.entered c.in_ok-open.ensures c.in_ok-again.ensures.number c.in_ok-again.ensures.labels c.in_ok-plain.ensures c.in_ok-fetch_row.ensures (within_same (ap (λ outer. Loop c.args.level c.in_ok-out.out c.in_ok-again.again ∷ outer) (c.as_slice.ensures.value ∙ c.in_ok-all.ensures)) c.in_ok-within.ensures) c.in_ok-jump.ensures c.in_ok-bind.ensures a) c.plain-2.ensures
 
 pub within-returns : goal.within-returns
 within-returns t c = ok_as c.statements.result (within_same (c.as_slice.ensures.value ∙ c.in_ok-all.ensures)) c.statements.ensures
