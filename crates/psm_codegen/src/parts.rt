@@ -1,5 +1,5 @@
 //! What is written of a routine.
-ghost use Rattle.std.specs.Prelude.{◌≡◌, ◌<◌, ◌^◌, [], ◌∷◌, ◌++◌, None, Some, length, map, suc, IfOk};
+ghost use Rattle.std.specs.Prelude.{◌≡◌, ◌<◌, ◌^◌, [], None, Some, length, map, suc, IfOk};
 ghost use Rattle.psm_codegen.specs.declared.known.Known.{Known};
 ghost use Rattle.psm_codegen.specs.FunctionBuilder.{at, block_entered, next_context, several_values, with_code, with_handler, with_plain};
 ghost use Rattle.psm_codegen.specs.Labels.{line_of, patched_context, patched_line};
