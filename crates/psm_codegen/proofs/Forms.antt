@@ -1,5 +1,5 @@
 -- The lines of each form of expression, of those of its parts.
-use Rattle.std.proofs.Common.{arith, ◌≡◌, ◌+◌, ℕ, suc, true, List, [], ◌∷◌, Option, Some, None, map, length, ap, sym, ◌∙◌, subst, option_map}
+use Rattle.std.proofs.Common.{◌≡◌, ℕ, suc, true, List, [], ◌∷◌, Option, Some, None, length, ap, sym, ◌∙◌, subst}
 use Rattle.std.specs.Prelude.{Result, Ok, Err, IfOk}
 use Rattle.std.specs.declared.alloc.AllocError.{AllocError}
 use Rattle.psm_list.specs.Several.{Several}
@@ -20,9 +20,7 @@ use Rattle.psm_simulation.specs.Expressions.{Layer, is_straight, operands_of, op
 use Rattle.psm_codegen.specs.declared.known.Known.{Known}
 use Rattle.psm_codegen.specs.Exprs.{Arguments, Compares, Firsts, Joins, Otherwise, Whens, Writes, WritesAll, call, coalesce, column, compare, compared, else_written, exists, function_number, logical_operator, no_else, no_more, no_when, null, scalar, searched, straight, straight_letter, when}
 use Rattle.psm_codegen.specs.Queries.{QueryMade, item_letters}
-use Rattle.psm_codegen.specs.Sizes.{each_with, else_lines, expr_lines, when_lines}
 use Rattle.psm_codegen.specs.Written.{Written, all_applied, applied, here, last_letter, letter_at, letters_at, puts, taken, with_query}
-use Rattle.psm_codegen.proofs.Counts.{counts-compares, counts-firsts, counts-otherwise, counts-whens, counts-writes, here-taken}
 
 -- what is written goes on, where the other thing is known
 pub ok_as : {P Q : Type 0} (r : Result (Unit {0}) AllocError) → (P → Q) → IfOk r (λ _. P) → IfOk r (λ _. Q)
@@ -40,9 +38,9 @@ module _ {known : Known} {context resume : ℕ} where
   straight_at {k = k} {w = w} {v = v} e layer q = subst (λ l. is_straight l ≡ true → WritesAll known context resume (operands_of l) w v
       → Writes known context resume k e w (all_applied context resume (length (operands_of l)) (straight_letter known l v) (operations_of l) v)) q (λ h a. straight h a)
 
-  pub straight_written : {w v : Written} (k : Letter) (e : ResolvedExpr) (layer : Layer) (new : Written) (r : Result (Unit {0}) AllocError) → out-ResolvedExpr e ≡ layer → is_straight layer ≡ true → WritesAll known context resume (operands_of layer) w v
-      → IfOk r (λ _. new ≡ all_applied context resume (length (operands_of layer)) (straight_letter known layer v) (operations_of layer) v) → IfOk r (λ _. Writes known context resume k e w new)
-  straight_written {w = w} k e layer new r q h a b = ok_as r (λ n. subst (λ x. Writes known context resume k e w x) (sym n) (straight_at e layer q h a)) b
+  pub straight_written : {w v : Written} (k : Letter) (e : ResolvedExpr) (layer : Layer) (new : Written) → out-ResolvedExpr e ≡ layer → is_straight layer ≡ true → WritesAll known context resume (operands_of layer) w v
+      → new ≡ all_applied context resume (length (operands_of layer)) (straight_letter known layer v) (operations_of layer) v → Writes known context resume k e w new
+  straight_written {w = w} k e layer new q h a n = subst (λ x. Writes known context resume k e w x) (sym n) (straight_at e layer q h a)
 
   -- ---- NULL, and a column
 
@@ -96,20 +94,16 @@ module _ {known : Known} {context resume : ℕ} where
 
   -- ---- CASE and COALESCE
 
-  pub searched_one : {k : Letter} {w u j t new : Written} (end next : ℕ) (x : ResolvedWhen) → next ≡ here u + 1 + expr_lines (out-ResolvedWhen x).result + 1 → Writes known context resume B (out-ResolvedWhen x).test w u
+  pub searched_one : {k : Letter} {w u j t new : Written} (end next : ℕ) (x : ResolvedWhen) → next ≡ suc (here t) → Writes known context resume B (out-ResolvedWhen x).test w u
       → j ≡ taken context resume (op.JumpUnlessTrue next) u → Writes known context resume k (out-ResolvedWhen x).result j t → new ≡ taken context resume (op.Jump end) t → Whens known context resume k end (x ∷ []) w new
-  searched_one {k = k} {w = w} {u = u} {j = j} {t = t} end next x h a q b n =
-      let begins : here j ≡ here u + 1 = omega (arith, ap here q, here-taken context resume (op.JumpUnlessTrue next) u) in
-      let to : next ≡ suc (here t) = omega (arith, h, begins, counts-writes b) in
+  searched_one {k = k} {w = w} {u = u} {j = j} {t = t} end next x to a q b n =
       let result = subst (λ z. Writes known context resume k (out-ResolvedWhen x).result z t) (q ∙ ap (λ i. taken context resume (op.JumpUnlessTrue i) u) to) b in
       subst (λ z. Whens known context resume k end (x ∷ []) w z) (sym n) (when a result no_when)
 
-  pub compared_one : {k : Letter} {w d u q j x t new : Written} (end next : ℕ) (letter : Letter) (c : ResolvedWhen) → letter ≡ last_letter w → next ≡ here q + 2 + expr_lines (out-ResolvedWhen c).result + 1
+  pub compared_one : {k : Letter} {w d u q j x t new : Written} (end next : ℕ) (letter : Letter) (c : ResolvedWhen) → letter ≡ last_letter w → next ≡ suc (here t)
       → d ≡ applied context resume op.Duplicate 0 letter w → Writes known context resume letter (out-ResolvedWhen c).test d u → q ≡ applied context resume op.Equal 2 B u → j ≡ taken context resume (op.JumpUnlessTrue next) q
       → x ≡ taken context resume op.Drop j → Writes known context resume k (out-ResolvedWhen c).result x t → new ≡ applied context resume (op.Jump end) 1 letter t → Compares known context resume k end (c ∷ []) w new
-  compared_one {k = k} {w = w} {d = d} {u = u} {q = q} {j = j} {x = x} {t = t} end next letter c l h hd a hq hj hx b n =
-      let begins : here x ≡ here q + 2 = omega (arith, ap here hx, here-taken context resume op.Drop j, ap here hj, here-taken context resume (op.JumpUnlessTrue next) q) in
-      let to : next ≡ suc (here t) = omega (arith, h, begins, counts-writes b) in
+  compared_one {k = k} {w = w} {d = d} {u = u} {q = q} {j = j} {x = x} {t = t} end next letter c l to hd a hq hj hx b n =
       let from : x ≡ taken context resume op.Drop (taken context resume (op.JumpUnlessTrue (suc (here t))) (applied context resume op.Equal 2 B u)) =
       hx ∙ ap (taken context resume op.Drop) (hj ∙ ap (λ i. taken context resume (op.JumpUnlessTrue i) q) to ∙ ap (taken context resume (op.JumpUnlessTrue (suc (here t)))) hq) in
       let result = subst (λ z. Writes known context resume k (out-ResolvedWhen c).result z t) from b in
@@ -118,20 +112,17 @@ module _ {known : Known} {context resume : ℕ} where
       subst (λ z. Compares known context resume k end (c ∷ []) w z) (sym (n ∙ ap (λ i. applied context resume (op.Jump end) 1 i t) l)) (compare test result no_more)
 
   pub searched_written : {k : Letter} {w u v new : Written} (e : ResolvedExpr) (whens : Several ResolvedWhen) (otherwise : Option ResolvedExpr) (scale : Option ℕ) (end : ℕ) (letter : Letter) → out-ResolvedExpr e ≡ layers.Case None whens otherwise scale
-      → letter ≡ row_types.letter_at scale → end ≡ here w + each_with 2 (map when_lines (listed whens)) + else_lines (option_map expr_lines otherwise) → Whens known context resume letter end (listed whens) w u
+      → letter ≡ row_types.letter_at scale → end ≡ here v → Whens known context resume letter end (listed whens) w u
       → Otherwise known context resume letter otherwise u v → new ≡ all_applied context resume 1 N (scaling scale) v → Writes known context resume k e w new
-  searched_written {k = k} {w = w} {u = u} {v = v} e whens otherwise scale end letter q l h a b n =
-      let to : end ≡ here v = omega (arith, h, counts-whens a, counts-otherwise b) in
+  searched_written {k = k} {w = w} {u = u} {v = v} e whens otherwise scale end letter q l to a b n =
       let tests : Whens known context resume (row_types.letter_at scale) (here v) (listed whens) w u = subst (λ i. Whens known context resume i (here v) (listed whens) w u) l (subst (λ i. Whens known context resume letter i (listed whens) w u) to a) in
       subst (λ x. Writes known context resume k e w x) (sym n) (searched whens otherwise scale q tests (subst (λ i. Otherwise known context resume i otherwise u v) l b))
 
   pub compared_written : {k : Letter} {w t u d v new : Written} (e operand : ResolvedExpr) (whens : Several ResolvedWhen) (otherwise : Option ResolvedExpr) (scale : Option ℕ) (end : ℕ) (letter : Letter)
-      → out-ResolvedExpr e ≡ layers.Case (Some operand) whens otherwise scale → letter ≡ row_types.letter_at scale → end ≡ here t + each_with 5 (map when_lines (listed whens)) + 1 + else_lines (option_map expr_lines otherwise)
+      → out-ResolvedExpr e ≡ layers.Case (Some operand) whens otherwise scale → letter ≡ row_types.letter_at scale → end ≡ here v
       → Writes known context resume N operand w t → Compares known context resume letter end (listed whens) t u → d ≡ taken context resume op.Drop u → Otherwise known context resume letter otherwise d v
       → new ≡ all_applied context resume 1 N (scaling scale) v → Writes known context resume k e w new
-  compared_written {k = k} {w = w} {t = t} {u = u} {d = d} {v = v} e operand whens otherwise scale end letter q l h o a hd b n =
-      let begins : here d ≡ here u + 1 = omega (arith, ap here hd, here-taken context resume op.Drop u) in
-      let to : end ≡ here v = omega (arith, h, begins, counts-compares a, counts-otherwise b) in
+  compared_written {k = k} {w = w} {t = t} {u = u} {d = d} {v = v} e operand whens otherwise scale end letter q l to o a hd b n =
       let tests : Compares known context resume (row_types.letter_at scale) (here v) (listed whens) t u =
       subst (λ i. Compares known context resume i (here v) (listed whens) t u) l (subst (λ i. Compares known context resume letter i (listed whens) t u) to a) in
       let other : Otherwise known context resume (row_types.letter_at scale) otherwise (taken context resume op.Drop u) v =
@@ -139,10 +130,9 @@ module _ {known : Known} {context resume : ℕ} where
       subst (λ x. Writes known context resume k e w x) (sym n) (compared operand whens otherwise scale q o tests other)
 
   pub coalesce_written : {k : Letter} {w v new : Written} (e : ResolvedExpr) (values : Several ResolvedExpr) (scale : Option ℕ) (end : ℕ) (letter : Letter) → out-ResolvedExpr e ≡ layers.Coalesce values scale → letter ≡ row_types.letter_at scale
-      → end ≡ here w + (expr_lines values.first + each_with 1 (map expr_lines values.rest)) → Firsts known context resume letter end values.first values.rest w v → new ≡ all_applied context resume 1 N (scaling scale) v
+      → end ≡ here v → Firsts known context resume letter end values.first values.rest w v → new ≡ all_applied context resume 1 N (scaling scale) v
       → Writes known context resume k e w new
-  coalesce_written {k = k} {w = w} {v = v} e values scale end letter q l h a n =
-      let to : end ≡ here v = omega (arith, h, counts-firsts a) in
+  coalesce_written {k = k} {w = w} {v = v} e values scale end letter q l to a n =
       let rest : Firsts known context resume (row_types.letter_at scale) (here v) values.first values.rest w v =
       subst (λ i. Firsts known context resume i (here v) values.first values.rest w v) l (subst (λ i. Firsts known context resume letter i values.first values.rest w v) to a) in
       subst (λ x. Writes known context resume k e w x) (sym n) (coalesce values scale q rest)

@@ -1,5 +1,4 @@
 pub mod Growth
-pub mod Counting
 pub mod Counts
 pub mod Evaluators
 pub mod Querying
@@ -14,6 +13,13 @@ pub mod Codes
 pub mod ItemLetters
 pub mod Ends
 pub mod Forms
+pub mod Drafts
+pub mod DraftLists
+pub mod Patches
+pub mod DraftSteps
+pub mod DraftForms
+pub mod DraftParts
+pub mod Patching
 pub mod GrowthSimples
 pub mod StandingSimples
 pub mod FileKnowns
@@ -33,8 +39,8 @@ pub mod SimpleForms
 pub mod ChangeForms
 pub mod Dropping
 pub mod CallForms
-pub mod StatementCounting
-pub mod StatementCounts
-pub mod LastItems
+pub mod DraftCalls
+pub mod DraftSimples
 pub mod StatementForms
+pub mod DraftStatements
 pub mod RoutineForms

@@ -63,7 +63,7 @@ known_of file routine = record {
 -- nothing is written yet, and the conditions without an SQLSTATE are declared
 abbrev pub no_parts : ResolvedRoutine → FunctionBuilder
 no_parts routine = record {
-  code = record { lines = []; stack = []; queries = [] };
+  code = record { lines = []; stack = []; queries = []; labels = [] };
   contexts = [];
   handlers = [];
   declared = map (λ name. declares.Named name) routine.conditions;

@@ -5,11 +5,11 @@ pub mod Nulls
 pub mod Exprs
 pub mod Writing
 pub mod Outside
-pub mod Sizes
 pub mod FunctionBuilder
+pub mod Labels
+pub mod Patching
 pub mod Simples
 pub mod Statements
-pub mod StatementSizes
 pub mod StatementForms
 pub mod Files
 pub mod FileKnown

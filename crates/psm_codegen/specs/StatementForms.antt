@@ -1,5 +1,5 @@
--- What is written for a form of statement, where the line after it is known.
-use Rattle.std.specs.Prelude.{◌≡◌, ◌+◌, ℕ, List, map}
+-- What is written for a form of statement, where the label of the line after it stands for a line.
+use Rattle.std.specs.Prelude.{◌≡◌, ℕ, List}
 use Rattle.psm_resolved.specs.declared.statement.ResolvedBlock.{ResolvedBlock}
 use Rattle.psm_resolved.specs.declared.statement.ResolvedBranch.{ResolvedBranch}
 use Rattle.psm_resolved.specs.declared.statement.ResolvedHandler.{ResolvedHandler}
@@ -9,8 +9,6 @@ use Rattle.psm_codegen.specs.declared.enclosing.EnclosingBlock.{EnclosingBlock}
 use Rattle.psm_codegen.specs.declared.known.Known.{Known}
 use Rattle.psm_codegen.specs.FunctionBuilder.{FunctionBuilder, at}
 use Rattle.psm_codegen.specs.Statements.{WritesStatement}
-use Rattle.psm_codegen.specs.StatementSizes.{frame_of, statement_lines}
 
 abbrev pub WritesForm : Known → ℕ → ℕ → List EnclosingBlock → ResolvedStatement-F ResolvedStatement ResolvedBlock ResolvedBranch ResolvedHandler → FunctionBuilder → FunctionBuilder → Type 0
-WritesForm known context end enclosing form p q =
-    (s : ResolvedStatement) → out-ResolvedStatement s ≡ form → end ≡ at p + statement_lines s (map frame_of enclosing) → WritesStatement known context enclosing s p q
+WritesForm known context end enclosing form p q = (s : ResolvedStatement) → out-ResolvedStatement s ≡ form → end ≡ at q → WritesStatement known context enclosing s p q

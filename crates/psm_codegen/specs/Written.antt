@@ -1,5 +1,5 @@
 -- Lines that are written, one after another.
-use Rattle.std.specs.Prelude.{ℕ, List, [], ◌∷◌, ◌++◌, drop, length, reverse, slice_get, Option, Some, None}
+use Rattle.std.specs.Prelude.{ℕ, List, [], ◌∷◌, ◌++◌, drop, length, reverse, slice_get, slice_set, Option, Some, None}
 use Rattle.psm_exprcode.specs.declared.op.Letter.{Letter}
 use Rattle.psm_exprcode.specs.declared.op.Op.{Op}
 use Rattle.psm_exprcode.specs.declared.query.Query.{Query}
@@ -8,11 +8,13 @@ use Rattle.psm_code.specs.declared.instruction.Instruction.TheVariants as instru
 use Rattle.psm_code.specs.declared.lines.CodeLine.{CodeLine}
 use Rattle.psm_resolved.specs.Written.{letter_or}
 
--- the lines so far, the letters of the operands after them, the last one first, and the queries of the routine so far
+-- the lines so far, the letters of the operands after them, the last one first, the queries of the routine so far, and the labels: for each
+-- the line to which it is bound. Where lines have numbers of lines and none of labels, there is no label
 pub record Written : Type 0 where
   pub lines : List CodeLine
   pub stack : List Letter
   pub queries : List Query
+  pub labels : List (Option ℕ)
 
 -- the number of the line that follows
 abbrev pub here : Written → ℕ
@@ -50,6 +52,16 @@ taken context resume o w = takes context resume (instruction.Operation o) 1 w
 -- a query more
 abbrev pub with_query : Query → Written → Written
 with_query q w = record w { queries = w.queries ++ q ∷ [] }
+
+-- ---- labels
+
+-- a label more, which is bound to a line or to none
+abbrev pub with_label : Option ℕ → Written → Written
+with_label line w = record w { labels = w.labels ++ line ∷ [] }
+
+-- a label is bound to the line that follows
+abbrev pub bound : ℕ → Written → Written
+bound label w = record w { labels = slice_set w.labels label (Some (here w)) }
 
 -- ---- letters
 

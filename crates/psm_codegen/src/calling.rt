@@ -1,5 +1,6 @@
 //! Arguments of CALL, rows of INSERT, declarations and messages of conditions: what is evaluated before a statement does its work.
 ghost use Rattle.std.specs.Prelude.{◌≡◌, ◌∷◌, ◌<◌, ◌+◌, ◌≤◌, IfOk};
+ghost use Rattle.psm_codegen.specs.Labels.{Drafted, patched_instruction};
 ghost use Rattle.psm_codegen.specs.Simples.{CallArguments, Declares, Default, Signals, WritesRows, letter_of_slots};
 ghost use Rattle.psm_codegen.specs.Written.{Written};
 
@@ -23,7 +24,7 @@ pub(crate) fn call_arguments(
     letters: &[Letter],
     list: &List<ResolvedArgument>,
 ) -> Result<(), AllocError>
-    ensures { IfOk result (λ _. CallArguments emit_context.entry.known.now emit_context.entry.context emit_context.entry.resume letters.now 0 list.now out.old out.new) }
+    ensures { IfOk result (λ _. Drafted (λ σ. CallArguments emit_context.entry.known.now emit_context.entry.context (σ emit_context.entry.resume) letters.now 0 list.now) out.old out.new) }
 {
     let mut place = 0usize;
     for argument in list.items() {
@@ -41,7 +42,7 @@ fn call_argument(
     argument: &ResolvedArgument,
 ) -> Result<usize, AllocError>
     requires { place < usize.MAX }
-    ensures written { IfOk result (λ next. (others : _) (v : Written) → CallArguments emit_context.entry.known.now emit_context.entry.context emit_context.entry.resume letters.now next others out.new v → CallArguments emit_context.entry.known.now emit_context.entry.context emit_context.entry.resume letters.now place (argument.now ∷ others) out.old v) }
+    ensures written { IfOk result (λ next. Drafted (λ σ w u. (others : _) (v : Written) → CallArguments emit_context.entry.known.now emit_context.entry.context (σ emit_context.entry.resume) letters.now next others u v → CallArguments emit_context.entry.known.now emit_context.entry.context (σ emit_context.entry.resume) letters.now place (argument.now ∷ others) w v) out.old out.new) }
     ensures near { IfOk result (λ next. next ≤ place + 1) }
 {
     match argument {
@@ -72,7 +73,7 @@ pub(crate) fn rows(
     letters: &[Letter],
     list: &List<List<Boxed<ResolvedExpr>>>,
 ) -> Result<(), AllocError>
-    ensures { IfOk result (λ _. WritesRows emit_context.entry.known.now emit_context.entry.context emit_context.entry.resume letters.now list.now out.old out.new) }
+    ensures { IfOk result (λ _. Drafted (λ σ. WritesRows emit_context.entry.known.now emit_context.entry.context (σ emit_context.entry.resume) letters.now list.now) out.old out.new) }
 {
     for row in list.items() {
         arguments(out, emit_context, letters, row)?;
@@ -86,7 +87,7 @@ pub(crate) fn declares(
     emit_context: EmitContext<'_>,
     list: &List<Boxed<ResolvedDeclaration>>,
 ) -> Result<(), AllocError>
-    ensures { IfOk result (λ _. Declares emit_context.entry.known.now emit_context.entry.context emit_context.entry.resume list.now out.old out.new) }
+    ensures { IfOk result (λ _. Drafted (λ σ. Declares emit_context.entry.known.now emit_context.entry.context (σ emit_context.entry.resume) list.now) out.old out.new) }
 {
     for declaration in list.items() {
         declare(out, emit_context, declaration.get())?;
@@ -100,7 +101,7 @@ fn declare(
     emit_context: EmitContext<'_>,
     declaration: &ResolvedDeclaration,
 ) -> Result<(), AllocError>
-    ensures { IfOk result (λ _. (others : _) (v : Written) → Declares emit_context.entry.known.now emit_context.entry.context emit_context.entry.resume others out.new v → Declares emit_context.entry.known.now emit_context.entry.context emit_context.entry.resume (declaration.now ∷ others) out.old v) }
+    ensures { IfOk result (λ _. Drafted (λ σ w u. (others : _) (v : Written) → Declares emit_context.entry.known.now emit_context.entry.context (σ emit_context.entry.resume) others u v → Declares emit_context.entry.known.now emit_context.entry.context (σ emit_context.entry.resume) (declaration.now ∷ others) w v) out.old out.new) }
 {
     let letter = letter_of_slots(emit_context.known, &declaration.slots);
     default(out, emit_context, letter, &declaration.default)?;
@@ -114,7 +115,7 @@ fn default(
     letter: Letter,
     value: &Option<Boxed<ResolvedExpr>>,
 ) -> Result<(), AllocError>
-    ensures { IfOk result (λ _. Default emit_context.entry.known.now emit_context.entry.context emit_context.entry.resume letter value.now out.old out.new) }
+    ensures { IfOk result (λ _. Drafted (λ σ. Default emit_context.entry.known.now emit_context.entry.context (σ emit_context.entry.resume) letter value.now) out.old out.new) }
 {
     match value {
         None => out.applied(
@@ -146,7 +147,7 @@ pub(crate) fn signals(
     with_message: Instruction,
     message: &Option<Boxed<ResolvedExpr>>,
 ) -> Result<(), AllocError>
-    ensures { IfOk result (λ _. Signals emit_context.entry.known.now emit_context.entry.context emit_context.entry.resume without with_message message.now out.old out.new) }
+    ensures { IfOk result (λ _. Drafted (λ σ. Signals emit_context.entry.known.now emit_context.entry.context (σ emit_context.entry.resume) (patched_instruction σ without) (patched_instruction σ with_message) message.now) out.old out.new) }
 {
     match message {
         None => out.takes(emit_context.context, emit_context.resume, without, 0),

@@ -2,8 +2,8 @@
 use crate::known::Known;
 use std::alloc::Global;
 
-/// Where memory comes from, what is known of the file and the routine, and what all lines have in common: the context, and the line
-/// at which the run goes on after a condition.
+/// Where memory comes from, what is known of the file and the routine, and what all lines have in common: the context, and the label of
+/// the line at which the run goes on after a condition.
 #[derive(Clone, Copy)]
 pub(crate) struct EmitContext<'a> {
     pub alloc: Global,

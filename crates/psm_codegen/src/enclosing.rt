@@ -1,7 +1,8 @@
 //! What LEAVE and ITERATE can name.
 
 /// A loop, with the lines at which it is left and begun again; a block, with its context, that of its statement, and the line at which
-/// it is left; or the block of a FOR statement, with its context and that of its statement.
+/// it is left; or the block of a FOR statement, with its context and that of its statement. While lines are written, labels stand in
+/// place of those lines.
 #[derive(Clone, Copy, Debug, PartialEq, Eq)]
 pub enum EnclosingBlock {
     Loop {

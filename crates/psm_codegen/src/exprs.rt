@@ -2,6 +2,7 @@
 ghost use Rattle.std.specs.Prelude.{◌≡◌, [], ◌∷◌, length, suc, IfOk};
 ghost use Rattle.psm_exprcode.specs.declared.query.Query.{Query};
 ghost use Rattle.psm_resolved.specs.RowValue.{listed};
+ghost use Rattle.psm_codegen.specs.Labels.{Drafted};
 ghost use Rattle.psm_codegen.specs.Queries.{QueryMade};
 ghost use Rattle.psm_codegen.specs.Written.{with_query};
 ghost use Rattle.psm_codegen.specs.Exprs.{Arguments, Compares, Firsts, Joins, ChainLinks, Otherwise, Whens, Writes, WritesAll};
@@ -10,7 +11,6 @@ use crate::emit_context::EmitContext;
 use crate::letters::first_letter;
 use crate::places::{letter_at, letters_at, number_at};
 use crate::queries::query_code;
-use crate::sizes::{after_else, following, later, several_after, whens_after};
 use crate::writer::Writer;
 use psm_code::Instruction;
 use psm_exprcode::{Letter, Op};
@@ -31,7 +31,7 @@ pub(crate) fn expr(
     e: &ResolvedExpr,
     letter: Letter,
 ) -> Result<(), AllocError>
-    ensures { IfOk result (λ _. Writes emit_context.entry.known.now emit_context.entry.context emit_context.entry.resume letter e.now out.old out.new) }
+    ensures { IfOk result (λ _. Drafted (λ σ. Writes emit_context.entry.known.now emit_context.entry.context (σ emit_context.entry.resume) letter e.now) out.old out.new) }
 {
     match e {
         ResolvedExpr::Null => out.applied(
@@ -253,31 +253,28 @@ pub(crate) fn expr(
             let letter = letter_of_results(*scale);
             match operand {
                 None => {
-                    let start = out.here()?;
-                    let tested = whens_after(whens, start, 2)?;
-                    let end = after_else(otherwise, tested)?;
+                    let end = out.label()?;
                     searched(out, emit_context, whens, end, letter)?;
                     alternative(out, emit_context, otherwise, letter)?;
+                    out.bind(end)?;
                     out.rescale(emit_context.context, emit_context.resume, *scale)
                 }
                 Some(value) => {
                     part(out, emit_context, value, Letter::N)?;
-                    let start = out.here()?;
-                    let tested = whens_after(whens, start, 5)?;
-                    let dropped = later(tested, 1)?;
-                    let end = after_else(otherwise, dropped)?;
+                    let end = out.label()?;
                     compared(out, emit_context, whens, end, letter)?;
                     out.taken(emit_context.context, emit_context.resume, Op::Drop)?;
                     alternative(out, emit_context, otherwise, letter)?;
+                    out.bind(end)?;
                     out.rescale(emit_context.context, emit_context.resume, *scale)
                 }
             }
         }
         ResolvedExpr::Coalesce { values, scale } => {
             let kind = letter_of_results(*scale);
-            let start = out.here()?;
-            let end = several_after(values, start, 1)?;
+            let end = out.label()?;
             firsts(out, emit_context, values, end, kind)?;
+            out.bind(end)?;
             out.rescale(emit_context.context, emit_context.resume, *scale)
         }
         ResolvedExpr::Cast { source, to } => {
@@ -382,7 +379,7 @@ fn part(
     e: &Boxed<ResolvedExpr>,
     letter: Letter,
 ) -> Result<(), AllocError>
-    ensures { IfOk result (λ _. Writes emit_context.entry.known.now emit_context.entry.context emit_context.entry.resume letter e.now out.old out.new) }
+    ensures { IfOk result (λ _. Drafted (λ σ. Writes emit_context.entry.known.now emit_context.entry.context (σ emit_context.entry.resume) letter e.now) out.old out.new) }
 {
     expr(out, emit_context, e.get(), letter)
 }
@@ -395,7 +392,7 @@ fn joined(
     operands: &List<Boxed<ResolvedExpr>>,
     logical_operator: LogicalOperator,
 ) -> Result<(), AllocError>
-    ensures { IfOk result (λ _. Joins emit_context.entry.known.now emit_context.entry.context emit_context.entry.resume logical_operator operands.now out.old out.new) }
+    ensures { IfOk result (λ _. Drafted (λ σ. Joins emit_context.entry.known.now emit_context.entry.context (σ emit_context.entry.resume) logical_operator operands.now) out.old out.new) }
 {
     for operand in operands.items() {
         expr(out, emit_context, operand.get(), Letter::B)?;
@@ -417,7 +414,7 @@ fn linked(
     emit_context: EmitContext<'_>,
     chain_links: &List<ResolvedOperation>,
 ) -> Result<(), AllocError>
-    ensures { IfOk result (λ _. ChainLinks emit_context.entry.known.now emit_context.entry.context emit_context.entry.resume chain_links.now out.old out.new) }
+    ensures { IfOk result (λ _. Drafted (λ σ. ChainLinks emit_context.entry.known.now emit_context.entry.context (σ emit_context.entry.resume) chain_links.now) out.old out.new) }
 {
     for chain_link in chain_links.items() {
         part(out, emit_context, &chain_link.operand, Letter::N)?;
@@ -440,7 +437,7 @@ fn several(
     emit_context: EmitContext<'_>,
     list: &OneOrMore<Boxed<ResolvedExpr>>,
 ) -> Result<(), AllocError>
-    ensures { IfOk result (λ _. WritesAll emit_context.entry.known.now emit_context.entry.context emit_context.entry.resume (listed list.now) out.old out.new) }
+    ensures { IfOk result (λ _. Drafted (λ σ. WritesAll emit_context.entry.known.now emit_context.entry.context (σ emit_context.entry.resume) (listed list.now)) out.old out.new) }
 {
     expr(out, emit_context, list.first.get(), Letter::N)?;
     for item in list.rest.items() {
@@ -457,7 +454,7 @@ pub(crate) fn arguments(
     letters: &[Letter],
     list: &List<Boxed<ResolvedExpr>>,
 ) -> Result<(), AllocError>
-    ensures { IfOk result (λ _. Arguments emit_context.entry.known.now emit_context.entry.context emit_context.entry.resume letters.now 0 list.now out.old out.new) }
+    ensures { IfOk result (λ _. Drafted (λ σ. Arguments emit_context.entry.known.now emit_context.entry.context (σ emit_context.entry.resume) letters.now 0 list.now) out.old out.new) }
 {
     let mut place = 0usize;
     for item in list.items() {
@@ -468,7 +465,7 @@ pub(crate) fn arguments(
     Ok(())
 }
 
-/// Writes the values of a COALESCE: each but the last goes to the line `end` where it isn't null.
+/// Writes the values of a COALESCE: each but the last goes to the line of the label `end` where it isn't null.
 #[cycle(writing)]
 fn firsts(
     out: &mut Writer,
@@ -477,7 +474,7 @@ fn firsts(
     end: u32,
     letter: Letter,
 ) -> Result<(), AllocError>
-    ensures { IfOk result (λ _. Firsts emit_context.entry.known.now emit_context.entry.context emit_context.entry.resume letter end values.now.first values.now.rest out.old out.new) }
+    ensures { IfOk result (λ _. Drafted (λ σ. Firsts emit_context.entry.known.now emit_context.entry.context (σ emit_context.entry.resume) letter (σ end) values.now.first values.now.rest) out.old out.new) }
 {
     expr(out, emit_context, values.first.get(), letter)?;
     for value in values.rest.items() {
@@ -491,7 +488,7 @@ fn firsts(
     Ok(())
 }
 
-/// Writes WHENs, whose results go to the line `end`.
+/// Writes WHENs, whose results go to the line of the label `end`.
 #[cycle(writing)]
 fn searched(
     out: &mut Writer,
@@ -500,7 +497,7 @@ fn searched(
     end: u32,
     letter: Letter,
 ) -> Result<(), AllocError>
-    ensures { IfOk result (λ _. Whens emit_context.entry.known.now emit_context.entry.context emit_context.entry.resume letter end (listed whens.now) out.old out.new) }
+    ensures { IfOk result (λ _. Drafted (λ σ. Whens emit_context.entry.known.now emit_context.entry.context (σ emit_context.entry.resume) letter (σ end) (listed whens.now)) out.old out.new) }
 {
     test(out, emit_context, whens.first.get(), end, letter)?;
     for when in whens.rest.items() {
@@ -509,7 +506,7 @@ fn searched(
     Ok(())
 }
 
-/// Writes a WHEN: its test, a jump over its result unless the test is true, the result, and a jump to the line `end`.
+/// Writes a WHEN: its test, a jump over its result unless the test is true, the result, and a jump to the line of the label `end`.
 #[cycle(writing)]
 fn test(
     out: &mut Writer,
@@ -518,19 +515,18 @@ fn test(
     end: u32,
     letter: Letter,
 ) -> Result<(), AllocError>
-    ensures { IfOk result (λ _. Whens emit_context.entry.known.now emit_context.entry.context emit_context.entry.resume letter end (when.now ∷ []) out.old out.new) }
+    ensures { IfOk result (λ _. Drafted (λ σ. Whens emit_context.entry.known.now emit_context.entry.context (σ emit_context.entry.resume) letter (σ end) (when.now ∷ [])) out.old out.new) }
 {
     part(out, emit_context, &when.test, Letter::B)?;
-    let tested = out.here()?;
-    let chosen = following(when.result.get(), later(tested, 1)?)?;
-    let next = later(chosen, 1)?;
+    let next = out.label()?;
     out.taken(
         emit_context.context,
         emit_context.resume,
         Op::JumpUnlessTrue(next),
     )?;
     part(out, emit_context, &when.result, letter)?;
-    out.taken(emit_context.context, emit_context.resume, Op::Jump(end))
+    out.taken(emit_context.context, emit_context.resume, Op::Jump(end))?;
+    out.bind(next)
 }
 
 /// Writes WHENs whose tests are compared with the operand.
@@ -542,7 +538,7 @@ fn compared(
     end: u32,
     letter: Letter,
 ) -> Result<(), AllocError>
-    ensures { IfOk result (λ _. Compares emit_context.entry.known.now emit_context.entry.context emit_context.entry.resume letter end (listed whens.now) out.old out.new) }
+    ensures { IfOk result (λ _. Drafted (λ σ. Compares emit_context.entry.known.now emit_context.entry.context (σ emit_context.entry.resume) letter (σ end) (listed whens.now)) out.old out.new) }
 {
     comparison(out, emit_context, whens.first.get(), end, letter)?;
     for when in whens.rest.items() {
@@ -560,7 +556,7 @@ fn comparison(
     end: u32,
     letter: Letter,
 ) -> Result<(), AllocError>
-    ensures { IfOk result (λ _. Compares emit_context.entry.known.now emit_context.entry.context emit_context.entry.resume letter end (when.now ∷ []) out.old out.new) }
+    ensures { IfOk result (λ _. Drafted (λ σ. Compares emit_context.entry.known.now emit_context.entry.context (σ emit_context.entry.resume) letter (σ end) (when.now ∷ [])) out.old out.new) }
 {
     let operand = out.last_letter();
     out.applied(
@@ -578,9 +574,7 @@ fn comparison(
         2,
         Letter::B,
     )?;
-    let tested = out.here()?;
-    let chosen = following(when.result.get(), later(tested, 2)?)?;
-    let next = later(chosen, 1)?;
+    let next = out.label()?;
     out.taken(
         emit_context.context,
         emit_context.resume,
@@ -594,7 +588,8 @@ fn comparison(
         Op::Jump(end),
         1,
         operand,
-    )
+    )?;
+    out.bind(next)
 }
 
 /// Writes the result of ELSE, or null.
@@ -605,7 +600,7 @@ fn alternative(
     otherwise: &Option<Boxed<ResolvedExpr>>,
     letter: Letter,
 ) -> Result<(), AllocError>
-    ensures { IfOk result (λ _. Otherwise emit_context.entry.known.now emit_context.entry.context emit_context.entry.resume letter otherwise.now out.old out.new) }
+    ensures { IfOk result (λ _. Drafted (λ σ. Otherwise emit_context.entry.known.now emit_context.entry.context (σ emit_context.entry.resume) letter otherwise.now) out.old out.new) }
 {
     match otherwise {
         None => out.applied(

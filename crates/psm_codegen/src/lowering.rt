@@ -5,6 +5,7 @@ ghost use Rattle.psm_cond.specs.declared.handlers.Declared.TheVariants as declar
 ghost use Rattle.psm_cond.specs.WellFormed.{is_numbered};
 ghost use Rattle.psm_simulation.specs.Simulation.{FileStands, last_instruction, mode_of, parameter_of};
 ghost use Rattle.psm_codegen.specs.Files.{FileWritten, RoutineWritten, RoutinesWritten, is_function};
+ghost use Rattle.psm_codegen.specs.Labels.{line_of, patched_context, patched_line};
 ghost use Rattle.psm_codegen.specs.Standing.{CanStand};
 
 use crate::declared_letters::file_known;
@@ -84,7 +85,7 @@ fn routine_code(
     finished(alloc, parts, routine)
 }
 
-/// The code of a routine, of all that is written of it.
+/// The code of a routine, of all that is written of it. Lines stand in place of labels.
 #[tactic(auto, using(crate::proofs::RoutineForms::table_numbered))]
 fn finished(
     alloc: Global,
@@ -96,12 +97,12 @@ fn finished(
     ensures parameters { IfOk result (λ r. r.parameters ≡ map parameter_of routine.now.parameters) }
     ensures returns { IfOk result (λ r. r.returns ≡ routine.now.returns) }
     ensures variables { IfOk result (λ r. r.variables ≡ drop (length routine.now.parameters) routine.now.slots) }
-    ensures lines { IfOk result (λ r. r.lines ≡ parts.code.lines) }
+    ensures lines { IfOk result (λ r. r.lines ≡ map (patched_line (line_of parts.code.labels)) parts.code.lines) }
     ensures queries { IfOk result (λ r. r.queries ≡ parts.code.queries) }
     ensures cursors { IfOk result (λ r. r.cursors ≡ parts.cursors) }
     ensures plans { IfOk result (λ r. r.plans ≡ parts.plans) }
     ensures declared { IfOk result (λ r. r.handlers.declared ≡ parts.declared) }
-    ensures contexts { IfOk result (λ r. r.handlers.contexts ≡ parts.contexts) }
+    ensures contexts { IfOk result (λ r. r.handlers.contexts ≡ map (patched_context (line_of parts.code.labels)) parts.contexts) }
     ensures handlers { IfOk result (λ r. r.handlers.handlers ≡ parts.handlers) }
     ensures numbered { IfOk result (λ r. IsTrue (is_numbered r.handlers)) }
 {

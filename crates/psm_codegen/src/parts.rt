@@ -1,12 +1,14 @@
 //! What is written of a routine.
-ghost use Rattle.std.specs.Prelude.{◌≡◌, ◌<◌, ◌^◌, [], ◌∷◌, ◌++◌, length, suc, IfOk};
+ghost use Rattle.std.specs.Prelude.{◌≡◌, ◌<◌, ◌^◌, [], None, Some, length, map, suc, IfOk};
 ghost use Rattle.psm_codegen.specs.declared.known.Known.{Known};
 ghost use Rattle.psm_codegen.specs.FunctionBuilder.{at, block_entered, next_context, several_values, with_code, with_handler, with_plain};
+ghost use Rattle.psm_codegen.specs.Labels.{line_of, patched_context, patched_line};
 ghost use Rattle.psm_codegen.specs.Queries.{item_letters};
 ghost use Rattle.psm_codegen.specs.Simples.{changed, condition_number, declared_with};
 ghost use Rattle.psm_codegen.specs.Statements.{with_cursor};
-ghost use Rattle.psm_codegen.specs.Written.{last_letter, letters_at, puts};
+ghost use Rattle.psm_codegen.specs.Written.{bound, last_letter, letters_at, puts, with_label};
 
+use crate::labels::{patch_contexts, patch_lines};
 use crate::places::letters_at;
 use crate::writer::Writer;
 use psm_code::{CodeCursor, Instruction, Lines, Plan};
@@ -42,7 +44,7 @@ impl Model for FunctionBuilder {
 impl FunctionBuilder {
     /// Nothing but conditions.
     pub fn new(alloc: Global, declared: Vec<Declared>) -> FunctionBuilder
-        ensures { result ≡ record { code = record { lines = []; stack = []; queries = [] }; contexts = []; handlers = []; declared = declared.items; plans = []; cursors = []; letters = [] } }
+        ensures { result ≡ record { code = record { lines = []; stack = []; queries = []; labels = [] }; contexts = []; handlers = []; declared = declared.items; plans = []; cursors = []; letters = [] } }
     {
         FunctionBuilder {
             code: Writer::new(alloc),
@@ -60,6 +62,29 @@ impl FunctionBuilder {
         ensures { IfOk result (λ place. place ≡ at self.now) }
     {
         self.code.here()
+    }
+
+    /// A new label, which is bound to no line yet. More labels than fit in 32 bits count as out of memory.
+    pub fn label(&mut self) -> Result<u32, AllocError>
+        ensures number { IfOk result (λ label. label ≡ length self.old.code.labels) }
+        ensures labels { IfOk result (λ _. self.new ≡ with_code (with_label None self.old.code) self.old) }
+    {
+        self.code.label()
+    }
+
+    /// A new label, which is bound to the line that follows.
+    pub fn label_here(&mut self) -> Result<u32, AllocError>
+        ensures number { IfOk result (λ label. label ≡ length self.old.code.labels) }
+        ensures labels { IfOk result (λ _. self.new ≡ with_code (with_label (Some (at self.old)) self.old.code) self.old) }
+    {
+        self.code.label_here()
+    }
+
+    /// Binds a label to the line that follows.
+    pub fn bind(&mut self, label: u32) -> Result<(), AllocError>
+        ensures { IfOk result (λ _. self.new ≡ with_code (bound label self.old.code) self.old) }
+    {
+        self.code.bind(label)
     }
 
     /// The letter of the last operand; that of a number where there is none.
@@ -202,7 +227,8 @@ impl FunctionBuilder {
         Ok(())
     }
 
-    /// Gives all that is written back: the lines, the queries, the cursors, the plans, and the conditions, contexts and handlers.
+    /// Gives all that is written back, with lines in place of labels: the lines, the queries, the cursors, the plans, and the conditions,
+    /// contexts and handlers.
     pub fn into_code(
         self,
         alloc: Global,
@@ -216,12 +242,12 @@ impl FunctionBuilder {
         ),
         AllocError,
     >
-        ensures lines { IfOk result (λ parts. parts.0 ≡ self.code.lines) }
+        ensures lines { IfOk result (λ parts. parts.0 ≡ map (patched_line (line_of self.code.labels)) self.code.lines) }
         ensures queries { IfOk result (λ parts. parts.1 ≡ self.code.queries) }
         ensures cursors { IfOk result (λ parts. parts.2 ≡ self.cursors) }
         ensures plans { IfOk result (λ parts. parts.3 ≡ self.plans) }
         ensures declared { IfOk result (λ parts. parts.4.declared ≡ self.declared) }
-        ensures contexts { IfOk result (λ parts. parts.4.contexts ≡ self.contexts) }
+        ensures contexts { IfOk result (λ parts. parts.4.contexts ≡ map (patched_context (line_of self.code.labels)) self.contexts) }
         ensures handlers { IfOk result (λ parts. parts.4.handlers ≡ self.handlers) }
     {
         let FunctionBuilder {
@@ -233,13 +259,13 @@ impl FunctionBuilder {
             cursors,
             ..
         } = self;
+        let (lines, queries, contexts) = patched(code, contexts);
         let table = HandlerTable::try_new(
             alloc,
             List::of(declared),
             List::of(contexts),
             List::of(handlers),
         )?;
-        let (lines, queries) = code.into_parts();
         Ok((lines, queries, List::of(cursors), List::of(plans), table))
     }
 
@@ -258,6 +284,19 @@ impl FunctionBuilder {
         self.code
             .takes(context, resume, Instruction::Data(number), count)
     }
+}
+
+/// Lines with their queries, and contexts, with lines in place of labels.
+fn patched(code: Writer, contexts: Vec<Context>) -> (Lines, List<Query>, Vec<Context>)
+    ensures lines { result.0 ≡ map (patched_line (line_of code.labels)) code.lines }
+    ensures queries { result.1 ≡ code.queries }
+    ensures contexts { result.2.items ≡ map (patched_context (line_of code.labels)) contexts.items }
+{
+    let (mut lines, queries, labels) = code.into_parts();
+    let mut contexts = contexts;
+    patch_lines(&mut lines, labels.as_slice());
+    patch_contexts(&mut contexts, labels.as_slice());
+    (lines, queries, contexts)
 }
 
 /// A place in a list as a number. More than fit in 32 bits count as out of memory.

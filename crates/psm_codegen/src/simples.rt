@@ -1,7 +1,8 @@
 //! The lines of a statement that has no statements (ISO/IEC 9075-4:1996; ISO/IEC 9075:1992, clause 13).
-ghost use Rattle.std.specs.Prelude.{◌≡◌, None, Some, IfOk};
+ghost use Rattle.std.specs.Prelude.{◌≡◌, None, Some, map, IfOk};
 ghost use Rattle.psm_resolved.specs.declared.statement.ResolvedSimple.TheVariants as simples;
 ghost use Rattle.psm_resolved.specs.declared.statement.ResolvedRows.TheVariants as given;
+ghost use Rattle.psm_codegen.specs.Labels.{DraftedParts, patched_block};
 ghost use Rattle.psm_codegen.specs.Simples.{WritesAnywhere, WritesSimple, letters_of_columns, number_op};
 
 use crate::calling::{call_arguments, rows, signals};
@@ -34,7 +35,7 @@ pub(crate) fn simple(
     enclosing: &[EnclosingBlock],
     statement: &ResolvedSimple,
 ) -> Result<(), AllocError>
-    ensures { IfOk result (λ _. WritesSimple emit_context.entry.known.now emit_context.entry.context emit_context.entry.resume enclosing.now statement.now parts.old parts.new) }
+    ensures { IfOk result (λ _. DraftedParts (λ σ. WritesSimple emit_context.entry.known.now emit_context.entry.context (σ emit_context.entry.resume) (map (patched_block σ) enclosing.now) statement.now) parts.old parts.new) }
 {
     match statement {
         ResolvedSimple::Set { slot, source } => set(parts, emit_context, *slot, source.get()),
@@ -77,7 +78,7 @@ fn set(
     slot: u32,
     source: &ResolvedExpr,
 ) -> Result<(), AllocError>
-    ensures { IfOk result (λ _. WritesAnywhere emit_context.entry.known.now emit_context.entry.context emit_context.entry.resume (simples.Set slot source.now) parts.old parts.new) }
+    ensures { IfOk result (λ _. DraftedParts (λ σ. WritesAnywhere emit_context.entry.known.now emit_context.entry.context (σ emit_context.entry.resume) (simples.Set slot source.now)) parts.old parts.new) }
 {
     let letter = letter_at(emit_context.known.variables.items(), slot as usize);
     parts.code.plain(emit_context.context, Instruction::Clear)?;
@@ -97,7 +98,7 @@ fn call(
     procedure: u32,
     arguments: &List<ResolvedArgument>,
 ) -> Result<(), AllocError>
-    ensures { IfOk result (λ _. WritesAnywhere emit_context.entry.known.now emit_context.entry.context emit_context.entry.resume (simples.Call procedure arguments.now) parts.old parts.new) }
+    ensures { IfOk result (λ _. DraftedParts (λ σ. WritesAnywhere emit_context.entry.known.now emit_context.entry.context (σ emit_context.entry.resume) (simples.Call procedure arguments.now)) parts.old parts.new) }
 {
     let number = number_at(emit_context.known.procedures.items(), procedure);
     let taken = letters_at(emit_context.known.takes.items(), number);
@@ -122,7 +123,7 @@ fn returned(
     emit_context: EmitContext<'_>,
     e: &ResolvedExpr,
 ) -> Result<(), AllocError>
-    ensures { IfOk result (λ _. WritesAnywhere emit_context.entry.known.now emit_context.entry.context emit_context.entry.resume (simples.Return e.now) parts.old parts.new) }
+    ensures { IfOk result (λ _. DraftedParts (λ σ. WritesAnywhere emit_context.entry.known.now emit_context.entry.context (σ emit_context.entry.resume) (simples.Return e.now)) parts.old parts.new) }
 {
     expr(&mut parts.code, emit_context, e, emit_context.known.result)?;
     parts.code.takes(
@@ -139,7 +140,7 @@ fn signal(
     emit_context: EmitContext<'_>,
     s: &ResolvedSignal,
 ) -> Result<(), AllocError>
-    ensures { IfOk result (λ _. WritesAnywhere emit_context.entry.known.now emit_context.entry.context emit_context.entry.resume (simples.Signal s.now) parts.old parts.new) }
+    ensures { IfOk result (λ _. DraftedParts (λ σ. WritesAnywhere emit_context.entry.known.now emit_context.entry.context (σ emit_context.entry.resume) (simples.Signal s.now)) parts.old parts.new) }
 {
     let number = parts.condition(&s.condition)?;
     parts.code.plain(emit_context.context, Instruction::Clear)?;
@@ -158,7 +159,7 @@ fn resignal(
     emit_context: EmitContext<'_>,
     s: &Option<Boxed<ResolvedSignal>>,
 ) -> Result<(), AllocError>
-    ensures { IfOk result (λ _. WritesAnywhere emit_context.entry.known.now emit_context.entry.context emit_context.entry.resume (simples.Resignal s.now) parts.old parts.new) }
+    ensures { IfOk result (λ _. DraftedParts (λ σ. WritesAnywhere emit_context.entry.known.now emit_context.entry.context (σ emit_context.entry.resume) (simples.Resignal s.now)) parts.old parts.new) }
 {
     match s {
         None => {
@@ -180,7 +181,7 @@ fn resignal_condition(
     emit_context: EmitContext<'_>,
     s: &ResolvedSignal,
 ) -> Result<(), AllocError>
-    ensures { IfOk result (λ _. WritesAnywhere emit_context.entry.known.now emit_context.entry.context emit_context.entry.resume (simples.Resignal (Some s.now)) parts.old parts.new) }
+    ensures { IfOk result (λ _. DraftedParts (λ σ. WritesAnywhere emit_context.entry.known.now emit_context.entry.context (σ emit_context.entry.resume) (simples.Resignal (Some s.now))) parts.old parts.new) }
 {
     let number = parts.condition(&s.condition)?;
     parts.code.plain(emit_context.context, Instruction::Clear)?;
@@ -199,7 +200,7 @@ fn diagnostics(
     emit_context: EmitContext<'_>,
     d: &ResolvedDiagnostics,
 ) -> Result<(), AllocError>
-    ensures { IfOk result (λ _. WritesAnywhere emit_context.entry.known.now emit_context.entry.context emit_context.entry.resume (simples.GetDiagnostics d.now) parts.old parts.new) }
+    ensures { IfOk result (λ _. DraftedParts (λ σ. WritesAnywhere emit_context.entry.known.now emit_context.entry.context (σ emit_context.entry.resume) (simples.GetDiagnostics d.now)) parts.old parts.new) }
 {
     match d {
         ResolvedDiagnostics::Statement { area, items } => {
@@ -239,7 +240,7 @@ fn select_into(
     query: &ResolvedQuery,
     slots: &List<u32>,
 ) -> Result<(), AllocError>
-    ensures { IfOk result (λ _. WritesAnywhere emit_context.entry.known.now emit_context.entry.context emit_context.entry.resume (simples.SelectInto query.now slots.now) parts.old parts.new) }
+    ensures { IfOk result (λ _. DraftedParts (λ σ. WritesAnywhere emit_context.entry.known.now emit_context.entry.context (σ emit_context.entry.resume) (simples.SelectInto query.now slots.now)) parts.old parts.new) }
 {
     let code = query_code(emit_context.alloc, emit_context.known, query)?;
     let letters = item_letters(emit_context.alloc, emit_context.known, query)?;
@@ -264,7 +265,7 @@ fn insert(
     columns: &List<u32>,
     list: &ResolvedRows,
 ) -> Result<(), AllocError>
-    ensures { IfOk result (λ _. WritesAnywhere emit_context.entry.known.now emit_context.entry.context emit_context.entry.resume (simples.Insert table columns.now list.now) parts.old parts.new) }
+    ensures { IfOk result (λ _. DraftedParts (λ σ. WritesAnywhere emit_context.entry.known.now emit_context.entry.context (σ emit_context.entry.resume) (simples.Insert table columns.now list.now)) parts.old parts.new) }
 {
     match list {
         ResolvedRows::Values(list) => insert_rows(parts, emit_context, table, columns, list),
@@ -286,7 +287,7 @@ fn insert_rows(
     columns: &List<u32>,
     list: &List<List<Boxed<ResolvedExpr>>>,
 ) -> Result<(), AllocError>
-    ensures { IfOk result (λ _. WritesAnywhere emit_context.entry.known.now emit_context.entry.context emit_context.entry.resume (simples.Insert table columns.now (given.Values list.now)) parts.old parts.new) }
+    ensures { IfOk result (λ _. DraftedParts (λ σ. WritesAnywhere emit_context.entry.known.now emit_context.entry.context (σ emit_context.entry.resume) (simples.Insert table columns.now (given.Values list.now))) parts.old parts.new) }
 {
     let letters = letters_of_columns(emit_context.alloc, emit_context.known, table, columns)?;
     let plan = Plan::Insert {
@@ -309,7 +310,7 @@ fn insert_query(
     columns: &List<u32>,
     query: &ResolvedQuery,
 ) -> Result<(), AllocError>
-    ensures { IfOk result (λ _. WritesAnywhere emit_context.entry.known.now emit_context.entry.context emit_context.entry.resume (simples.Insert table columns.now (given.Query query.now)) parts.old parts.new) }
+    ensures { IfOk result (λ _. DraftedParts (λ σ. WritesAnywhere emit_context.entry.known.now emit_context.entry.context (σ emit_context.entry.resume) (simples.Insert table columns.now (given.Query query.now))) parts.old parts.new) }
 {
     let code = query_code(emit_context.alloc, emit_context.known, query)?;
     let plan = Plan::InsertQuery {
@@ -357,7 +358,7 @@ fn update(
     sets: &List<ResolvedSet>,
     which: &ResolvedWhere,
 ) -> Result<(), AllocError>
-    ensures { IfOk result (λ _. WritesAnywhere emit_context.entry.known.now emit_context.entry.context emit_context.entry.resume (simples.Update table sets.now which.now) parts.old parts.new) }
+    ensures { IfOk result (λ _. DraftedParts (λ σ. WritesAnywhere emit_context.entry.known.now emit_context.entry.context (σ emit_context.entry.resume) (simples.Update table sets.now which.now)) parts.old parts.new) }
 {
     let plan = updates(emit_context.alloc, emit_context.known, table, sets, which)?;
     parts.plain(emit_context.context, Instruction::Clear)?;
@@ -371,7 +372,7 @@ fn delete(
     table: u32,
     which: &ResolvedWhere,
 ) -> Result<(), AllocError>
-    ensures { IfOk result (λ _. WritesAnywhere emit_context.entry.known.now emit_context.entry.context emit_context.entry.resume (simples.Delete table which.now) parts.old parts.new) }
+    ensures { IfOk result (λ _. DraftedParts (λ σ. WritesAnywhere emit_context.entry.known.now emit_context.entry.context (σ emit_context.entry.resume) (simples.Delete table which.now)) parts.old parts.new) }
 {
     let plan = deletes(emit_context.alloc, emit_context.known, table, which)?;
     parts.plain(emit_context.context, Instruction::Clear)?;
@@ -384,7 +385,7 @@ fn opened(
     emit_context: EmitContext<'_>,
     cursor: u32,
 ) -> Result<(), AllocError>
-    ensures { IfOk result (λ _. WritesAnywhere emit_context.entry.known.now emit_context.entry.context emit_context.entry.resume (simples.Open cursor) parts.old parts.new) }
+    ensures { IfOk result (λ _. DraftedParts (λ σ. WritesAnywhere emit_context.entry.known.now emit_context.entry.context (σ emit_context.entry.resume) (simples.Open cursor)) parts.old parts.new) }
 {
     parts.code.plain(emit_context.context, Instruction::Clear)?;
     parts.code.takes(
@@ -402,7 +403,7 @@ fn fetch(
     cursor: u32,
     slots: &List<u32>,
 ) -> Result<(), AllocError>
-    ensures { IfOk result (λ _. WritesAnywhere emit_context.entry.known.now emit_context.entry.context emit_context.entry.resume (simples.Fetch cursor slots.now) parts.old parts.new) }
+    ensures { IfOk result (λ _. DraftedParts (λ σ. WritesAnywhere emit_context.entry.known.now emit_context.entry.context (σ emit_context.entry.resume) (simples.Fetch cursor slots.now)) parts.old parts.new) }
 {
     parts.plain(emit_context.context, Instruction::Clear)?;
     parts.puts_row(
@@ -420,7 +421,7 @@ fn closed(
     emit_context: EmitContext<'_>,
     cursor: u32,
 ) -> Result<(), AllocError>
-    ensures { IfOk result (λ _. WritesAnywhere emit_context.entry.known.now emit_context.entry.context emit_context.entry.resume (simples.Close cursor) parts.old parts.new) }
+    ensures { IfOk result (λ _. DraftedParts (λ σ. WritesAnywhere emit_context.entry.known.now emit_context.entry.context (σ emit_context.entry.resume) (simples.Close cursor)) parts.old parts.new) }
 {
     parts.code.plain(emit_context.context, Instruction::Clear)?;
     parts.code.takes(

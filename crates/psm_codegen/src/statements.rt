@@ -1,7 +1,8 @@
 //! The lines of a statement (ISO/IEC 9075-4:1996). What is around is told innermost first.
-ghost use Rattle.std.specs.Prelude.{◌≡◌, ◌∷◌, None, Some, IfOk};
+ghost use Rattle.std.specs.Prelude.{◌≡◌, ◌∷◌, map, None, Some, IfOk};
 ghost use Rattle.psm_resolved.specs.declared.statement.ResolvedStatement.TheOpen as layers;
-ghost use Rattle.psm_codegen.specs.FunctionBuilder.{FunctionBuilder as Whole};
+ghost use Rattle.psm_codegen.specs.FunctionBuilder.{FunctionBuilder as Whole, at};
+ghost use Rattle.psm_codegen.specs.Labels.{DraftedParts, patched_block};
 ghost use Rattle.psm_codegen.specs.StatementForms.{WritesForm};
 ghost use Rattle.psm_codegen.specs.Statements.{WritesBranches, WritesComparisons, WritesElse, WritesHandlers, WritesStatement, WritesStatements};
 
@@ -9,11 +10,9 @@ use crate::emit_context::EmitContext;
 use crate::enclosing::EnclosingBlock;
 use crate::parts::FunctionBuilder;
 use crate::simples::simple;
-use crate::sizes::later;
-use crate::statement_sizes::{after_statement, after_statements, after_turn, inside};
 use crate::steps::{
-    apply, cursor, cursors, declared, entered, evaluated, fetch_row, jump, no_case, numbers, one,
-    open, pass, take,
+    apply, cursor, cursors, declared, entered, evaluated, fetch_row, inside, jump, no_case,
+    numbers, one, open, pass, take,
 };
 use psm_code::Instruction;
 use psm_exprcode::{Letter, Op};
@@ -23,7 +22,7 @@ use psm_resolved::{
 };
 use std::alloc::AllocError;
 
-/// Writes a statement. The line at which the run goes on after a condition is found here.
+/// Writes a statement. The run goes on after it where a condition of it is handled.
 #[cycle(stating)]
 pub(crate) fn statement(
     s: &ResolvedStatement,
@@ -31,16 +30,29 @@ pub(crate) fn statement(
     place: EmitContext<'_>,
     enclosing: &[EnclosingBlock],
 ) -> Result<(), AllocError>
-    ensures { IfOk result (λ _. WritesStatement place.entry.known.now place.entry.context enclosing.now s.now parts.old parts.new) }
+    ensures { IfOk result (λ _. DraftedParts (λ σ. WritesStatement place.entry.known.now place.entry.context (map (patched_block σ) enclosing.now) s.now) parts.old parts.new) }
 {
-    let here = parts.at()?;
-    let resume = after_statement(s, place.alloc, enclosing, here)?;
+    let end = parts.label()?;
     let emit_context = EmitContext {
         alloc: place.alloc,
         known: place.known,
         context: place.context,
-        resume,
+        resume: end,
     };
+    form(s, parts, emit_context, enclosing)?;
+    parts.bind(end)
+}
+
+/// Writes a statement, after which the line of the label `resume` follows.
+#[cycle(stating)]
+fn form(
+    s: &ResolvedStatement,
+    parts: &mut FunctionBuilder,
+    emit_context: EmitContext<'_>,
+    enclosing: &[EnclosingBlock],
+) -> Result<(), AllocError>
+    ensures { IfOk result (λ _. DraftedParts (λ σ p q. σ emit_context.entry.resume ≡ at q → WritesStatement emit_context.entry.known.now emit_context.entry.context (map (patched_block σ) enclosing.now) s.now p q) parts.old parts.new) }
+{
     match s {
         ResolvedStatement::Compound { level, block } => {
             compound(block.get(), parts, emit_context, enclosing, *level)
@@ -119,14 +131,15 @@ fn compound(
     enclosing: &[EnclosingBlock],
     level: u32,
 ) -> Result<(), AllocError>
-    ensures { IfOk result (λ _. WritesForm emit_context.entry.known.now emit_context.entry.context emit_context.entry.resume enclosing.now (layers.Compound level block.now) parts.old parts.new) }
+    ensures { IfOk result (λ _. DraftedParts (λ σ. WritesForm emit_context.entry.known.now emit_context.entry.context (σ emit_context.entry.resume) (map (patched_block σ) enclosing.now) (layers.Compound level block.now)) parts.old parts.new) }
 {
-    let exit = emit_context.resume.saturating_sub(1);
     declared(parts, emit_context, &block.declarations)?;
     cursors(parts, emit_context, &block.cursors)?;
     let numbers = numbers(emit_context.alloc, &block.cursors)?;
+    let exit = parts.label()?;
     let inner = entered(parts, emit_context.context, block.atomic, exit, numbers)?;
-    pass(parts, emit_context.alloc, inner, &block.handlers)?;
+    let start = parts.label()?;
+    pass(parts, inner, start, &block.handlers)?;
     let within_block = EmitContext {
         alloc: emit_context.alloc,
         known: emit_context.known,
@@ -134,6 +147,7 @@ fn compound(
         resume: exit,
     };
     handlers(&block.handlers, parts, within_block)?;
+    parts.bind(start)?;
     let frame = EnclosingBlock::Block {
         level,
         context: inner,
@@ -141,6 +155,7 @@ fn compound(
         exit,
     };
     within(&block.statements, parts, within_block, enclosing, frame)?;
+    parts.bind(exit)?;
     parts.plain(inner, Instruction::Exit(inner))
 }
 
@@ -152,9 +167,9 @@ fn looped(
     enclosing: &[EnclosingBlock],
     level: u32,
 ) -> Result<(), AllocError>
-    ensures { IfOk result (λ _. WritesForm emit_context.entry.known.now emit_context.entry.context emit_context.entry.resume enclosing.now (layers.Loop level list.now) parts.old parts.new) }
+    ensures { IfOk result (λ _. DraftedParts (λ σ. WritesForm emit_context.entry.known.now emit_context.entry.context (σ emit_context.entry.resume) (map (patched_block σ) enclosing.now) (layers.Loop level list.now)) parts.old parts.new) }
 {
-    let again = parts.at()?;
+    let again = parts.label_here()?;
     let frame = EnclosingBlock::Loop {
         level,
         out: emit_context.resume,
@@ -174,9 +189,9 @@ fn whiled(
     level: u32,
     test: &ResolvedExpr,
 ) -> Result<(), AllocError>
-    ensures { IfOk result (λ _. WritesForm emit_context.entry.known.now emit_context.entry.context emit_context.entry.resume enclosing.now (layers.While level test.now list.now) parts.old parts.new) }
+    ensures { IfOk result (λ _. DraftedParts (λ σ. WritesForm emit_context.entry.known.now emit_context.entry.context (σ emit_context.entry.resume) (map (patched_block σ) enclosing.now) (layers.While level test.now list.now)) parts.old parts.new) }
 {
-    let again = parts.at()?;
+    let again = parts.label_here()?;
     let frame = EnclosingBlock::Loop {
         level,
         out: emit_context.resume,
@@ -198,11 +213,10 @@ fn repeated(
     level: u32,
     until: &ResolvedExpr,
 ) -> Result<(), AllocError>
-    ensures { IfOk result (λ _. WritesForm emit_context.entry.known.now emit_context.entry.context emit_context.entry.resume enclosing.now (layers.Repeat level list.now until.now) parts.old parts.new) }
+    ensures { IfOk result (λ _. DraftedParts (λ σ. WritesForm emit_context.entry.known.now emit_context.entry.context (σ emit_context.entry.resume) (map (patched_block σ) enclosing.now) (layers.Repeat level list.now until.now)) parts.old parts.new) }
 {
-    let start = parts.at()?;
-    let first = later(start, 1)?;
-    let again = after_turn(list, emit_context.alloc, level, enclosing, first)?;
+    let start = parts.label_here()?;
+    let again = parts.label()?;
     let frame = EnclosingBlock::Loop {
         level,
         out: emit_context.resume,
@@ -210,6 +224,7 @@ fn repeated(
     };
     parts.plain(emit_context.context, Instruction::Turn)?;
     within(list, parts, emit_context, enclosing, frame)?;
+    parts.bind(again)?;
     evaluated(parts, emit_context, until, Letter::B)?;
     take(parts, emit_context, Op::JumpUnlessTrue(start))
 }
@@ -223,12 +238,11 @@ fn over_rows(
     level: u32,
     head: &ResolvedFor,
 ) -> Result<(), AllocError>
-    ensures { IfOk result (λ _. WritesForm emit_context.entry.known.now emit_context.entry.context emit_context.entry.resume enclosing.now (layers.For level head.now list.now) parts.old parts.new) }
+    ensures { IfOk result (λ _. DraftedParts (λ σ. WritesForm emit_context.entry.known.now emit_context.entry.context (σ emit_context.entry.resume) (map (patched_block σ) enclosing.now) (layers.For level head.now list.now)) parts.old parts.new) }
 {
-    let again = later(parts.at()?, 2)?;
-    let out = emit_context.resume.saturating_sub(1);
     cursor(parts, emit_context, &head.cursor)?;
     let number = one(emit_context.alloc, head.cursor.number)?;
+    let out = parts.label()?;
     let inner = entered(parts, emit_context.context, false, out, number)?;
     let within_rows = EmitContext {
         alloc: emit_context.alloc,
@@ -237,6 +251,8 @@ fn over_rows(
         resume: out,
     };
     open(parts, inner, out, &head.cursor)?;
+    let again = parts.label_here()?;
+    parts.plain(inner, Instruction::Turn)?;
     fetch_row(parts, within_rows, head)?;
     let rows = EnclosingBlock::Rows {
         context: inner,
@@ -246,6 +262,7 @@ fn over_rows(
     let frame = EnclosingBlock::Loop { level, out, again };
     within(list, parts, within_rows, all.as_slice(), frame)?;
     jump(parts, inner, again)?;
+    parts.bind(out)?;
     parts.plain(inner, Instruction::Exit(inner))
 }
 
@@ -258,7 +275,7 @@ fn within(
     enclosing: &[EnclosingBlock],
     frame: EnclosingBlock,
 ) -> Result<(), AllocError>
-    ensures { IfOk result (λ _. WritesStatements emit_context.entry.known.now emit_context.entry.context (frame ∷ enclosing.now) list.now parts.old parts.new) }
+    ensures { IfOk result (λ _. DraftedParts (λ σ. WritesStatements emit_context.entry.known.now emit_context.entry.context (map (patched_block σ) (frame ∷ enclosing.now)) list.now) parts.old parts.new) }
 {
     let all = inside(emit_context.alloc, frame, enclosing)?;
     statements(list, parts, emit_context, all.as_slice())
@@ -271,7 +288,7 @@ fn statements(
     emit_context: EmitContext<'_>,
     enclosing: &[EnclosingBlock],
 ) -> Result<(), AllocError>
-    ensures { IfOk result (λ _. WritesStatements emit_context.entry.known.now emit_context.entry.context enclosing.now list.now parts.old parts.new) }
+    ensures { IfOk result (λ _. DraftedParts (λ σ. WritesStatements emit_context.entry.known.now emit_context.entry.context (map (patched_block σ) enclosing.now) list.now) parts.old parts.new) }
 {
     for s in list.items() {
         statement(s.get(), parts, emit_context, enclosing)?;
@@ -287,7 +304,7 @@ fn otherwise(
     emit_context: EmitContext<'_>,
     enclosing: &[EnclosingBlock],
 ) -> Result<(), AllocError>
-    ensures { IfOk result (λ _. WritesElse emit_context.entry.known.now emit_context.entry.context enclosing.now list.now parts.old parts.new) }
+    ensures { IfOk result (λ _. DraftedParts (λ σ. WritesElse emit_context.entry.known.now emit_context.entry.context (map (patched_block σ) enclosing.now) list.now) parts.old parts.new) }
 {
     if list.items().is_empty() {
         no_case(parts, emit_context.context)
@@ -304,7 +321,7 @@ fn branches(
     emit_context: EmitContext<'_>,
     enclosing: &[EnclosingBlock],
 ) -> Result<(), AllocError>
-    ensures { IfOk result (λ _. WritesBranches emit_context.entry.known.now emit_context.entry.context enclosing.now emit_context.entry.resume list.now parts.old parts.new) }
+    ensures { IfOk result (λ _. DraftedParts (λ σ. WritesBranches emit_context.entry.known.now emit_context.entry.context (map (patched_block σ) enclosing.now) (σ emit_context.entry.resume) list.now) parts.old parts.new) }
 {
     for x in list.items() {
         branch(x.get(), parts, emit_context, enclosing)?;
@@ -319,15 +336,14 @@ fn branch(
     emit_context: EmitContext<'_>,
     enclosing: &[EnclosingBlock],
 ) -> Result<(), AllocError>
-    ensures { IfOk result (λ _. (xs : _) (r : Whole) → WritesBranches emit_context.entry.known.now emit_context.entry.context enclosing.now emit_context.entry.resume xs parts.new r → WritesBranches emit_context.entry.known.now emit_context.entry.context enclosing.now emit_context.entry.resume (x.now ∷ xs) parts.old r) }
+    ensures { IfOk result (λ _. DraftedParts (λ σ p q. (xs : _) (r : Whole) → WritesBranches emit_context.entry.known.now emit_context.entry.context (map (patched_block σ) enclosing.now) (σ emit_context.entry.resume) xs q r → WritesBranches emit_context.entry.known.now emit_context.entry.context (map (patched_block σ) enclosing.now) (σ emit_context.entry.resume) (x.now ∷ xs) p r) parts.old parts.new) }
 {
     evaluated(parts, emit_context, x.test.get(), Letter::B)?;
-    let here = parts.at()?;
-    let chosen = after_statements(&x.statements, emit_context.alloc, enclosing, here)?;
-    let next = later(chosen, 2)?;
+    let next = parts.label()?;
     take(parts, emit_context, Op::JumpUnlessTrue(next))?;
     statements(&x.statements, parts, emit_context, enclosing)?;
-    jump(parts, emit_context.context, emit_context.resume)
+    jump(parts, emit_context.context, emit_context.resume)?;
+    parts.bind(next)
 }
 
 /// Writes branches whose values are compared with the last operand.
@@ -338,7 +354,7 @@ fn comparisons(
     emit_context: EmitContext<'_>,
     enclosing: &[EnclosingBlock],
 ) -> Result<(), AllocError>
-    ensures { IfOk result (λ _. WritesComparisons emit_context.entry.known.now emit_context.entry.context enclosing.now emit_context.entry.resume list.now parts.old parts.new) }
+    ensures { IfOk result (λ _. DraftedParts (λ σ. WritesComparisons emit_context.entry.known.now emit_context.entry.context (map (patched_block σ) enclosing.now) (σ emit_context.entry.resume) list.now) parts.old parts.new) }
 {
     for x in list.items() {
         comparison(x.get(), parts, emit_context, enclosing)?;
@@ -353,15 +369,13 @@ fn comparison(
     emit_context: EmitContext<'_>,
     enclosing: &[EnclosingBlock],
 ) -> Result<(), AllocError>
-    ensures { IfOk result (λ _. (xs : _) (r : Whole) → WritesComparisons emit_context.entry.known.now emit_context.entry.context enclosing.now emit_context.entry.resume xs parts.new r → WritesComparisons emit_context.entry.known.now emit_context.entry.context enclosing.now emit_context.entry.resume (x.now ∷ xs) parts.old r) }
+    ensures { IfOk result (λ _. DraftedParts (λ σ p q. (xs : _) (r : Whole) → WritesComparisons emit_context.entry.known.now emit_context.entry.context (map (patched_block σ) enclosing.now) (σ emit_context.entry.resume) xs q r → WritesComparisons emit_context.entry.known.now emit_context.entry.context (map (patched_block σ) enclosing.now) (σ emit_context.entry.resume) (x.now ∷ xs) p r) parts.old parts.new) }
 {
     let operand = parts.last_letter();
     apply(parts, emit_context, Op::Duplicate, 0, operand)?;
     evaluated(parts, emit_context, x.test.get(), operand)?;
     apply(parts, emit_context, Op::Equal, 2, Letter::B)?;
-    let here = parts.at()?;
-    let chosen = after_statements(&x.statements, emit_context.alloc, enclosing, here)?;
-    let next = later(chosen, 3)?;
+    let next = parts.label()?;
     take(parts, emit_context, Op::JumpUnlessTrue(next))?;
     take(parts, emit_context, Op::Drop)?;
     statements(&x.statements, parts, emit_context, enclosing)?;
@@ -371,7 +385,8 @@ fn comparison(
         Op::Jump(emit_context.resume),
         0,
         operand,
-    )
+    )?;
+    parts.bind(next)
 }
 
 /// Writes the handlers of the block of a context, each with its action.
@@ -381,7 +396,7 @@ fn handlers(
     parts: &mut FunctionBuilder,
     emit_context: EmitContext<'_>,
 ) -> Result<(), AllocError>
-    ensures { IfOk result (λ _. WritesHandlers emit_context.entry.known.now emit_context.entry.context list.now parts.old parts.new) }
+    ensures { IfOk result (λ _. DraftedParts (λ σ. WritesHandlers emit_context.entry.known.now emit_context.entry.context list.now) parts.old parts.new) }
 {
     for h in list.items() {
         handler(h.get(), parts, emit_context)?;
@@ -395,7 +410,7 @@ fn handler(
     parts: &mut FunctionBuilder,
     emit_context: EmitContext<'_>,
 ) -> Result<(), AllocError>
-    ensures { IfOk result (λ _. (hs : _) (r : Whole) → WritesHandlers emit_context.entry.known.now emit_context.entry.context hs parts.new r → WritesHandlers emit_context.entry.known.now emit_context.entry.context (h.now ∷ hs) parts.old r) }
+    ensures { IfOk result (λ _. DraftedParts (λ σ p q. (hs : _) (r : Whole) → WritesHandlers emit_context.entry.known.now emit_context.entry.context hs q r → WritesHandlers emit_context.entry.known.now emit_context.entry.context (h.now ∷ hs) p r) parts.old parts.new) }
 {
     let number = parts.handler_count()?;
     let inner = parts.next_context()?;

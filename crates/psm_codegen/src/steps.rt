@@ -1,22 +1,20 @@
 //! Steps of statements that have statements, which write no statement.
-ghost use Rattle.std.specs.Prelude.{◌≡◌, ◌+◌, ◌∷◌, [], map, suc, ℕ, IfOk};
+ghost use Rattle.std.specs.Prelude.{◌≡◌, ◌∷◌, [], map, suc, IfOk};
 ghost use Rattle.psm_code.specs.declared.instruction.Instruction.TheVariants as instruction;
 ghost use Rattle.psm_codegen.specs.Exprs.{Writes};
 ghost use Rattle.psm_codegen.specs.FunctionBuilder.{FunctionBuilder as Whole, at, block_entered, next_context, with_code};
+ghost use Rattle.psm_codegen.specs.Labels.{Drafted, DraftedParts};
 ghost use Rattle.psm_codegen.specs.Simples.{Declares};
-ghost use Rattle.psm_codegen.specs.Sizes.{each_with};
-ghost use Rattle.psm_codegen.specs.StatementSizes.{handler_lines, passing_lines};
-ghost use Rattle.psm_codegen.specs.Statements.{WritesCursors, fetched, jumped, opened, passed};
+ghost use Rattle.psm_codegen.specs.Statements.{WritesCursors, fetched, jumped, passed};
 ghost use Rattle.psm_codegen.specs.Written.{applied, taken, takes};
 
 use crate::calling::declares;
 use crate::emit_context::EmitContext;
+use crate::enclosing::EnclosingBlock;
 use crate::exprs::expr;
 use crate::letters::item_letters;
 use crate::parts::FunctionBuilder;
 use crate::queries::query_code;
-use crate::sizes::later;
-use crate::statement_sizes::{after_handlers, after_passing};
 use crate::storing::stores;
 use psm_code::Instruction;
 use psm_exprcode::{Letter, Op};
@@ -26,6 +24,22 @@ use psm_resolved::{
 };
 use std::alloc::{AllocError, Global};
 
+/// What is around a statement inside another. Out of memory is the one refusal.
+pub(crate) fn inside(
+    alloc: Global,
+    other: EnclosingBlock,
+    enclosing: &[EnclosingBlock],
+) -> Result<Vec<EnclosingBlock>, AllocError>
+    ensures { IfOk result (λ all. all.items ≡ other ∷ enclosing.now) }
+{
+    let mut all = Vec::new(alloc);
+    all.push(other)?;
+    for more in enclosing {
+        all.push(*more)?;
+    }
+    Ok(all)
+}
+
 /// Writes an expression.
 pub(crate) fn evaluated(
     parts: &mut FunctionBuilder,
@@ -33,7 +47,7 @@ pub(crate) fn evaluated(
     e: &ResolvedExpr,
     letter: Letter,
 ) -> Result<(), AllocError>
-    ensures written { IfOk result (λ _. Writes emit_context.entry.known.now emit_context.entry.context emit_context.entry.resume letter e.now parts.old.code parts.new.code) }
+    ensures written { IfOk result (λ _. Drafted (λ σ. Writes emit_context.entry.known.now emit_context.entry.context (σ emit_context.entry.resume) letter e.now) parts.old.code parts.new.code) }
     ensures alone { IfOk result (λ _. parts.new ≡ with_code parts.new.code parts.old) }
 {
     expr(&mut parts.code, emit_context, e, letter)
@@ -45,7 +59,7 @@ pub(crate) fn declared(
     emit_context: EmitContext<'_>,
     list: &List<Boxed<ResolvedDeclaration>>,
 ) -> Result<(), AllocError>
-    ensures written { IfOk result (λ _. Declares emit_context.entry.known.now emit_context.entry.context emit_context.entry.resume list.now parts.old.code parts.new.code) }
+    ensures written { IfOk result (λ _. Drafted (λ σ. Declares emit_context.entry.known.now emit_context.entry.context (σ emit_context.entry.resume) list.now) parts.old.code parts.new.code) }
     ensures alone { IfOk result (λ _. parts.new ≡ with_code parts.new.code parts.old) }
 {
     declares(&mut parts.code, emit_context, list)
@@ -141,18 +155,15 @@ pub(crate) fn entered(
     Ok(number)
 }
 
-/// Passes over the actions of handlers.
+/// Passes over the actions of handlers, to a label.
 pub(crate) fn pass(
     parts: &mut FunctionBuilder,
-    alloc: Global,
     context: u32,
+    start: u32,
     handlers: &List<Boxed<ResolvedHandler>>,
 ) -> Result<(), AllocError>
-    ensures { IfOk result (λ _. (start : ℕ) → start ≡ at parts.old + passing_lines handlers.now + each_with 1 (map handler_lines handlers.now) → parts.new ≡ passed context start handlers.now parts.old) }
+    ensures { IfOk result (λ _. parts.new ≡ passed context start handlers.now parts.old) }
 {
-    let here = parts.at()?;
-    let passed = after_passing(handlers, here)?;
-    let start = after_handlers(handlers, alloc, passed)?;
     if handlers.items().is_empty() {
         Ok(())
     } else {
@@ -160,19 +171,18 @@ pub(crate) fn pass(
     }
 }
 
-/// Opens the cursor of a FOR statement, and uses a turn.
+/// Opens the cursor of a FOR statement.
 pub(crate) fn open(
     parts: &mut FunctionBuilder,
     context: u32,
     exit: u32,
     x: &ResolvedCursor,
 ) -> Result<(), AllocError>
-    ensures { IfOk result (λ _. parts.new ≡ opened context exit x.now parts.old) }
+    ensures { IfOk result (λ _. parts.new ≡ with_code (takes context exit (instruction.Open x.now.number) 0 parts.old.code) parts.old) }
 {
     parts
         .code
-        .takes(context, exit, Instruction::Open(x.number), 0)?;
-    parts.plain(context, Instruction::Turn)
+        .takes(context, exit, Instruction::Open(x.number), 0)
 }
 
 /// Fetches the next row of a FOR statement into its variables.
@@ -198,10 +208,11 @@ pub(crate) fn fetch_row(
 
 /// Raises the condition of a CASE without ELSE.
 pub(crate) fn no_case(parts: &mut FunctionBuilder, context: u32) -> Result<(), AllocError>
-    ensures { IfOk result (λ _. parts.new ≡ with_code (takes context (suc (at parts.old)) instruction.NoCase 0 parts.old.code) parts.old) }
+    ensures { IfOk result (λ _. DraftedParts (λ σ p q. q ≡ with_code (takes context (suc (at p)) instruction.NoCase 0 p.code) p) parts.old parts.new) }
 {
-    let resume = later(parts.at()?, 1)?;
-    parts.code.takes(context, resume, Instruction::NoCase, 0)
+    let resume = parts.label()?;
+    parts.code.takes(context, resume, Instruction::NoCase, 0)?;
+    parts.bind(resume)
 }
 
 /// A list of one number.

@@ -2,7 +2,7 @@
 ghost use Rattle.std.specs.Prelude.{◌≡◌, ◌∷◌, [], None, Some, drop, length, slice_get, IfOk};
 ghost use Rattle.psm_resolved.specs.Written.{letter_or};
 ghost use Rattle.psm_simulation.specs.Expressions.{negating, scaling};
-ghost use Rattle.psm_codegen.specs.Written.{Written, all_applied, applied as with_operation, here, last_letter, plain, puts, second_letter, taken, takes, with_line, with_query};
+ghost use Rattle.psm_codegen.specs.Written.{Written, all_applied, applied as with_operation, bound, here, last_letter, plain, puts, second_letter, taken, takes, with_label, with_line, with_query};
 ghost use Rattle.psm_exprcode.specs.declared.op.Letter.TheVariants.{N, B};
 
 use psm_code::{Instruction, Lines, LinesWriter};
@@ -11,11 +11,15 @@ use psm_list::List;
 use std::alloc::{AllocError, Global};
 use std::marker::Model;
 
-/// The lines so far, the letters of the operands after them, and the queries so far.
+/// The lines so far, the letters of the operands after them, the queries so far, and the labels: for each the line to which it is bound.
+///
+/// A line that isn't written yet is named by a label, which is bound once it follows. So lines have labels where they jump and where the
+/// run goes on after a condition; `patch_lines` puts lines in place of them.
 #[derive(Drop)]
 pub(crate) struct Writer {
     code: LinesWriter,
     queries: Vec<Query>,
+    labels: Vec<Option<u32>>,
 }
 
 impl Model for Writer {
@@ -23,27 +27,73 @@ impl Model for Writer {
 
     ghost Value = { Written };
 
-    ghost view = { λ w. record { lines = w.code.lines; stack = w.code.stack; queries = w.queries.items } };
+    ghost view = { λ w. record { lines = w.code.lines; stack = w.code.stack; queries = w.queries.items; labels = w.labels.items } };
 }
 
 impl Writer {
     /// No line yet.
     pub fn new(alloc: Global) -> Writer
-        ensures { result ≡ record { lines = []; stack = []; queries = [] } }
+        ensures { result ≡ record { lines = []; stack = []; queries = []; labels = [] } }
     {
         Writer {
             code: LinesWriter::new(alloc),
             queries: Vec::new(alloc),
+            labels: Vec::new(alloc),
         }
     }
 
-    /// Gives the lines and the queries back.
-    pub fn into_parts(self) -> (Lines, List<Query>)
+    /// Gives the lines, the queries and the labels back.
+    pub fn into_parts(self) -> (Lines, List<Query>, Vec<Option<u32>>)
         ensures lines { result.0 ≡ self.lines }
         ensures queries { result.1 ≡ self.queries }
+        ensures labels { result.2.items ≡ self.labels }
     {
-        let Writer { code, queries } = self;
-        (code.into_lines(), List::of(queries))
+        let Writer {
+            code,
+            queries,
+            labels,
+        } = self;
+        (code.into_lines(), List::of(queries), labels)
+    }
+
+    /// A new label, which is bound to no line yet. More labels than fit in 32 bits count as out of memory.
+    pub fn label(&mut self) -> Result<u32, AllocError>
+        ensures number { IfOk result (λ label. label ≡ length self.old.labels) }
+        ensures labels { IfOk result (λ _. self.new ≡ with_label None self.old) }
+    {
+        match u32::try_from(self.labels.len()) {
+            Ok(label) => {
+                self.labels.push(None)?;
+                Ok(label)
+            }
+            Err(_) => Err(AllocError),
+        }
+    }
+
+    /// A new label, which is bound to the line that follows.
+    pub fn label_here(&mut self) -> Result<u32, AllocError>
+        ensures number { IfOk result (λ label. label ≡ length self.old.labels) }
+        ensures labels { IfOk result (λ _. self.new ≡ with_label (Some (here self.old)) self.old) }
+    {
+        let here = self.here()?;
+        match u32::try_from(self.labels.len()) {
+            Ok(label) => {
+                self.labels.push(Some(here))?;
+                Ok(label)
+            }
+            Err(_) => Err(AllocError),
+        }
+    }
+
+    /// Binds a label to the line that follows.
+    pub fn bind(&mut self, label: u32) -> Result<(), AllocError>
+        ensures { IfOk result (λ _. self.new ≡ bound label self.old) }
+    {
+        let here = self.here()?;
+        if (label as usize) < self.labels.len() {
+            self.labels[label as usize] = Some(here);
+        }
+        Ok(())
     }
 
     /// Writes an instruction, which leaves the operands as they are.
@@ -73,7 +123,7 @@ impl Writer {
     }
 
     /// Writes an instruction that takes n operands and puts those of these letters, the last one first. After a condition the
-    /// run goes on at the line `resume`.
+    /// run goes on at the line of the label `resume`.
     pub fn puts(
         &mut self,
         context: u32,

@@ -10,7 +10,7 @@ use Rattle.psm_table.specs.Cursors.{first_met, lies_past, rows_past}
 use Rattle.psm_table.specs.Definition.{IsRow}
 use Rattle.psm_table.specs.Evaluator.{and_then, mapped, test_of}
 use Rattle.psm_table.specs.Key.{values_at}
-use Rattle.psm_table.specs.Matching.{few, rows_with}
+use Rattle.psm_table.specs.Matching.{at_most_one, rows_with}
 use Rattle.psm_table.specs.Queries.{in_walk, is_met}
 use Rattle.psm_table.specs.Table.{Contents, IsTable}
 use Rattle.psm_table.specs.Unique.{equal_values}
@@ -48,10 +48,10 @@ module _ (test : Test) (p h : List Datum → Bool) (unmet : (row : List Datum) �
 
 -- ---- what is looked up
 
-few_is : (rows some : List (List Datum)) → Some some ≡ few rows → rows ≡ some
-few_is [] some e = cc
-few_is (row ∷ []) some e = cc
-few_is (row ∷ other ∷ rows) some e = absurd cc
+only_row_is : (rows some : List (List Datum)) → Some some ≡ at_most_one rows → rows ≡ some
+only_row_is [] some e = cc
+only_row_is (row ∷ []) some e = cc
+only_row_is (row ∷ other ∷ rows) some e = absurd cc
 
 one_walked : (row : List Datum) (downward : Bool) → in_walk downward (row ∷ []) ≡ row ∷ []
 one_walked row true = refl
@@ -101,19 +101,19 @@ module _ (t : Contents) (vars : List Datum) (test : Option (List Line)) (downwar
     none_walked true = refl
     none_walked false = refl
 
-    pub due_nothing : Some [] ≡ few found → due ≡ Ok None
-    due_nothing e = due_by [] (few_is found [] e) ∙ none_walked downward
+    pub due_nothing : Some [] ≡ at_most_one found → due ≡ Ok None
+    due_nothing e = due_by [] (only_row_is found [] e) ∙ none_walked downward
 
-    due_one : (row : List Datum) → Some (row ∷ []) ≡ few found → due ≡ first_met (test_of (over vars) test) (filter (lies_past t.def.key downward bound) (row ∷ []))
+    due_one : (row : List Datum) → Some (row ∷ []) ≡ at_most_one found → due ≡ first_met (test_of (over vars) test) (filter (lies_past t.def.key downward bound) (row ∷ []))
     due_one row e =
-        due_by (row ∷ []) (few_is found (row ∷ []) e)
+        due_by (row ∷ []) (only_row_is found (row ∷ []) e)
         ∙ ap (λ (l : List (List Datum)). first_met (test_of (over vars) test) (filter (lies_past t.def.key downward bound) l)) (one_walked row downward)
 
-    pub due_found : (row : List Datum) (result : Result (Option (Bor (List Datum))) ValueFault) → Some (row ∷ []) ≡ few found → Finds (first_met (test_of (over vars) test) (filter (lies_past t.def.key downward bound) (row ∷ []))) result
+    pub due_found : (row : List Datum) (result : Result (Option (Bor (List Datum))) ValueFault) → Some (row ∷ []) ≡ at_most_one found → Finds (first_met (test_of (over vars) test) (filter (lies_past t.def.key downward bound) (row ∷ []))) result
         → Finds due result
     due_found row result e h = subst (λ (r : Result (Option (List Datum)) SqlState). Finds r result) (sym (due_one row e)) h
 
-  pub one_fits : IsTable t → (row : List Datum) → Some (row ∷ []) ≡ few found → IsRow t.def row
+  pub one_fits : IsTable t → (row : List Datum) → Some (row ∷ []) ≡ at_most_one found → IsRow t.def row
   one_fits is row e =
       All-head (IsRow t.def) row []
-      (subst (All (IsRow t.def)) (few_is found (row ∷ []) e) (All-filter (λ row. equal_values unique.values (values_at columns row)) (IsRow t.def) t.rows is.fit))
+      (subst (All (IsRow t.def)) (only_row_is found (row ∷ []) e) (All-filter (λ row. equal_values unique.values (values_at columns row)) (IsRow t.def) t.rows is.fit))

@@ -3,7 +3,7 @@ use Rattle.std.proofs.Common.{◌≡◌, List, [], ◌∷◌, ◌++◌, Bool, tr
 use Rattle.std.specs.Prelude.{Option, codes, if◌then◌else◌, nat_lt}
 use Rattle.psm_sqlstate.specs.declared.state.SqlState.{SqlState}
 use Rattle.psm_value.specs.declared.datum.Datum.{Datum}
-use Rattle.psm_table.specs.Changing.{changed_if_keyed, counting, deleted, deleted_at, divided, ended, ended_with, has_moved, if_keyed, in_order, inserted, keep_rules, keyless, moved_if_keyed, moving, rows_but, rows_pass, set_row, stored_rows, then_of, updated, updated_at, Changed, Division, Failure, Moved, OfTable, Raised, Schema, SetItem}
+use Rattle.psm_table.specs.Changing.{changed_if_keyed, counting, deleted, deleted_at, divided, ended, ended_with, has_moved, if_keyed, in_order, inserted, keep_rules, keyless, moved_if_keyed, moving, rows_but, rows_pass, set_row, stored_rows, then_of, updated, updated_at, Changed, Division, Failure, Moved, OfTable, Schema, SetItem}
 use Rattle.psm_table.specs.Definition.{kinds_of}
 use Rattle.psm_table.specs.Evaluator.{Evaluator}
 use Rattle.psm_table.specs.Table.{most_rows}

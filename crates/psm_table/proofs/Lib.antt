@@ -30,7 +30,7 @@ pub mod RowOrders
 pub mod Rules
 pub mod Searches
 pub mod Tables
-pub mod Tellings
+pub mod MatchingEntries
 pub mod Turns
 pub mod Undo
 pub mod UniqueLaws

@@ -1,6 +1,6 @@
 -- Keys compared value by value.
 use Rattle.std.proofs.Common.{◌≡◌, ℕ, zero, suc, ◌+◌, ◌<◌, ◌≤◌, ◌^◌, ◌*ℤ◌, pos, List, [], ◌∷◌, length, get_or, drop, refl, ap, sym, ◌∙◌, add-one, arith}
-use Rattle.std.specs.Prelude.{min}
+use Rattle.std.specs.Prelude.{min, slice_index_or}
 use Rattle.std.specs.declared.cmp.Ordering.{Ordering}
 use Rattle.std.specs.declared.cmp.Ordering.TheVariants.{Less, Equal, Greater}
 use Rattle.std.specs.Ordering.{int_cmp, ordering_then, nat_cmp}
@@ -74,5 +74,6 @@ pub order_equal : (a b c d : Datum) → Equal ≡ data_order a c → data_order 
 order_equal a b c d e = order_one b d ∙ ap (λ o. ordering_then o (key_order (b ∷ []) (d ∷ []))) e
 
 -- the first value is the beginning as long as one
-pub order_first : (a b : Datum) (rest : List Datum) → data_order a b ≡ prefix_order (b ∷ []) (a ∷ rest)
-order_first a b rest = order_one a b
+pub order_first : (key : List Datum) (a b : Datum) → 0 < length key → a ≡ slice_index_or key 0 a → data_order a b ≡ prefix_order (b ∷ []) key
+order_first [] a b l e = absurd (omega arith)
+order_first (v ∷ vs) a b l e = ap (λ x. data_order x b) e ∙ order_one v b

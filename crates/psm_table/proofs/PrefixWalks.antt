@@ -19,12 +19,12 @@ use Rattle.psm_table.proofs.Walks.{ahead-filter, up-above, up-from}
 abbrev Entry : Type 0
 Entry = Pair (Unit {0})
 
-module _ (values : List Datum) (tells : List Datum → Bool) where
-  -- an entry with the values doesn't tell of what is looked for
+module _ (values : List Datum) (is_sought : List Datum → Bool) where
+  -- an entry with the values isn't one that is looked for
   abbrev pub Silent : Entry → Type 0
-  Silent p = is_eq (prefix_order values p.key) ≡ true → tells p.key ≡ false
+  Silent p = is_eq (prefix_order values p.key) ≡ true → is_sought p.key ≡ false
 
-  -- those that begin with smaller values tell nothing
+  -- nor is any of those that begin with smaller values
   not_below : (o : Ordering) → not (is_lt o) ≡ false → is_eq o ≡ true → ⊥
   not_below Less e f = cc
   not_below Equal e f = cc
@@ -35,7 +35,7 @@ module _ (values : List Datum) (tells : List Datum → Bool) where
       unfiltered (λ (p : Entry). not (is_lt (prefix_order values p.key))) Silent
       (λ p e f. absurd (not_below (prefix_order values p.key) e f)) entries h
 
-  -- nor do those from one on that begins with greater ones
+  -- nor any of those from one on that begins with greater ones
   greater_or : (o : Ordering) → not (is_lt o) ≡ true → is_eq o ≡ false → o ≡ Greater
   greater_or Less e f = cc
   greater_or Equal e f = cc
@@ -54,7 +54,7 @@ module _ (values : List Datum) (tells : List Datum → Bool) where
       (λ k d l. vacuous (get_or (pairs_above p.key entries) k d)
       (prefix-greater values p.key (get_or (pairs_above p.key entries) k d).key (later k d l) g))
 
-  -- a walk has come so far: the entries before tell nothing if those from here on are
+  -- a walk has come so far: no entry is looked for if none from here on is
   pub record Walked (entries : List Entry) (next : Option Entry) : Type 0 where
     pub rest : All Silent (ahead entries next) → All Silent entries
     pub high : All (λ p. not (is_lt (prefix_order values p.key)) ≡ true) (ahead entries next)

@@ -1,31 +1,25 @@
 -- Rows that have given values, looked up by the key or by the entries of a UNIQUE list, or found in a walk.
-use Rattle.std.proofs.Common.{◌≡◌, ◌<◌, ℕ, List, [], ◌∷◌, Bool, true, false, not, ◌&&◌, ◌||◌, length, get_or, drop, take, refl, ap, sym, subst, ◌∙◌, arith}
-use Rattle.std.specs.Prelude.{All, is_some, Option, Some, None, cond, slice_get}
-use Rattle.std.proofs.lemmas.List.Folds.{list_any_at, list_any_none}
+use Rattle.std.proofs.Common.{◌≡◌, ◌<◌, ℕ, List, [], ◌∷◌, Bool, true, false, not, ◌&&◌, ◌||◌, length, get_or, refl, ap, sym, subst, ◌∙◌, arith}
+use Rattle.std.specs.Prelude.{All, is_some, Option, Some, cond, slice_get}
 use Rattle.std.proofs.lemmas.Option.{get_or_from_slice_get, slice_get_within}
 use Rattle.std.specs.Ordering.{is_eq, ordering_reverse}
 use Rattle.std.specs.declared.cmp.Ordering.{Ordering}
 use Rattle.std.specs.declared.cmp.Ordering.TheVariants.{Less, Equal, Greater}
-use Rattle.std.proofs.lemmas.List.Elements.{All-cons, All-head, All-nil, All-tail}
+use Rattle.std.proofs.lemmas.List.Elements.{All-head, All-tail}
 use Rattle.psm_value.specs.declared.datum.Datum.{Datum}
 use Rattle.psm_value.specs.declared.datum.Datum.TheVariants.{Null, Num, Text}
 use Rattle.psm_table.specs.declared.definition.TableDef.{TableDef}
 use Rattle.psm_table.specs.Definition.{IsRow}
-use Rattle.psm_table.specs.declared.map.Pair.{Pair}
-use Rattle.psm_table.specs.Held.{entries_of, live_rows, row_of, HasItsKey, IsEntered}
-use Rattle.psm_table.specs.Index.{row_has}
-use Rattle.psm_table.specs.Key.{key_order, row_order, values_at, AreColumnsOf}
+use Rattle.psm_table.specs.Held.{entries_of, IsEntered}
+use Rattle.psm_table.specs.Key.{key_order, row_order, values_at}
 use Rattle.psm_table.specs.Keyed.{has_values}
-use Rattle.psm_table.specs.Map.{keys_of, prefix_order, AreAscending}
+use Rattle.psm_table.specs.Map.{keys_of}
 use Rattle.psm_table.specs.Mapped.{Mapped}
-use Rattle.psm_table.specs.Rows.{row_with, IsAscending}
-use Rattle.psm_table.specs.State.{entry_of, HasEntry}
+use Rattle.psm_table.specs.Rows.{row_with}
+use Rattle.psm_table.specs.State.{HasEntry}
 use Rattle.psm_table.specs.Unique.{equal_values, has_null, is_null}
 use Rattle.psm_table.proofs.Entered.{all_zip-at, get-entries, length-entries}
 use Rattle.psm_table.proofs.KeyLaws.{key_order-total}
-use Rattle.psm_table.proofs.PrefixWalks.{Silent}
-use Rattle.psm_table.proofs.Rivals.{equal_length, equal_parts, equal_sym, equal_trans, leads_back, pair_there, row-live}
-use Rattle.psm_table.proofs.RowOrders.{length-values_at}
 
 abbrev Row : Type 0
 Row = List Datum

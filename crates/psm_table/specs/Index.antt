@@ -1,4 +1,4 @@
--- The entries of lists of columns, UNIQUE ones and others: what is added to them and taken from them, and which tell of a row.
+-- The entries of lists of columns, UNIQUE ones and others: what is added to them and taken from them, and which match a row.
 use Rattle.std.specs.Prelude.{◌≡◌, ℕ, ◌+◌, ◌≤◌, ◌<◌, Bool, true, false, not, ◌&&◌, ◌++◌, List, length, drop, All, Option, Some, None, IfSome, slice_index_or}
 use Rattle.std.specs.Ordering.{is_eq}
 use Rattle.psm_value.specs.declared.datum.Datum.{Datum}

@@ -1,10 +1,9 @@
 -- The values of a row in a list of columns, and the order of keys (ISO/IEC 9075:1992, 8.2).
-use Rattle.std.specs.Prelude.{ℕ, ◌<◌, List, [], ◌∷◌, length, map, All, slice_index_or, Option, Some, None}
+use Rattle.std.specs.Prelude.{ℕ, ◌<◌, List, length, map, All, slice_index_or}
 use Rattle.std.specs.declared.cmp.Ordering.{Ordering}
 use Rattle.std.specs.Cmp.Lexicographic.{slice_cmp}
-use Rattle.psm_num.specs.Num.{Num as Number}
 use Rattle.psm_value.specs.declared.datum.Datum.{Datum}
-use Rattle.psm_value.specs.declared.datum.Datum.TheVariants.{Null, Num, Text}
+use Rattle.psm_value.specs.declared.datum.Datum.TheVariants.{Null}
 use Rattle.psm_value.specs.Order.{data_order}
 
 -- the row's values in the columns, as in its key; a column that doesn't exist counts as null
@@ -22,10 +21,3 @@ row_order columns key row = key_order (values_at columns row) key
 -- each of the columns is one of the row's
 abbrev pub AreColumnsOf : List Datum → List ℕ → Type 0
 AreColumnsOf row columns = All (λ c. c < length row) columns
-
--- the number with which a key begins, if it begins with one
-abbrev pub leading_number : List Datum → Option Number
-leading_number [] = None
-leading_number (Null ∷ vs) = None
-leading_number (Num n ∷ vs) = Some n
-leading_number (Text t ∷ vs) = None

@@ -37,7 +37,7 @@ has_values columns values rows = list_any (λ row. equal_values values (values_a
 abbrev pub is_referred : List ℕ → List ℕ → List (List Datum) → List Datum → Bool
 is_referred columns target others row = has_null (values_at columns row) || has_values target (values_at columns row) others
 
--- whether each row of the table that refers is so
+-- whether each row of the referencing table is so
 abbrev pub is_keyed : List (List (List Datum)) → ForeignKey → Bool
 is_keyed tables key = list_all (is_referred key.columns key.target (rows_at tables key.to)) (rows_at tables key.from)
 
@@ -49,6 +49,6 @@ abbrev pub are_keyed_with : List ForeignKey → List (List (List Datum)) → ℕ
 are_keyed_with keys tables t rows = are_keyed keys (slice_set tables t rows)
 
 -- what a statement has to look at of a constraint that held, if it adds rows to table t and takes none out: each new row, if
--- it is this table that refers
+-- it is the referencing one
 abbrev pub new_are_referred : ForeignKey → ℕ → List (List (List Datum)) → List (List Datum) → Bool
 new_are_referred key t tables new = if nat_eq key.from t then list_all (is_referred key.columns key.target (rows_at tables key.to)) new else true

@@ -8,6 +8,7 @@ pub mod Held
 pub mod Index
 pub mod Key
 pub mod Keyed
+pub mod Leading
 pub mod Left
 pub mod Map
 pub mod Mapped
@@ -17,7 +18,9 @@ pub mod Place
 pub mod Queries
 pub mod Rows
 pub mod Runs
+pub mod Side
 pub mod State
+pub mod Stored
 pub mod Table
-pub mod Told
+pub mod MatchingEntries
 pub mod Unique

@@ -10,11 +10,11 @@ use Rattle.psm_table.specs.Unique.{equal_values}
 abbrev pub rows_with : List ℕ → List Datum → List (List Datum) → List (List Datum)
 rows_with columns values rows = filter (λ row. equal_values values (values_at columns row)) rows
 
--- the rows, if there is one at most
-abbrev pub few : List (List Datum) → Option (List (List Datum))
-few [] = Some []
-few (row ∷ []) = Some (row ∷ [])
-few (row ∷ other ∷ rows) = None
+-- the rows, if there is at most one
+abbrev pub at_most_one : List (List Datum) → Option (List (List Datum))
+at_most_one [] = Some []
+at_most_one (row ∷ []) = Some (row ∷ [])
+at_most_one (row ∷ other ∷ rows) = None
 
 -- the rows that were found, unless there are several
 abbrev pub matched : Matching → Option (List (List Datum))

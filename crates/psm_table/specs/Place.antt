@@ -1,16 +1,19 @@
 -- What is looked for in a map, and where a key stands in it.
 use Rattle.std.specs.Prelude.{◌≡◌, ℕ, ◌+◌, ◌<◌, ◌≤◌, ◌++◌, List, [], ◌∷◌, length, take, drop, slice_get, slice_index_or, Option, Some, None}
 use Rattle.psm_value.specs.declared.datum.Datum.{Datum}
+use Rattle.psm_value.specs.declared.datum.Datum.TheVariants.{Num}
 use Rattle.psm_table.specs.declared.map.Pair.{Pair}
 use Rattle.psm_table.specs.declared.map.Position.{Position}
 use Rattle.psm_table.specs.declared.probe.Probe.{Probe}
-use Rattle.psm_table.specs.declared.probe.Probe.TheVariants.{One, Two, Of, In, Both}
+use Rattle.psm_table.specs.declared.probe.Probe.TheVariants.{Number, Numbers, One, Two, Of, In, Both}
 use Rattle.psm_table.specs.Key.{values_at, AreColumnsOf}
 use Rattle.psm_table.specs.Map.{pairs_below, pairs_above, pair_with}
 use Rattle.psm_table.specs.Runs.{IsIn}
 
 -- the key that is looked for
 abbrev pub probe_key : Probe → List Datum
+probe_key (Number n) = Num n.now ∷ []
+probe_key (Numbers first second) = Num first.now ∷ Num second.now ∷ []
 probe_key (One value) = value.now ∷ []
 probe_key (Two first second) = first.now ∷ second.now ∷ []
 probe_key (Of key) = key.now
@@ -19,6 +22,8 @@ probe_key (Both columns key row) = values_at columns.now row.now ++ values_at ke
 
 -- the columns are some of the row's
 abbrev pub FitsProbe : Probe → Type 0
+FitsProbe (Number n) = Unit {0}
+FitsProbe (Numbers first second) = Unit {0}
 FitsProbe (One value) = Unit {0}
 FitsProbe (Two first second) = Unit {0}
 FitsProbe (Of key) = Unit {0}

@@ -1,10 +1,11 @@
 -- Pairs in ascending order, in runs one after the other.
-use Rattle.std.specs.Prelude.{◌≡◌, ℕ, ◌+◌, ◌-◌, ◌<◌, ◌≤◌, Bool, true, false, List, [], ◌∷◌, ◌++◌, length, take, drop, All, slice_index_or, Option, None}
+use Rattle.std.specs.Prelude.{◌≡◌, ℕ, ◌+◌, ◌-◌, ◌<◌, ◌≤◌, Bool, true, false, List, [], ◌∷◌, ◌++◌, length, take, drop, All, slice_index_or}
 use Rattle.std.specs.declared.cmp.Ordering.TheVariants.{Less, Greater}
 use Rattle.psm_value.specs.declared.datum.Datum.{Datum}
+use Rattle.psm_table.specs.declared.leading.Leading.{Leading}
 use Rattle.psm_table.specs.declared.map.Pair.{Pair}
-use Rattle.psm_num.specs.Num.{Num}
-use Rattle.psm_table.specs.Key.{key_order, leading_number}
+use Rattle.psm_table.specs.Key.{key_order}
+use Rattle.psm_table.specs.Leading.{leading_of}
 
 -- a run has memory for n pairs
 abbrev pub most_pairs : ℕ
@@ -16,10 +17,10 @@ module _ {V : Type 0} where
   joined [] = []
   joined (r ∷ rs) = r ++ joined rs
 
-  -- the number with which the first pair's key begins, if it begins with one
-  abbrev pub head_of : List (Pair V) → Option Num
-  head_of [] = None
-  head_of (p ∷ ps) = leading_number p.key
+  -- the numbers with which the first pair's key begins
+  abbrev pub head_of : List (Pair V) → Leading
+  head_of [] = leading_of []
+  head_of (p ∷ ps) = leading_of p.key
 
   -- a run has a pair, and room for one more
   pub record IsRun (run : List (Pair V)) : Type 0 where

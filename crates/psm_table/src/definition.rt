@@ -24,9 +24,8 @@ pub struct TableDef {
     pub unique: List<List<u32>>,
 }
 
-/// A FOREIGN KEY constraint (ISO/IEC 9075:1992, 11.8) with NO ACTION: the number of the table that refers and the places of
-/// its columns, and the number of the table that is referred to and the places of the columns there, each with the one
-/// that refers to it.
+/// A FOREIGN KEY constraint (ISO/IEC 9075:1992, 11.8) with NO ACTION: the number of the referencing table and the places of its
+/// columns, and the number of the referenced table and the places of the columns there, each with the one that refers to it.
 #[derive(Debug, Drop)]
 pub struct ForeignKey {
     pub from: u32,

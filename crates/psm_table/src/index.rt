@@ -7,14 +7,15 @@ ghost use Rattle.psm_table.specs.Held.{entries_of, live_rows, row_of, HasItsKey,
 ghost use Rattle.psm_table.specs.Index.{is_current, is_entry, rival_at, AreEntered, AreHarmless, ArePrepared, ArePut, Grow, GrowByOne, HasRoom, HaveKeys, HaveRoom, IsPrepared, IsPut};
 ghost use Rattle.psm_table.specs.Key.{values_at, AreColumnsOf};
 ghost use Rattle.psm_table.specs.Map.{AreAscending};
+ghost use Rattle.psm_table.specs.Place.{probe_key, FitsProbe};
 ghost use Rattle.psm_table.specs.Rows.{IsAscending};
 ghost use Rattle.psm_table.specs.Unique.{agree, clashes, conflict, equal_value, has_null, is_null, is_rival};
 
 use crate::definition::TableDef;
-use crate::key::Key;
 use crate::map::{OrderedMap, Pair, Test};
-use crate::probe::{Probe, order_of_prefix};
+use crate::probe::Probe;
 use crate::row::Row;
+use crate::stored::{StoredKey, order_of_prefix};
 use psm_list::List;
 use psm_value::Datum;
 use std::alloc::{AllocError, Global};
@@ -47,7 +48,7 @@ fn prepare_all(
     def: &TableDef,
     lists: &[List<u32>],
     row: &[Datum],
-) -> Result<Vec<Option<Key>>, AllocError>
+) -> Result<Vec<Option<StoredKey>>, AllocError>
     requires lists { length indexes.old.items ≡ length lists.now }
     requires key { AreColumnsOf row.now def.now.key }
     ensures lists { length indexes.new.items ≡ length indexes.old.items }
@@ -70,7 +71,7 @@ fn prepare(
     columns: &[u32],
     key: &[u32],
     row: &[Datum],
-) -> Result<Option<Key>, AllocError>
+) -> Result<Option<StoredKey>, AllocError>
     requires key { AreColumnsOf row.now key.now }
     ensures pairs { index.new.pairs ≡ index.old.pairs }
     ensures entry { IfOk result (IsPrepared columns.now key.now row.now index.new) }
@@ -78,13 +79,13 @@ fn prepare(
     if is_null_in(row, columns) {
         return Ok(None);
     }
-    let entry = Key::of_entry(alloc, columns, key, row)?;
+    let entry = StoredKey::of(alloc, Probe::Both { columns, key, row })?;
     index.reserve()?;
     Ok(Some(entry))
 }
 
 /// Puts each entry into the set at its place. It takes no memory.
-fn put_all(indexes: &mut Vec<OrderedMap<()>>, mut entries: Vec<Option<Key>>)
+fn put_all(indexes: &mut Vec<OrderedMap<()>>, mut entries: Vec<Option<StoredKey>>)
     requires lists { length entries.items ≡ length indexes.old.items }
     requires room { HaveRoom indexes.old.items entries.items }
     ensures lists { length indexes.new.items ≡ length indexes.old.items }
@@ -96,7 +97,7 @@ fn put_all(indexes: &mut Vec<OrderedMap<()>>, mut entries: Vec<Option<Key>>)
 }
 
 /// Puts an entry into a set, if there is one. It takes the place of an equal one.
-fn put(index: &mut OrderedMap<()>, entry: Option<Key>)
+fn put(index: &mut OrderedMap<()>, entry: Option<StoredKey>)
     requires { HasRoom index.old entry }
     ensures { IsPut index.old index.new entry }
 {
@@ -169,32 +170,30 @@ fn has_rival_in(
     let probe = Probe::In { columns, row };
     let mut next = index.from(probe);
     'walk: while let Some(entry) = next {
-        let values = entry.key.values();
-        if !order_of_prefix(values, probe).is_eq() {
+        if !order_of_prefix(&entry.key, probe).is_eq() {
             return false;
         }
-        if is_rival_at(def, rows, key_part(values, columns.len()), row) {
+        if is_rival_at(def, rows, entry.key.rest(columns.len()), row) {
             return true;
         }
-        next = index.after(Probe::Of(values));
+        next = index.after(entry.key.probe());
     }
     false
 }
 
-/// What follows n values of an entry.
-pub(crate) fn key_part(entry: &[Datum], width: usize) -> &[Datum]
-    ensures { result.now ≡ drop width entry.now }
-{
-    &entry[width.min(entry.len())..]
-}
-
 /// Whether the key has a row, which has another key than the row and agrees with it in a UNIQUE list.
-fn is_rival_at(def: &TableDef, rows: &OrderedMap<Option<Row>>, key: &[Datum], row: &[Datum]) -> bool
+fn is_rival_at(
+    def: &TableDef,
+    rows: &OrderedMap<Option<Row>>,
+    key: Probe<'_>,
+    row: &[Datum],
+) -> bool
+    requires fits { FitsProbe key }
     requires rows { HaveKeys def.now (live_rows rows.now.pairs) }
     requires row { AreColumnsOf row.now def.now.key }
-    ensures { result ≡ rival_at def.now row.now (row_of key.now rows.now.pairs) }
+    ensures { result ≡ rival_at def.now row.now (row_of (probe_key key.entry) rows.now.pairs) }
 {
-    match rows.row_at(Probe::Of(key)) {
+    match rows.row_at(key) {
         Some(other) => rivals(def, row, other.values()),
         None => false,
     }
@@ -265,28 +264,22 @@ impl<'a> Test<()> for IsCurrent<'a> {
     ghost passes = { λ t p. is_current t.def.now.key t.columns.now p.key (row_of (drop (length t.columns.now) p.key) t.rows.now.pairs) };
 
     fn passes(&self, pair: &Pair<()>) -> bool {
-        let entry = pair.key.values();
-        match self
-            .rows
-            .row_at(Probe::Of(key_part(entry, self.columns.len())))
-        {
-            Some(row) => is_entry_of(self.columns, self.def.key.items(), row.values(), entry),
+        match self.rows.row_at(pair.key.rest(self.columns.len())) {
+            Some(row) => is_entry_of(self.columns, self.def.key.items(), row.values(), &pair.key),
             None => false,
         }
     }
 }
 
 /// Whether an entry is that of a row.
-fn is_entry_of(columns: &[u32], key: &[u32], row: &[Datum], entry: &[Datum]) -> bool
+fn is_entry_of(columns: &[u32], key: &[u32], row: &[Datum], entry: &StoredKey) -> bool
     requires { AreColumnsOf row.now key.now }
     ensures { result ≡ is_entry key.now columns.now entry.now row.now }
 {
     if is_null_in(row, columns) {
         return false;
     }
-    Probe::Of(entry)
-        .order(Probe::Both { columns, key, row })
-        .is_eq()
+    entry.order(Probe::Both { columns, key, row }).is_eq()
 }
 
 /// Lets the entries go that are of no row which is there now.

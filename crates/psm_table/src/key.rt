@@ -1,11 +1,8 @@
 ghost use Rattle.std.specs.Prelude.{◌≡◌, ◌++◌, IfOk, OnOk};
-ghost use Rattle.psm_table.specs.Key.{key_order, leading_number, values_at, AreColumnsOf};
+ghost use Rattle.psm_table.specs.Key.{key_order, values_at, AreColumnsOf};
 ghost use Rattle.psm_table.specs.Parts.{values_of};
-ghost use Rattle.psm_table.specs.Place.{probe_key, FitsProbe};
 
-use crate::probe::{Probe, order_of, order_of_two};
 use crate::row::{Row, copied};
-use psm_num::Dec;
 use psm_value::Datum;
 use std::alloc::{AllocError, Global};
 use std::cmp::Ordering;
@@ -96,49 +93,6 @@ impl Key {
             _ => Parts::Many(values_in(alloc, columns, values)?),
         };
         Ok(Key { parts })
-    }
-}
-
-impl Key {
-    /// The number with which the key begins, if it begins with one.
-    pub(crate) fn leading_number(&self) -> Option<Dec>
-        ensures { result ≡ leading_number self.now }
-    {
-        match self.values() {
-            [Datum::Num(number), ..] => Some(*number),
-            _ => None,
-        }
-    }
-
-    /// The order of the key and what is looked for.
-    pub(crate) fn order(&self, probe: Probe<'_>) -> Ordering
-        requires { FitsProbe probe }
-        ensures { result ≡ key_order self.now (probe_key probe.entry) }
-    {
-        match (&self.parts, probe) {
-            (Parts::One([value]), Probe::One(sought)) => order_of(value, sought),
-            (Parts::Many(values), Probe::Two(first, second)) => {
-                order_of_two(values.as_slice(), first, second)
-            }
-            _ => Probe::Of(self.values()).order(probe),
-        }
-    }
-
-    /// The row's values in the columns, followed by those in its key.
-    pub(crate) fn of_entry(
-        alloc: Global,
-        columns: &[u32],
-        key: &[u32],
-        row: &[Datum],
-    ) -> Result<Key, AllocError>
-        requires columns { AreColumnsOf row.now columns.now }
-        requires key { AreColumnsOf row.now key.now }
-        ensures { IfOk result (λ entry. entry ≡ values_at columns.now row.now ++ values_at key.now row.now) }
-    {
-        let mut values = Vec::with_capacity(alloc, columns.len() + key.len())?;
-        add_values(alloc, &mut values, columns, row)?;
-        add_values(alloc, &mut values, key, row)?;
-        Ok(Key::of(values))
     }
 }
 

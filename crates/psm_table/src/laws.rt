@@ -15,7 +15,7 @@ ghost use Rattle.psm_table.specs.Rows.{put, row_with, without, IsAscending};
 ghost use Rattle.psm_table.specs.Table.{keyed, most_rows, namesake, with_row, without_row, Contents, IsTable};
 ghost use Rattle.psm_table.specs.Unique.{clashes, AreUnique};
 
-/// What `Table::clash` tells (ISO/IEC 9075:1992, 8.9 and 11.7). Where no row of a table clashes with the others,
+/// What `Table::clash` answers (ISO/IEC 9075:1992, 8.9 and 11.7). Where no row of a table clashes with the others,
 /// no two rows agree in a UNIQUE list, and that stays so when a row is put in that doesn't clash.
 pub fn unique_laws()
     ensures none { (t : Contents) → IsTable t → All (λ row. clashes t.def row t.rows ≡ false) t.rows → AreUnique t.def t.rows }
@@ -79,7 +79,7 @@ pub fn foreign_keys_come_last()
 {}
 
 /// What a statement on table t has to look at where all FOREIGN KEY constraints held (ISO/IEC 9075:1992, 11.8). A constraint that names
-/// the table on neither side holds as before. Where rows are only added, each new row of the table that refers has to be
+/// the table on neither side holds as before. Where rows are only added, each new row of the referencing table has to be
 /// looked up, and no other. Where other rows are taken out or changed, so it is too, unless the table is referred to.
 pub fn tests_of_foreign_keys()
     ensures elsewhere { (tables : List (List (List Datum))) (t : ℕ) (rows : List (List Datum)) (key : ForeignKey) → key.from ≢ t → key.to ≢ t → is_keyed (slice_set tables t rows) key ≡ is_keyed tables key }

@@ -9,18 +9,18 @@ ghost use Rattle.psm_value.specs.declared.datum.Datum.{Datum};
 ghost use Rattle.psm_table.specs.declared.map.Pair.{Pair};
 ghost use Rattle.psm_table.specs.Runs.{joined, IsRun};
 
-use crate::key::Key;
 use crate::probe::Probe;
 use crate::row::Row;
 use crate::run::Run;
 use crate::runs::{first_from, locate, locate_past, put, retain_at};
+use crate::stored::StoredKey;
 use std::alloc::{AllocError, Global};
 use std::marker::Model;
 
 /// A key and its value.
 #[derive(Drop)]
 pub(crate) struct Pair<V> {
-    pub key: Key,
+    pub key: StoredKey,
     pub value: V,
 }
 
@@ -96,7 +96,7 @@ impl<V: Drop> OrderedMap<V> {
     }
 
     /// Puts a pair in, in the place of that of its key if there is one. It searches once.
-    pub(crate) fn insert(&mut self, key: Key, value: V)
+    pub(crate) fn insert(&mut self, key: StoredKey, value: V)
         requires { self.old.ready ≡ true }
         ensures pairs { self.new.pairs ≡ with_pair (record { key = key; value = value }) self.old.pairs }
         ensures ordered { AreAscending self.new.pairs }
@@ -338,7 +338,7 @@ impl OrderedMap<Option<Row>> {
         while let Some(pair) = next {
             match &pair.value {
                 Some(row) => return Some(row),
-                None => next = self.after(Probe::Of(pair.key.values())),
+                None => next = self.after(pair.key.probe()),
             }
         }
         None

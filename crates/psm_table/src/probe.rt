@@ -1,21 +1,26 @@
 //! Keys that are looked for, lent from a row or a list of values.
-ghost use Rattle.std.specs.Prelude.{◌≡◌, ◌<◌, ◌∷◌, [], length, slice_get, slice_index_or};
-ghost use Rattle.std.specs.Option.{option_copied};
+ghost use Rattle.std.specs.Prelude.{◌≡◌, ◌<◌, ◌∷◌, [], length, slice_index_or, IfOk};
 ghost use Rattle.psm_value.specs.declared.datum.Datum.TheVariants.{Null};
 ghost use Rattle.psm_num.specs.Order.{order};
 ghost use Rattle.psm_value.specs.Order.{data_order};
-ghost use Rattle.psm_table.specs.Cuts.{is_past};
-ghost use Rattle.psm_table.specs.Key.{key_order, leading_number};
-ghost use Rattle.psm_table.specs.Map.{prefix_order};
+ghost use Rattle.psm_table.specs.Key.{key_order};
+ghost use Rattle.psm_table.specs.Leading.{leading_of, number_at, number_of};
 ghost use Rattle.psm_table.specs.Place.{probe_key, FitsProbe};
+ghost use Rattle.psm_table.specs.Side.{side_value};
 
+use crate::leading::Leading;
 use psm_num::Dec;
 use psm_value::Datum;
+use std::alloc::{AllocError, Global};
 use std::cmp::Ordering;
 
 /// What is looked for.
 #[derive(Clone, Copy)]
 pub(crate) enum Probe<'a> {
+    /// One number.
+    Number(&'a Dec),
+    /// Two numbers.
+    Numbers(&'a Dec, &'a Dec),
     /// One value.
     One(&'a Datum),
     /// Two values.
@@ -35,25 +40,103 @@ pub(crate) enum Probe<'a> {
     },
 }
 
+/// A side of a comparison: a number, or any value.
+#[derive(Clone, Copy)]
+pub(crate) enum Side<'a> {
+    Number(&'a Dec),
+    Value(&'a Datum),
+}
+
+impl<'a> Side<'a> {
+    /// A value.
+    fn of(value: &'a Datum) -> Side<'a>
+        ensures { side_value result ≡ value.now }
+    {
+        match value {
+            Datum::Num(number) => Side::Number(number),
+            _ => Side::Value(value),
+        }
+    }
+
+    /// The number, if it is one.
+    fn number(self) -> Option<Dec>
+        ensures { result ≡ number_of (side_value self.entry) }
+    {
+        match self {
+            Side::Number(number) => Some(*number),
+            Side::Value(Datum::Num(number)) => Some(*number),
+            Side::Value(_) => None,
+        }
+    }
+
+    /// The same value in memory of its own.
+    fn copied(self, alloc: Global) -> Result<Datum, AllocError>
+        ensures { IfOk result (λ copy. copy ≡ side_value self.entry) }
+    {
+        match self {
+            Side::Number(number) => Ok(Datum::Num(*number)),
+            Side::Value(value) => value.copy(alloc),
+        }
+    }
+
+    /// The order of two values.
+    fn order(self, other: Side<'_>) -> Ordering
+        ensures { result ≡ data_order (side_value self.entry) (side_value other.entry) }
+    {
+        match (self, other) {
+            (Side::Number(a), Side::Number(b)) => order_of_numbers(*a, *b),
+            (Side::Number(a), Side::Value(b)) => Datum::Num(*a).total_cmp(b),
+            (Side::Value(a), Side::Number(b)) => a.total_cmp(&Datum::Num(*b)),
+            (Side::Value(a), Side::Value(b)) => a.total_cmp(b),
+        }
+    }
+}
+
 impl<'a> Probe<'a> {
-    /// The same values; one or two are lent by themselves.
+    /// One value.
+    pub(crate) fn one(value: &'a Datum) -> Probe<'a>
+        ensures key { probe_key result ≡ value.now ∷ [] }
+        ensures fits { FitsProbe result }
+    {
+        match value {
+            Datum::Num(number) => Probe::Number(number),
+            _ => Probe::One(value),
+        }
+    }
+
+    /// Two values.
+    fn two(first: &'a Datum, second: &'a Datum) -> Probe<'a>
+        ensures key { probe_key result ≡ first.now ∷ second.now ∷ [] }
+        ensures fits { FitsProbe result }
+    {
+        match (first, second) {
+            (Datum::Num(a), Datum::Num(b)) => Probe::Numbers(a, b),
+            _ => Probe::Two(first, second),
+        }
+    }
+
+    /// The same values. Numbers stand by themselves where there are one or two, and other values are lent by themselves.
     pub(crate) fn narrowed(self) -> Probe<'a>
         requires { FitsProbe self }
         ensures key { probe_key result ≡ probe_key self.entry }
         ensures fits { FitsProbe result }
     {
         match self {
-            Probe::Of([value]) => Probe::One(value),
-            Probe::Of([first, second]) => Probe::Two(first, second),
+            Probe::Of([value]) => Probe::one(value),
+            Probe::Of([first, second]) => Probe::two(first, second),
             Probe::In {
                 columns: [column],
                 row,
-            } => Probe::One(&row[*column as usize]),
+            } => Probe::one(&row[*column as usize]),
+            Probe::In {
+                columns: [first, second],
+                row,
+            } => Probe::two(&row[*first as usize], &row[*second as usize]),
             Probe::Both {
                 columns: [column],
                 key: [key],
                 row,
-            } => Probe::Two(&row[*column as usize], &row[*key as usize]),
+            } => Probe::two(&row[*column as usize], &row[*key as usize]),
             _ => self,
         }
     }
@@ -63,8 +146,8 @@ impl<'a> Probe<'a> {
         ensures { result ≡ length (probe_key self.entry) }
     {
         match self {
-            Probe::One(_) => 1,
-            Probe::Two(_, _) => 2,
+            Probe::Number(_) | Probe::One(_) => 1,
+            Probe::Numbers(_, _) | Probe::Two(_, _) => 2,
             Probe::Of(values) => values.len(),
             Probe::In { columns, .. } => columns.len(),
             Probe::Both { columns, key, .. } => columns.len() + key.len(),
@@ -72,68 +155,62 @@ impl<'a> Probe<'a> {
     }
 
     /// The value at a place.
-    fn value(self, i: usize) -> &'a Datum
+    fn value(self, i: usize) -> Side<'a>
         requires inside { i < length (probe_key self) }
         requires fits { FitsProbe self }
-        ensures { result.now ≡ slice_index_or (probe_key self.entry) i Null }
+        ensures { side_value result ≡ slice_index_or (probe_key self.entry) i Null }
     {
         match self {
-            Probe::One(value) => value,
-            Probe::Two(first, second) => { if i == 0 { first } else { second } }
-            Probe::Of(values) => &values[i],
-            Probe::In { columns, row } => &row[columns[i] as usize],
+            Probe::Number(number) => Side::Number(number),
+            Probe::Numbers(first, second) => Side::Number(if i == 0 { first } else { second }),
+            Probe::One(value) => Side::of(value),
+            Probe::Two(first, second) => Side::of(if i == 0 { first } else { second }),
+            Probe::Of(values) => Side::of(&values[i]),
+            Probe::In { columns, row } => Side::of(&row[columns[i] as usize]),
             Probe::Both { columns, key, row } => {
                 if i < columns.len() {
-                    &row[columns[i] as usize]
+                    Side::of(&row[columns[i] as usize])
                 } else {
-                    &row[key[i - columns.len()] as usize]
+                    Side::of(&row[key[i - columns.len()] as usize])
                 }
             }
         }
     }
 
-    /// The first value that is looked for, if there is one.
-    fn first(self) -> Option<&'a Datum>
+    /// The number at a place, if there is one.
+    #[tactic(auto, using(crate::proofs::Heads::number_past))]
+    fn number(self, i: usize) -> Option<Dec>
         requires { FitsProbe self }
-        ensures { option_copied result ≡ slice_get (probe_key self.entry) 0 }
+        ensures { result ≡ number_at (probe_key self.entry) i }
     {
-        match self {
-            Probe::One(value) => Some(value),
-            Probe::Two(value, _) => Some(value),
-            Probe::Of(values) => values.first(),
-            Probe::In {
-                columns: [column, ..],
-                row,
-            } => Some(&row[*column as usize]),
-            Probe::In { columns: [], .. } => None,
-            Probe::Both {
-                columns: [column, ..],
-                row,
-                ..
-            } => Some(&row[*column as usize]),
-            Probe::Both {
-                columns: [],
-                key: [column, ..],
-                row,
-            } => Some(&row[*column as usize]),
-            Probe::Both {
-                columns: [],
-                key: [],
-                ..
-            } => None,
+        if i < self.len() {
+            self.value(i).number()
+        } else {
+            None
         }
     }
 
-    /// The number with which what is looked for begins, if it begins with one.
-    #[tactic(auto, using(crate::proofs::Heads::leading_first))]
-    pub(crate) fn leading_number(self) -> Option<Dec>
+    /// The numbers with which what is looked for begins.
+    pub(crate) fn leading(self) -> Leading
         requires { FitsProbe self }
-        ensures { result ≡ leading_number (probe_key self.entry) }
+        ensures { result ≡ leading_of (probe_key self.entry) }
     {
-        match self.first() {
-            Some(Datum::Num(number)) => Some(*number),
-            _ => None,
+        Leading {
+            first: self.number(0),
+            second: self.number(1),
         }
+    }
+
+    /// The same values in memory of their own.
+    pub(crate) fn copied(self, alloc: Global) -> Result<Vec<Datum>, AllocError>
+        requires { FitsProbe self }
+        ensures { IfOk result (λ copy. copy.items ≡ probe_key self.entry) }
+    {
+        let mut copy = Vec::with_capacity(alloc, self.len())?;
+        for i in 0..self.len() {
+            copy.push(self.value(i).copied(alloc)?)?;
+        }
+        Ok(copy)
     }
 
     /// The order of two keys: the first values that differ decide, and else the lengths do.
@@ -143,7 +220,7 @@ impl<'a> Probe<'a> {
         ensures { result ≡ key_order (probe_key self.entry) (probe_key other.entry) }
     {
         for i in 0..self.len().min(other.len()) {
-            match order_of(self.value(i), other.value(i)) {
+            match self.value(i).order(other.value(i)) {
                 Ordering::Equal => {}
                 unequal => return unequal,
             }
@@ -171,44 +248,5 @@ pub(crate) fn order_of_numbers(a: Dec, b: Dec) -> Ordering
         a.coef().cmp(&b.coef())
     } else {
         a.cmp(b)
-    }
-}
-
-/// The order of a key of two values and two others.
-#[tactic(auto, using(crate::proofs::Orders::order_unequal, crate::proofs::Orders::order_equal))]
-pub(crate) fn order_of_two(key: &[Datum], first: &Datum, second: &Datum) -> Ordering
-    ensures { result ≡ key_order key.now (first.now ∷ second.now ∷ []) }
-{
-    match key {
-        [a, b] => match order_of(a, first) {
-            Ordering::Equal => order_of(b, second),
-            unequal => unequal,
-        },
-        _ => Probe::Of(key).order(Probe::Two(first, second)),
-    }
-}
-
-/// The order of the beginning of a key, as long as what it is compared with, and that.
-pub(crate) fn order_of_prefix(key: &[Datum], probe: Probe<'_>) -> Ordering
-    requires { FitsProbe probe }
-    ensures { result ≡ prefix_order (probe_key probe.entry) key.now }
-{
-    let sought = probe.narrowed();
-    match (key, sought) {
-        ([first, ..], Probe::One(value)) => order_of(first, value),
-        _ => Probe::Of(&key[..key.len().min(sought.len())]).order(sought),
-    }
-}
-
-/// Whether a key is past the keys that begin with what it is compared with, or, if these count too, from them on.
-pub(crate) fn is_past(key: &[Datum], probe: Probe<'_>, is_behind: bool) -> bool
-    requires { FitsProbe probe }
-    ensures { result ≡ is_past (probe_key probe.entry) is_behind key.now }
-{
-    let order = order_of_prefix(key, probe);
-    if is_behind {
-        order.is_gt()
-    } else {
-        !order.is_lt()
     }
 }

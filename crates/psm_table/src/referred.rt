@@ -1,20 +1,12 @@
 //! Rows that others refer to (ISO/IEC 9075:1992, 11.8).
 ghost use Rattle.std.specs.Bool.{OnTrue};
-ghost use Rattle.std.specs.Prelude.{◌≡◌, length, slice_get, take, All, Some, IfSome, false};
-ghost use Rattle.psm_table.specs.Held.{live_rows, row_of, HasItsKey};
-ghost use Rattle.psm_table.specs.Index.{row_has};
-ghost use Rattle.psm_table.specs.Key.{values_at, AreColumnsOf};
+ghost use Rattle.std.specs.Prelude.{◌≡◌, length, slice_get, take, Some, IfSome, false};
+ghost use Rattle.psm_table.specs.Key.{values_at};
 ghost use Rattle.psm_table.specs.Keyed.{has_values};
-ghost use Rattle.psm_table.specs.Map.{keys_of, AreAscending};
-ghost use Rattle.psm_table.specs.Rows.{IsAscending};
-ghost use Rattle.psm_table.specs.State.{HasEntry};
 ghost use Rattle.psm_table.specs.Unique.{equal_values, has_null};
 
-use crate::definition::TableDef;
-use crate::index::{is_null_in, key_part};
-use crate::map::OrderedMap;
-use crate::probe::{Probe, order_of_prefix};
-use crate::row::Row;
+use crate::index::is_null_in;
+use crate::probe::Probe;
 use crate::walk::RowsLeft;
 use psm_list::List;
 use psm_value::Datum;

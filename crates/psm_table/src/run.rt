@@ -6,18 +6,19 @@ ghost use Rattle.std.specs.Option.{option_copied};
 ghost use Rattle.std.specs.Ordering.{is_gt};
 ghost use Rattle.psm_table.specs.Cuts.{is_past};
 ghost use Rattle.psm_table.specs.Held.{row_of};
-ghost use Rattle.psm_table.specs.Key.{key_order, leading_number, values_at, AreColumnsOf};
+ghost use Rattle.psm_table.specs.Key.{key_order, values_at, AreColumnsOf};
+ghost use Rattle.psm_table.specs.Leading.{leading_of};
 ghost use Rattle.psm_table.specs.Map.{value_of, pairs_from, pairs_above, with_pair, with_value, AreAscending};
 ghost use Rattle.psm_table.specs.Place.{probe_key, FitsProbe, IsAt, IsGap};
 ghost use Rattle.psm_value.specs.declared.datum.Datum.{Datum};
 ghost use Rattle.psm_table.specs.declared.map.Pair.{Pair};
 ghost use Rattle.psm_table.specs.Runs.{begins, head_of, most_pairs, IsRun};
 
-use crate::key::Key;
+use crate::leading::Leading;
 use crate::map::{Copied, Pair, Test};
-use crate::probe::{Probe, is_past, order_of_numbers};
+use crate::probe::Probe;
 use crate::row::Row;
-use psm_num::Dec;
+use crate::stored::{StoredKey, is_past};
 use std::alloc::{AllocError, Global};
 use std::cmp::Ordering;
 use std::marker::Model;
@@ -30,9 +31,9 @@ pub(crate) const MOST_PAIRS: usize = 64;
 #[derive(Drop)]
 pub(crate) struct Run<V> {
     pairs: Vec<Pair<V>>,
-    /// The number with which the first pair's key begins, if it begins with one. A search among runs compares it
-    /// without a look at the pairs, which lie elsewhere.
-    head: Option<Dec>,
+    /// The numbers with which the first pair's key begins. A search among runs compares them without a look at the
+    /// pairs, which lie elsewhere.
+    head: Leading,
 }
 
 impl<V> Model for Run<V> {
@@ -56,7 +57,7 @@ impl<V: Drop> Run<V> {
     {
         Ok(Run {
             pairs: Vec::with_capacity(alloc, MOST_PAIRS)?,
-            head: None,
+            head: Leading::none(),
         })
     }
 
@@ -88,18 +89,18 @@ impl<V: Drop> Run<V> {
     }
 
     /// Puts a pair in, in the place of that of its key if there is one. It takes no memory.
-    pub(crate) fn insert(&mut self, key: Key, value: V)
+    pub(crate) fn insert(&mut self, key: StoredKey, value: V)
         requires { length self.old < most_pairs }
         ensures pairs { self.new ≡ with_pair (record { key = key; value = value }) self.old }
         ensures some { 0 < length self.new }
     {
-        match self.find(Probe::Of(key.values())) {
+        match self.find(key.probe()) {
             Ok(at) => {
-                self.head = head_with(self.head, at, &key);
+                self.head = head_with(&self.head, at, &key);
                 self.pairs[at] = Pair { key, value };
             }
             Err(at) => {
-                self.head = head_with(self.head, at, &key);
+                self.head = head_with(&self.head, at, &key);
                 insert_reserved(&mut self.pairs, at, Pair { key, value });
             }
         }
@@ -133,18 +134,15 @@ impl<V: Drop> Run<V> {
 
     /// Whether the first pair has a greater key. Where the numbers differ with which both begin, these decide.
     #[tactic(auto, using(crate::proofs::Heads::head_less, crate::proofs::Heads::head_greater))]
-    pub(crate) fn begins_above(&self, probe: Probe<'_>, leading: &Option<Dec>) -> bool
+    pub(crate) fn begins_above(&self, probe: Probe<'_>, leading: &Leading) -> bool
         requires fits { FitsProbe probe }
-        requires leading { leading.now ≡ leading_number (probe_key probe) }
+        requires leading { leading.now ≡ leading_of (probe_key probe) }
         ensures { result ≡ begins (λ p. is_gt (key_order p.key (probe_key probe.entry))) self.now }
     {
-        match (self.head, leading) {
-            (Some(first), Some(sought)) => match order_of_numbers(first, *sought) {
-                Ordering::Less => false,
-                Ordering::Greater => true,
-                Ordering::Equal => self.first_is_above(probe),
-            },
-            _ => self.first_is_above(probe),
+        match self.head.order(leading) {
+            Ordering::Less => false,
+            Ordering::Greater => true,
+            Ordering::Equal => self.first_is_above(probe),
         }
     }
 
@@ -159,25 +157,17 @@ impl<V: Drop> Run<V> {
     }
 
     /// Whether the first pair's key is past a cut. Where the numbers differ with which both begin, these decide.
-    #[tactic(auto, using(crate::proofs::Heads::head_short, crate::proofs::Heads::head_past, crate::proofs::Heads::head_alone))]
-    pub(crate) fn begins_past(
-        &self,
-        probe: Probe<'_>,
-        leading: &Option<Dec>,
-        is_behind: bool,
-    ) -> bool
+    #[tactic(auto, using(crate::proofs::Heads::head_alone))]
+    pub(crate) fn begins_past(&self, probe: Probe<'_>, leading: &Leading, is_behind: bool) -> bool
         requires fits { FitsProbe probe }
-        requires leading { leading.now ≡ leading_number (probe_key probe) }
+        requires leading { leading.now ≡ leading_of (probe_key probe) }
         ensures { result ≡ begins (λ p. is_past (probe_key probe.entry) is_behind p.key) self.now }
     {
-        match (self.head, leading) {
-            (Some(first), Some(sought)) => match order_of_numbers(first, *sought) {
-                Ordering::Less => false,
-                Ordering::Greater => true,
-                Ordering::Equal if probe.len() == 1 => !is_behind,
-                Ordering::Equal => self.first_is_past(probe, is_behind),
-            },
-            _ => self.first_is_past(probe, is_behind),
+        match self.head.order(leading) {
+            Ordering::Less => false,
+            Ordering::Greater => true,
+            Ordering::Equal if probe.len() == 1 && self.head.leads_with(leading) => !is_behind,
+            Ordering::Equal => self.first_is_past(probe, is_behind),
         }
     }
 
@@ -186,7 +176,7 @@ impl<V: Drop> Run<V> {
         ensures { result ≡ begins (λ p. is_past (probe_key probe.entry) is_behind p.key) self.now }
     {
         match self.pairs.as_slice() {
-            [first, ..] => is_past(first.key.values(), probe, is_behind),
+            [first, ..] => is_past(&first.key, probe, is_behind),
             [] => false,
         }
     }
@@ -339,7 +329,7 @@ pub(crate) fn turn<V: Drop>(pairs: &[Pair<V>], probe: Probe<'_>, is_behind: bool
     let mut high = pairs.len();
     while low < high {
         let middle = low + (high - low) / 2;
-        if is_past(pairs[middle].key.values(), probe, is_behind) {
+        if is_past(&pairs[middle].key, probe, is_behind) {
             high = middle;
         } else {
             low = middle + 1;
@@ -348,21 +338,21 @@ pub(crate) fn turn<V: Drop>(pairs: &[Pair<V>], probe: Probe<'_>, is_behind: bool
     low
 }
 
-/// The number with which the first pair's key begins, if it begins with one.
-fn head_of<V: Drop>(pairs: &[Pair<V>]) -> Option<Dec>
+/// The numbers with which the first pair's key begins.
+fn head_of<V: Drop>(pairs: &[Pair<V>]) -> Leading
     ensures { result ≡ head_of pairs.now }
 {
     match pairs {
-        [first, ..] => first.key.leading_number(),
-        [] => None,
+        [first, ..] => first.key.leading(),
+        [] => Leading::none(),
     }
 }
 
-/// The number with which the first pair's key begins, once a pair is put in at a place or written over.
-fn head_with(head: Option<Dec>, at: usize, key: &Key) -> Option<Dec>
-    ensures { result ≡ (if nat_eq at 0 then leading_number key.now else head) }
+/// The numbers with which the first pair's key begins, once a pair is put in at a place or written over.
+fn head_with(head: &Leading, at: usize, key: &StoredKey) -> Leading
+    ensures { result ≡ (if nat_eq at 0 then leading_of key.now else head.now) }
 {
-    if at == 0 { key.leading_number() } else { head }
+    if at == 0 { key.leading() } else { *head }
 }
 
 /// Puts an item in at a place. It takes no memory.

@@ -8,10 +8,10 @@ ghost use Rattle.psm_table.specs.Place.{probe_key, FitsProbe};
 ghost use Rattle.psm_table.specs.declared.map.Pair.{Pair};
 ghost use Rattle.psm_table.specs.Runs.{joined, most_pairs, AreRunsBut, IsIn, IsRun, IsTurn};
 
-use crate::key::Key;
 use crate::map::{Pair, Test};
 use crate::probe::Probe;
 use crate::run::{MOST_PAIRS, Run, insert_reserved};
+use crate::stored::StoredKey;
 
 /// The run in which a key stands, or would: the last whose first pair hasn't a greater key, or the first.
 pub(crate) fn locate<V: Drop>(runs: &[Run<V>], probe: Probe<'_>) -> usize
@@ -21,7 +21,7 @@ pub(crate) fn locate<V: Drop>(runs: &[Run<V>], probe: Probe<'_>) -> usize
     ensures { 0 < length runs.now → IsIn (probe_key probe.entry) runs.now result }
 {
     let sought = probe.narrowed();
-    let leading = sought.leading_number();
+    let leading = sought.leading();
     let mut low = 0;
     let mut high = runs.len();
     while low < high {
@@ -42,7 +42,7 @@ pub(crate) fn locate_past<V: Drop>(runs: &[Run<V>], probe: Probe<'_>, is_behind:
     requires runs { All IsRun runs.now }
     ensures { 0 < length runs.now → IsTurn (λ p. is_past (probe_key probe.entry) is_behind p.key) runs.now result }
 {
-    let leading = probe.leading_number();
+    let leading = probe.leading();
     let mut low = 0;
     let mut high = runs.len();
     while low < high {
@@ -73,7 +73,7 @@ pub(crate) fn first_from<V: Drop>(runs: &[Run<V>], at: usize) -> Option<&Pair<V>
 pub(crate) fn put<V: Drop>(
     runs: &mut Vec<Run<V>>,
     spare: Run<V>,
-    key: Key,
+    key: StoredKey,
     value: V,
 ) -> Option<Run<V>>
     requires order { AreAscending (joined runs.old.items) }
@@ -88,7 +88,7 @@ pub(crate) fn put<V: Drop>(
         start(runs, spare, key, value);
         return None;
     }
-    let at = locate(runs.as_slice(), Probe::Of(key.values()));
+    let at = locate(runs.as_slice(), key.probe());
     runs[at].insert(key, value);
     if runs[at].is_full() {
         cut_at(runs, at, spare);
@@ -98,7 +98,7 @@ pub(crate) fn put<V: Drop>(
 }
 
 /// Makes a run of one pair the first.
-fn start<V: Drop>(runs: &mut Vec<Run<V>>, spare: Run<V>, key: Key, value: V)
+fn start<V: Drop>(runs: &mut Vec<Run<V>>, spare: Run<V>, key: StoredKey, value: V)
     requires none { runs.old.items ≡ [] }
     requires room { vec_len runs.old < vec_capacity runs.old }
     requires empty { spare ≡ [] }

@@ -1,11 +1,11 @@
-ghost use Rattle.std.specs.Prelude.{◌≡◌, ◌+◌, ◌≤◌, ◌<◌, ◌↔◌, [], length, slice_index_or, None, Some, IsTrue, is_some, true, false, All, IfSome, IfNone, IfOk, if◌then◌else◌, take};
+ghost use Rattle.std.specs.Prelude.{◌≡◌, ◌+◌, ◌≤◌, ◌<◌, ◌↔◌, [], length, slice_index_or, None, Some, IsTrue, is_some, true, false, IfSome, IfNone, IfOk, if◌then◌else◌, take};
 ghost use Rattle.std.specs.Option.{option_copied, ForSome};
 ghost use Rattle.psm_table.specs.Cuts.{rows_between};
 ghost use Rattle.psm_table.specs.Definition.{IsDefinition, IsRow, IsKey, HasColumns};
 ghost use Rattle.psm_table.specs.Held.{entries_of};
 ghost use Rattle.psm_table.specs.Key.{values_at};
 ghost use Rattle.psm_table.specs.Keyed.{has_values};
-ghost use Rattle.psm_table.specs.Matching.{few, matched, rows_with};
+ghost use Rattle.psm_table.specs.Matching.{at_most_one, matched, rows_with};
 ghost use Rattle.psm_table.specs.Queries.{in_walk};
 ghost use Rattle.psm_table.specs.Rows.{row_after};
 ghost use Rattle.psm_table.specs.State.{has_key, IsTidy, Inserts, Changes, KeepsRow, StillKeeps};
@@ -22,6 +22,7 @@ use crate::probe::Probe;
 use crate::referred::{begins, has_row_with, list_of};
 use crate::row::Row;
 use crate::run::insert_reserved;
+use crate::stored::StoredKey;
 use crate::unique::{Matching, has_entry_with, look_up};
 use crate::walk::RowsLeft;
 use psm_list::List;
@@ -255,7 +256,7 @@ impl Table {
         }
     }
 
-    /// Lets the rows go that were taken or put out, but for a few: what the table keeps after it is no more than
+    /// Lets the rows go that were taken or put out, but for a at_most_one: what the table keeps after it is no more than
     /// twice its rows and 64. No row of the table changes. It takes no memory.
     pub fn settle(&mut self)
         ensures rows { self.new.contents ≡ self.old.contents }
@@ -322,9 +323,9 @@ impl Table {
         RowsLeft::all(&self.rows, downward)
     }
 
-    /// A walk over the rows between two cuts, in ascending order of their keys; downward, in descending order. Where a cut lacks,
-    /// the walk begins or ends with the table. It takes two searches and a third within one run, no memory, and goes on without a
-    /// search.
+    /// A walk over the rows between two cuts, in ascending order of their keys; downward, in descending order. Without a low or a
+    /// high cut it begins or ends with the table. It takes two searches and a third within one run, and no memory; its rows then
+    /// come without a search.
     pub fn rows_between(
         &self,
         low: Option<Cut<'_>>,
@@ -347,9 +348,10 @@ impl Table {
         has_rival(&self.def, &self.rows, unique, row.values())
     }
 
-    /// Whether a row has the values in the columns (ISO/IEC 9075:1992, 11.8). By the columns of the key that is one search, by
-    /// those with which the key begins two, by those of a UNIQUE list or an index one for each row with the values that the table
-    /// keeps, and else a walk over the rows. A column that there isn't counts as null. It takes no memory.
+    /// Whether a row has the values in the columns (ISO/IEC 9075:1992, 11.8). By the columns of the key that takes one search, by
+    /// those with which the key begins at most three, by those of a UNIQUE list or an index two, and two more for each row with
+    /// the values that was taken or put out and is still kept; else it is a walk over the rows. A column that the table doesn't
+    /// have counts as null. It takes no memory.
     pub fn has(&self, columns: &[u32], values: &[Datum]) -> bool
         requires filled { has_null values.now ≡ false }
         ensures { result ≡ has_values columns.now values.now self.now.contents.rows }
@@ -367,12 +369,12 @@ impl Table {
     }
 
     /// Looks rows up by a UNIQUE list (ISO/IEC 9075:1992, 8.9): the one row that has the values in the columns of the list, or that
-    /// none or several have them. Several can have them in the middle of a statement alone. It searches once for each row with the
-    /// values that the table keeps, and takes no memory.
+    /// none or several have them. Several can have them in the middle of a statement alone. It takes two searches for each row with
+    /// the values, also for one that was taken or put out and is still kept, and one more. It takes no memory.
     pub fn by_unique(&self, list: usize, values: &[Datum]) -> Matching<'_>
         requires list { list < length self.now.contents.def.unique }
         requires filled { has_null values.now ≡ false }
-        ensures found { matched result ≡ few (rows_with (slice_index_or self.now.contents.def.unique list []) values.now self.now.contents.rows) }
+        ensures found { matched result ≡ at_most_one (rows_with (slice_index_or self.now.contents.def.unique list []) values.now self.now.contents.rows) }
         ensures table { IsTable self.now.contents }
     {
         let columns = self.def.unique.items()[list].items();
@@ -464,7 +466,7 @@ impl Table {
         ensures keeps { StillKeeps self.old self.new }
         ensures tidy { IsTidy self.old → IsTidy self.new }
     {
-        let key = Key::of_row(self.alloc, self.def.key.items(), &row)?;
+        let key = StoredKey::of_row(self.alloc, self.def.key.items(), &row)?;
         self.rows.reserve()?;
         enter(
             self.alloc,

@@ -1,23 +1,23 @@
 //! Look-ups by a UNIQUE list of columns (ISO/IEC 9075:1992, 8.9).
-ghost use Rattle.std.specs.Prelude.{◌≡◌, [], length, not, true, false, All, IfNone, IfSome};
+ghost use Rattle.std.specs.Prelude.{◌≡◌, [], not, true, false, All, IfNone, IfSome};
 ghost use Rattle.std.specs.Ordering.{is_lt};
 ghost use Rattle.std.specs.Option.{option_copied};
 ghost use Rattle.psm_table.specs.Held.{live_rows, row_of, HasItsKey};
 ghost use Rattle.psm_table.specs.Keyed.{has_values};
 ghost use Rattle.psm_table.specs.Map.{keys_of, prefix_order, AreAscending};
-ghost use Rattle.psm_table.specs.Matching.{few, matched, rows_with};
-ghost use Rattle.psm_table.specs.Place.{ahead};
+ghost use Rattle.psm_table.specs.Matching.{at_most_one, matched, rows_with};
+ghost use Rattle.psm_table.specs.Place.{ahead, probe_key, FitsProbe};
 ghost use Rattle.psm_table.specs.Rows.{IsAscending};
 ghost use Rattle.psm_table.specs.State.{HasEntry};
-ghost use Rattle.psm_table.specs.Told.{row_having, telling, IsFirst};
+ghost use Rattle.psm_table.specs.MatchingEntries.{row_having, matching_entries, IsFirst};
 ghost use Rattle.psm_table.specs.Unique.{has_null};
 
 use crate::definition::TableDef;
-use crate::index::key_part;
 use crate::map::{OrderedMap, Pair};
-use crate::probe::{Probe, order_of_prefix};
+use crate::probe::Probe;
 use crate::referred::has_in;
 use crate::row::Row;
+use crate::stored::order_of_prefix;
 use psm_value::Datum;
 
 /// What a look-up by a UNIQUE list finds.
@@ -31,14 +31,14 @@ pub enum Matching<'a> {
     Several,
 }
 
-/// An entry, and the row of its key.
+/// A matching entry, and the row of its key.
 #[derive(Clone, Copy)]
 struct Found<'a> {
     entry: &'a Pair<()>,
     row: &'a Row,
 }
 
-/// The row that has the values in the columns of a list, by the entries of the list. It takes no memory.
+/// The row that has the values in the columns of a list, by the matching entries of the list. It takes no memory.
 pub(crate) fn look_up<'a>(
     def: &TableDef,
     columns: &[u32],
@@ -51,13 +51,13 @@ pub(crate) fn look_up<'a>(
     requires at_keys { All (HasItsKey def.now.key) rows.now.pairs }
     requires ascend { IsAscending def.now.key (live_rows rows.now.pairs) }
     requires entered { All (λ row. HasEntry def.now row columns.now (keys_of entries.now.pairs)) (live_rows rows.now.pairs) }
-    ensures { matched result ≡ few (rows_with columns.now values.now (live_rows rows.now.pairs)) }
+    ensures { matched result ≡ at_most_one (rows_with columns.now values.now (live_rows rows.now.pairs)) }
 {
     let from = entries.from(Probe::Of(values));
     let Some(first) = first_found(columns, rows, entries, from, values) else {
         return Matching::Nothing;
     };
-    let rest = entries.after(Probe::Of(first.entry.key.values()));
+    let rest = entries.after(first.entry.key.probe());
     match first_found(columns, rows, entries, rest, values) {
         Some(_) => Matching::Several,
         None => Matching::One(first.row),
@@ -65,7 +65,6 @@ pub(crate) fn look_up<'a>(
 }
 
 /// Whether one of the rows has the values in the columns of a list, by the entries of the list. It takes no memory.
-#[tactic(auto, using(crate::proofs::Tellings::is_found))]
 pub(crate) fn has_entry_with(
     def: &TableDef,
     columns: &[u32],
@@ -84,8 +83,7 @@ pub(crate) fn has_entry_with(
     first_found(columns, rows, entries, from, values).is_some()
 }
 
-/// The first entry from one on that begins with the values and whose row has them. Those from this one on begin with no smaller
-/// values.
+/// The first matching entry from one on, and its row. The entries from this one on begin with no smaller values.
 fn first_found<'a>(
     columns: &[u32],
     rows: &'a OrderedMap<Option<Row>>,
@@ -95,20 +93,19 @@ fn first_found<'a>(
 ) -> Option<Found<'a>>
     requires filled { has_null values.now ≡ false }
     requires high { All (λ p. not (is_lt (prefix_order values.now p.key)) ≡ true) (ahead entries.now.pairs (option_copied from)) }
-    ensures none { IfNone result (telling columns.now values.now rows.now.pairs (ahead entries.now.pairs (option_copied from.entry)) ≡ []) }
+    ensures none { IfNone result (matching_entries columns.now values.now rows.now.pairs (ahead entries.now.pairs (option_copied from.entry)) ≡ []) }
     ensures first { IfSome result (λ f. IsFirst columns.now values.now rows.now.pairs entries.now.pairs (ahead entries.now.pairs (option_copied from.entry)) f.entry.now f.row.now) }
 {
     let probe = Probe::Of(values);
     let mut next = from;
     'walk: while let Some(entry) = next {
-        let found = entry.key.values();
-        if !order_of_prefix(found, probe).is_eq() {
+        if !order_of_prefix(&entry.key, probe).is_eq() {
             return None;
         }
-        if let Some(row) = row_with(rows, key_part(found, columns.len()), columns, values) {
+        if let Some(row) = row_with(rows, entry.key.rest(columns.len()), columns, values) {
             return Some(Found { entry, row });
         }
-        next = entries.after(Probe::Of(found));
+        next = entries.after(entry.key.probe());
     }
     None
 }
@@ -116,14 +113,15 @@ fn first_found<'a>(
 /// The row of the key, if it has one and this has the values in the columns.
 fn row_with<'a>(
     rows: &'a OrderedMap<Option<Row>>,
-    key: &[Datum],
+    key: Probe<'_>,
     columns: &[u32],
     values: &[Datum],
 ) -> Option<&'a Row>
+    requires fits { FitsProbe key }
     requires filled { has_null values.now ≡ false }
-    ensures { option_copied result ≡ row_having columns.now values.now (row_of key.now rows.now.pairs) }
+    ensures { option_copied result ≡ row_having columns.now values.now (row_of (probe_key key.entry) rows.now.pairs) }
 {
-    match rows.row_at(Probe::Of(key)) {
+    match rows.row_at(key) {
         Some(row) if has_in(row.values(), columns, values) => Some(row),
         _ => None,
     }

@@ -13,14 +13,14 @@ use Rattle.psm_value.specs.declared.truth.Truth.TheVariants.{True}
 use Rattle.psm_exprcode.specs.declared.op.Line.{Line}
 use Rattle.psm_table.specs.Evaluator.{test_of}
 use Rattle.psm_table.specs.Key.{key_order, row_order, values_at}
-use Rattle.psm_table.specs.Matching.{few, rows_with}
+use Rattle.psm_table.specs.Matching.{at_most_one, rows_with}
 use Rattle.psm_table.specs.Queries.{in_walk, walked}
 use Rattle.psm_table.specs.Rows.{row_with, IsAscending}
 use Rattle.psm_table.specs.Table.{Contents}
 use Rattle.psm_table.specs.Unique.{equal_values}
 use Rattle.psm_table.proofs.Filters.{AllPairs-rest, filter-empty}
 use Rattle.psm_table.proofs.Undo.{after_equal}
-use Rattle.psm_tablecode.specs.Asked.{columns_in, few_or, key_asked, rows_at, rows_from, rows_of, unique_asked, walk_asked, walk_by, walk_for}
+use Rattle.psm_tablecode.specs.Asked.{columns_in, key_asked, rows_at, rows_from, rows_of, rows_or, unique_asked, walk_asked, walk_by, walk_for}
 use Rattle.psm_tablecode.specs.Bounds.{bounds_asked, bounds_of, rows_within, Bounds}
 use Rattle.psm_tablecode.specs.Codes.{over}
 use Rattle.psm_tablecode.specs.Edges.{lies_within, rows_between}
@@ -148,10 +148,10 @@ walk_few : (downward : Bool) (rows : List (List Datum)) → length (in_walk down
 walk_few true rows = length-reverse rows
 walk_few false rows = refl
 
-few_few : (n : ℕ) (xs all : List (List Datum)) → length xs ≤ n → length all ≤ n → length (few_or (few xs) all) ≤ n
-few_few n [] all h g = h
-few_few n (row ∷ []) all h g = h
-few_few n (row ∷ other ∷ xs) all h g = g
+rows_or-length : (n : ℕ) (xs all : List (List Datum)) → length xs ≤ n → length all ≤ n → length (rows_or (at_most_one xs) all) ≤ n
+rows_or-length n [] all h g = h
+rows_or-length n (row ∷ []) all h g = h
+rows_or-length n (row ∷ other ∷ xs) all h g = g
 
 from_few : (t : Contents) (downward : Bool) (o : Option (List Datum)) (u : Option Unique) (low high : Option Edge) → length (rows_from t downward o u low high) ≤ length t.rows
 from_few t downward None None low high =
@@ -159,7 +159,7 @@ from_few t downward None None low high =
 from_few t downward None (Some u) low high =
     let columns : List ℕ = columns_in t.def.unique u.list in
     let all : length (in_walk downward t.rows) ≡ length t.rows = walk_few downward t.rows in
-    few_few (length t.rows) (rows_with columns u.values t.rows) (in_walk downward t.rows) (filter_few (λ row. equal_values u.values (values_at columns row)) t.rows) (omega (arith, all))
+    rows_or-length (length t.rows) (rows_with columns u.values t.rows) (in_walk downward t.rows) (filter_few (λ row. equal_values u.values (values_at columns row)) t.rows) (omega (arith, all))
 from_few t downward (Some key) u low high = find_few (λ row. is_eq (row_order t.def.key key row)) t.rows
 
 pub rows_few : (t : Contents) (walk : Walk) → length (rows_of t walk) ≤ length t.rows

@@ -11,11 +11,11 @@ use Rattle.psm_table.specs.Definition.{IsRow}
 use Rattle.psm_table.specs.Cuts as cuts
 use Rattle.psm_table.specs.declared.cut.Cut.{Cut}
 use Rattle.psm_table.specs.Key.{row_order, values_at}
-use Rattle.psm_table.specs.Matching.{few, rows_with}
+use Rattle.psm_table.specs.Matching.{at_most_one, rows_with}
 use Rattle.psm_table.specs.Queries.{in_walk}
 use Rattle.psm_table.specs.Table.{keyed, Contents, IsTable}
 use Rattle.psm_table.specs.Unique.{equal_values}
-use Rattle.psm_tablecode.specs.Asked.{columns_in, few_or, rows_at, rows_from, rows_of}
+use Rattle.psm_tablecode.specs.Asked.{columns_in, rows_at, rows_from, rows_of, rows_or}
 use Rattle.psm_tablecode.specs.Edges.{lies_within, rows_between}
 use Rattle.psm_tablecode.specs.RemainingRows.{cut_edge}
 use Rattle.psm_tablecode.specs.declared.walking.Edge.{Edge}
@@ -69,16 +69,16 @@ walk_all : (P : List Datum → Type 0) (downward : Bool) (rows : List (List Datu
 walk_all P true rows h = all-reverse P rows h
 walk_all P false rows h = h
 
-few_all : (P : List Datum → Type 0) (xs all : List (List Datum)) → All P xs → All P all → All P (few_or (few xs) all)
-few_all P [] all h g = h
-few_all P (row ∷ []) all h g = h
-few_all P (row ∷ other ∷ xs) all h g = g
+rows_or-all : (P : List Datum → Type 0) (xs all : List (List Datum)) → All P xs → All P all → All P (rows_or (at_most_one xs) all)
+rows_or-all P [] all h g = h
+rows_or-all P (row ∷ []) all h g = h
+rows_or-all P (row ∷ other ∷ xs) all h g = g
 
 from_fit : (t : Contents) (downward : Bool) (o : Option (List Datum)) (u : Option Unique) (low high : Option Edge) → All (IsRow t.def) t.rows → All (IsRow t.def) (rows_from t downward o u low high)
 from_fit t downward None None low high h = walk_all (IsRow t.def) downward (rows_between t.def.key low high t.rows) (filter_all (IsRow t.def) (λ row. lies_within low high (values_at t.def.key row)) t.rows h)
 from_fit t downward None (Some u) low high h =
     let columns : List ℕ = columns_in t.def.unique u.list in
-    few_all (IsRow t.def) (rows_with columns u.values t.rows) (in_walk downward t.rows) (filter_all (IsRow t.def) (λ row. equal_values u.values (values_at columns row)) t.rows h) (walk_all (IsRow t.def) downward t.rows h)
+    rows_or-all (IsRow t.def) (rows_with columns u.values t.rows) (in_walk downward t.rows) (filter_all (IsRow t.def) (λ row. equal_values u.values (values_at columns row)) t.rows h) (walk_all (IsRow t.def) downward t.rows h)
 from_fit t downward (Some key) u low high h = find_all (IsRow t.def) (λ row. is_eq (row_order t.def.key key row)) t.rows h
 
 pub coming_fit : (t : Contents) (walk : Walk) → IsTable t → All (IsRow t.def) (rows_of t walk)

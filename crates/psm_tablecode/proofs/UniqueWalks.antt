@@ -14,14 +14,14 @@ use Rattle.psm_exprcode.specs.declared.op.Line.{Line}
 use Rattle.psm_exprcode.specs.Evaluated.{evaluated}
 use Rattle.psm_table.specs.Evaluator.{test_of}
 use Rattle.psm_table.specs.Key.{key_order, values_at}
-use Rattle.psm_table.specs.Matching.{few, rows_with}
+use Rattle.psm_table.specs.Matching.{at_most_one, rows_with}
 use Rattle.psm_table.specs.Queries.{in_walk, walked}
 use Rattle.psm_table.specs.Table.{Contents}
 use Rattle.psm_table.specs.Unique.{agree, equal_values, has_null, is_null, AreUnique, IsUnique}
 use Rattle.psm_table.proofs.Filters.{AllPairs-rest, filter-empty}
 use Rattle.psm_table.proofs.Rivals.{equal_parts, equal_sym, equal_trans}
 use Rattle.psm_tablecode.specs.declared.walking.Unique.{Unique}
-use Rattle.psm_tablecode.specs.Asked.{columns_in, few_or, rows_at, unique_asked, unique_from, IsLookUp}
+use Rattle.psm_tablecode.specs.Asked.{columns_in, rows_at, rows_or, unique_asked, unique_from, IsLookUp}
 use Rattle.psm_tablecode.specs.Codes.{over}
 use Rattle.psm_tablecode.specs.Tests.{are_quiet}
 use Rattle.psm_tablecode.proofs.Conjunctions.{raises_nothing}
@@ -103,16 +103,16 @@ module _ {A : Type 0} (P : List Datum → Bool) (test : List Datum → Result Tr
   kept : (xs : List (List Datum)) → filter P rows ≡ xs → in_walk downward xs ≡ xs → walked test take xs ≡ walked test take (in_walk downward rows)
   kept xs e w = sym (walked-where P test take quiet only (in_walk downward rows) ∙ ap (walked test take) (filter-walk downward ∙ ap (in_walk downward) e ∙ w))
 
-  walked_few : (xs : List (List Datum)) → filter P rows ≡ xs → walked test take (few_or (few xs) (in_walk downward rows)) ≡ walked test take (in_walk downward rows)
-  walked_few [] e = kept [] e (no_way downward)
-  walked_few (row ∷ []) e = kept (row ∷ []) e (one_way downward row)
-  walked_few (row ∷ other ∷ xs) e = refl
+  walked_or : (xs : List (List Datum)) → filter P rows ≡ xs → walked test take (rows_or (at_most_one xs) (in_walk downward rows)) ≡ walked test take (in_walk downward rows)
+  walked_or [] e = kept [] e (no_way downward)
+  walked_or (row ∷ []) e = kept (row ∷ []) e (one_way downward row)
+  walked_or (row ∷ other ∷ xs) e = refl
 
 pub walked_at : {A : Type 0} (t : Contents) (vars : List Datum) (lines : List Line) (take : List Datum → Result A SqlState) (downward : Bool) (unique : Unique) → unique_asked t.def.unique vars (Some lines) ≡ Some unique
     → walked (test_of (over vars) (Some lines)) take (rows_at t downward unique) ≡ walked (test_of (over vars) (Some lines)) take (in_walk downward t.rows)
 walked_at t vars lines take downward unique e =
     let columns : List ℕ = columns_in t.def.unique unique.list in
-    walked_few (λ row. equal_values unique.values (values_at columns row)) (test_of (over vars) (Some lines)) take (unique_quiet t.def.unique vars lines unique e) (unique_only t.def.unique vars lines unique e) downward t.rows
+    walked_or (λ row. equal_values unique.values (values_at columns row)) (test_of (over vars) (Some lines)) take (unique_quiet t.def.unique vars lines unique e) (unique_only t.def.unique vars lines unique e) downward t.rows
     (rows_with columns unique.values t.rows) refl
 
 -- ---- a list that holds
@@ -125,17 +125,17 @@ module _ (columns : List ℕ) (values : List Datum) where
   apart row other true h n e = let same : agree row other columns ≡ true = alike values (values_at columns row) (values_at columns other) h e in cc
   apart row other false h n e = refl
 
-  one_by : (row : List Datum) (rows : List (List Datum)) (b : Bool) → IsUnique (row ∷ rows) columns → Has row ≡ b → few (filter Has rows) ≡ Some (filter Has rows)
-      → few (cond b (row ∷ filter Has rows) (filter Has rows)) ≡ Some (cond b (row ∷ filter Has rows) (filter Has rows))
+  one_by : (row : List Datum) (rows : List (List Datum)) (b : Bool) → IsUnique (row ∷ rows) columns → Has row ≡ b → at_most_one (filter Has rows) ≡ Some (filter Has rows)
+      → at_most_one (cond b (row ∷ filter Has rows) (filter Has rows)) ≡ Some (cond b (row ∷ filter Has rows) (filter Has rows))
   one_by row rows true u e h =
       let none : filter Has rows ≡ [] = filter-empty Has rows (λ k d l. apart row (get_or rows k d) (Has (get_or rows k d)) e (u 0 (suc k) d (omega arith) (omega (arith, l))) refl) in
-      ap (λ xs. few (row ∷ xs)) none ∙ sym (ap (λ xs. Some (row ∷ xs)) none)
+      ap (λ xs. at_most_one (row ∷ xs)) none ∙ sym (ap (λ xs. Some (row ∷ xs)) none)
   one_by row rows false u e h = h
 
-  one_at_most : (rows : List (List Datum)) → IsUnique rows columns → few (filter Has rows) ≡ Some (filter Has rows)
-  one_at_most [] u = refl
-  one_at_most (row ∷ rows) u = one_by row rows (Has row) u refl (one_at_most rows (AllPairs-rest (λ a b. agree a b columns ≡ false) row rows u))
+  one_by_unique : (rows : List (List Datum)) → IsUnique rows columns → at_most_one (filter Has rows) ≡ Some (filter Has rows)
+  one_by_unique [] u = refl
+  one_by_unique (row ∷ rows) u = one_by row rows (Has row) u refl (one_by_unique rows (AllPairs-rest (λ a b. agree a b columns ≡ false) row rows u))
 
 pub only_one : (t : Contents) (downward : Bool) (unique : Unique) → AreUnique t.def t.rows → IsLookUp t.def.unique unique → rows_at t downward unique ≡ rows_with (columns_in t.def.unique unique.list) unique.values t.rows
 only_one t downward unique u h =
-    ap (λ o. few_or o (in_walk downward t.rows)) (one_at_most (columns_in t.def.unique unique.list) unique.values t.rows (u unique.list [] h.there))
+    ap (λ o. rows_or o (in_walk downward t.rows)) (one_by_unique (columns_in t.def.unique unique.list) unique.values t.rows (u unique.list [] h.there))

@@ -6,7 +6,7 @@ use Rattle.std.specs.List.{cons_option}
 use Rattle.psm_value.specs.declared.datum.Datum.{Datum}
 use Rattle.psm_exprcode.specs.declared.op.Line.{Line}
 use Rattle.psm_table.specs.declared.definition.TableDef.{TableDef}
-use Rattle.psm_table.specs.Matching.{few, rows_with}
+use Rattle.psm_table.specs.Matching.{at_most_one, rows_with}
 use Rattle.psm_table.specs.Queries.{in_walk}
 use Rattle.psm_table.specs.Table.{keyed, Contents}
 use Rattle.psm_table.specs.Unique.{has_null, is_null}
@@ -82,14 +82,14 @@ pub record IsLookUp (lists : List (List ℕ)) (unique : Unique) : Type 0 where
 -- ---- walks
 
 -- the rows where they are known, else all
-abbrev pub few_or : Option (List (List Datum)) → List (List Datum) → List (List Datum)
-few_or (Some rows) all = rows
-few_or None all = all
+abbrev pub rows_or : Option (List (List Datum)) → List (List Datum) → List (List Datum)
+rows_or (Some rows) all = rows
+rows_or None all = all
 
 -- The row that a look-up finds. Several are equal in a UNIQUE list in the middle of a statement alone, and then these are all
 -- rows from one side.
 abbrev pub rows_at : Contents → Bool → Unique → List (List Datum)
-rows_at t downward unique = few_or (few (rows_with (columns_in t.def.unique unique.list) unique.values t.rows)) (in_walk downward t.rows)
+rows_at t downward unique = rows_or (at_most_one (rows_with (columns_in t.def.unique unique.list) unique.values t.rows)) (in_walk downward t.rows)
 
 -- the row of a key alone, or that of a look-up, or the rows between edges from one side
 abbrev pub rows_from : Contents → Bool → Option (List Datum) → Option Unique → Option Edge → Option Edge → List (List Datum)

@@ -1,4 +1,5 @@
 use Rattle.std.proofs.Common.{drop, ◌≤◌}
+use Rattle.psm_codegen.specs.Labels.{Drafted}
 use Rattle.psm_codegen.specs.Simples.{CallArguments}
 use Rattle.psm_codegen.specs.Written.{Written}
 use Rattle.psm_codegen.proofs.calling.call_arguments.Given as goal
@@ -6,5 +7,5 @@ use Rattle.psm_codegen.proofs.calling.call_arguments.Given as goal
 abbrev pub invariant-loop-argument : goal.invariant-loop-argument
 invariant-loop-argument l = record {
   near : l.place ≤ l.argument-index;
-  written : (v : Written) → CallArguments l.emit_context.known.now l.emit_context.context l.emit_context.resume l.letters l.place (drop l.argument-index l.argument-items) l.out v → CallArguments l.emit_context.known.now l.emit_context.context l.emit_context.resume l.letters 0 l.list l.fn.out v;
+  written : Drafted (λ σ p q. (v : Written) → CallArguments l.emit_context.known.now l.emit_context.context (σ l.emit_context.resume) l.letters l.place (drop l.argument-index l.argument-items) q v → CallArguments l.emit_context.known.now l.emit_context.context (σ l.emit_context.resume) l.letters 0 l.list p v) l.fn.out l.out;
 }

@@ -1,6 +1,6 @@
 use Rattle.psm_codegen.proofs.CallForms.{ok_as}
-use Rattle.psm_codegen.proofs.SimpleForms.{delete_written}
+use Rattle.psm_codegen.proofs.DraftSimples.{delete_drafted}
 use Rattle.psm_codegen.proofs.simples.delete.Goals as goal
 
 pub returns : goal.returns
-returns c = ok_as c.changed.result (λ a. delete_written c.args.table c.args.which.now c.in_ok-plan.plan c.in_ok-plan.ensures c.in_ok-plain.ensures a) c.changed.ensures
+returns c = ok_as c.changed.result (λ a. delete_drafted c.args.table c.args.which.now c.in_ok-plan.plan c.in_ok-plan.ensures c.in_ok-plain.ensures a) c.changed.ensures

@@ -1,7 +1,7 @@
 use Rattle.std.proofs.Common.{◌∙◌}
 use Rattle.psm_codegen.proofs.CallForms.{ok_as}
-use Rattle.psm_codegen.proofs.SimpleForms.{resignal_condition_written}
+use Rattle.psm_codegen.proofs.DraftSimples.{resignal_condition_drafted}
 use Rattle.psm_codegen.proofs.simples.resignal_condition.Goals as goal
 
 pub returns : goal.returns
-returns c = ok_as c.signals.result (λ a. resignal_condition_written c.args.s.now c.in_ok-number.number (c.parts.view_is ∙ c.in_ok-number.ensures.declared) c.in_ok-number.ensures.number c.in_ok-plain.ensures a) c.signals.ensures
+returns c = ok_as c.signals.result (λ a. resignal_condition_drafted c.args.s.now c.in_ok-number.number (c.parts.view_is ∙ c.in_ok-number.ensures.declared) c.in_ok-number.ensures.number c.in_ok-plain.ensures a) c.signals.ensures

@@ -2,9 +2,9 @@ use Rattle.std.proofs.Common.{◌∙◌, sym}
 use Rattle.psm_table.proofs.Keys.{columns_exist}
 use Rattle.psm_table.proofs.index.prepare.Goals as goal
 
-pub of_entry-requires-clause-columns : goal.of_entry-requires-clause-columns
-of_entry-requires-clause-columns c =
-    columns_exist c.args.columns.now c.args.row.now (sym c.is_null_in.ensures ∙ c.if-is_null_in.false)
+pub of-requires : goal.of-requires
+of-requires c =
+    (columns_exist c.args.columns.now c.args.row.now (sym c.is_null_in.ensures ∙ c.if-is_null_in.false), c.requires.key)
 
 pub returns-clause-entry : goal.returns-clause-entry
 returns-clause-entry c = (c.in_ok-entry.ensures, c.in_ok-reserve.ensures.ready)

@@ -2,7 +2,7 @@ use Rattle.std.proofs.Common.{ap, sym, ◌∙◌}
 use Rattle.std.specs.Ordering.{is_eq}
 use Rattle.psm_table.specs.Key.{values_at}
 use Rattle.psm_table.proofs.Referring.{equal_null, equal_order}
-use Rattle.psm_table.proofs.Tellings.{own_columns}
+use Rattle.psm_table.proofs.MatchingEntries.{own_columns}
 use Rattle.psm_table.proofs.referred.has_in.Goals as goal
 
 pub returns-then-is_null_in : goal.returns-then-is_null_in

@@ -11,14 +11,14 @@ loop-low-preserved-then-is_past g c =
     parted_pass (λ p. is_past (probe_key c.args.probe) c.args.is_behind p.key) c.args.pairs.now (up-past (probe_key c.args.probe) c.args.is_behind) c.requires.order
     c.loop-low.low c.loop-low.high (c.loop-low.low + (c.loop-low.high - c.loop-low.low) / 2) c.index-pairs-middle.result c.loop-low.invariant (omega arith) (omega arith) c.index-pairs-middle.is
     (ap (λ (p : Pair g.row.V.Denot). is_past (probe_key c.args.probe) c.args.is_behind p.key) c.index-pairs-middle.is
-    ∙ ap (is_past (probe_key c.args.probe) c.args.is_behind) (sym c.values.ensures) ∙ sym c.is_past.ensures ∙ c.if-is_past.true)
+    ∙ sym c.is_past.ensures ∙ c.if-is_past.true)
 
 pub loop-low-preserved : goal.loop-low-preserved
 loop-low-preserved g c =
     parted_fail (λ p. is_past (probe_key c.args.probe) c.args.is_behind p.key) c.args.pairs.now (up-past (probe_key c.args.probe) c.args.is_behind) c.requires.order
     c.loop-low.low c.loop-low.high (c.loop-low.low + (c.loop-low.high - c.loop-low.low) / 2) c.index-pairs-middle.result c.loop-low.invariant (omega arith) (omega arith) c.index-pairs-middle.is
     (ap (λ (p : Pair g.row.V.Denot). is_past (probe_key c.args.probe) c.args.is_behind p.key) c.index-pairs-middle.is
-    ∙ ap (is_past (probe_key c.args.probe) c.args.is_behind) (sym c.values.ensures) ∙ sym c.is_past.ensures ∙ c.if-is_past.false)
+    ∙ sym c.is_past.ensures ∙ c.if-is_past.false)
 
 pub returns-clause-inside : goal.returns-clause-inside
 returns-clause-inside g c = parted_inside (λ p. is_past (probe_key c.args.probe) c.args.is_behind p.key) c.args.pairs.now c.loop-low.low c.loop-low.high c.loop-low.invariant c.loop-low-test.false

@@ -1,7 +1,7 @@
 use Rattle.std.proofs.Common.{length}
 use Rattle.std.specs.Option.{option_copied}
 use Rattle.psm_table.specs.Place.{ahead}
-use Rattle.psm_table.proofs.Tellings.{Passed}
+use Rattle.psm_table.proofs.MatchingEntries.{Passed}
 use Rattle.psm_table.proofs.unique.first_found.Given as goal
 
 abbrev pub invariant-walk : goal.invariant-walk

@@ -1,6 +1,7 @@
 use Rattle.std.proofs.Common.{ap, sym, subst, ◌∙◌, List, ℕ}
 use Rattle.std.specs.Option.{option_copied}
 use Rattle.psm_table.specs.Key.{AreColumnsOf}
+use Rattle.psm_table.specs.Place.{probe_key}
 use Rattle.psm_table.proofs.Rivals.{row-live, Row}
 use Rattle.psm_table.proofs.index.IsCurrentTestUnit.passes.Goals as goal
 
@@ -8,5 +9,5 @@ pub is_entry_of-requires : goal.is_entry_of-requires
 is_entry_of-requires c =
     subst (λ (k : List ℕ). AreColumnsOf c.values.result.now k) (sym c.items.ensures)
     (subst (λ (r : Row). AreColumnsOf r c.args.self.now.def.now.key) (sym c.values.ensures)
-    (row-live (λ r. AreColumnsOf r c.args.self.now.def.now.key) c.key_part.result.now c.args.self.now.rows.now.pairs c.in-Some.row.now
+    (row-live (λ r. AreColumnsOf r c.args.self.now.def.now.key) (probe_key c.rest.result) c.args.self.now.rows.now.pairs c.in-Some.row.now
     (sym c.row_at.ensures ∙ ap option_copied c.in-Some.is) c.requires))

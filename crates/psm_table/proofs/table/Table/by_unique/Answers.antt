@@ -2,7 +2,7 @@ use Rattle.std.proofs.Common.{List, ℕ, ◌<◌, get_or, length, ap, sym, subst
 use Rattle.psm_table.specs.Held.{live_rows}
 use Rattle.psm_table.specs.State.{State}
 use Rattle.psm_table.proofs.Referring.{entered_in}
-use Rattle.psm_table.proofs.Tellings.{list-place}
+use Rattle.psm_table.proofs.MatchingEntries.{list-place}
 use Rattle.psm_table.proofs.table.Table.by_unique.Goals as goal
 
 pub look_up-requires-clause-entered : goal.look_up-requires-clause-entered
