@@ -20,6 +20,8 @@ use Rattle.psm_table.proofs.Filters.{equal_is, find_passes}
 use Rattle.psm_table.proofs.KeyLaws.{key_order-total}
 use Rattle.psm_tablecode.specs.Asked.{key_asked}
 use Rattle.psm_tablecode.specs.Codes.{over}
+use Rattle.psm_tablecode.specs.Folding.{folded_test}
+use Rattle.psm_tablecode.proofs.FoldLaws.{tests_same}
 use Rattle.psm_tablecode.proofs.KeyWalks.{walked-key}
 use Rattle.psm_tablecode.proofs.Results.{mapped-same}
 use Rattle.psm_tablecode.proofs.Sought.{asked_only, asked_quiet}
@@ -130,15 +132,22 @@ module _ (columns : List ℕ) (downward : Bool) (bound : Option (List Datum)) (k
         ∙ sym (met-first (only_where p test) calm (cons_option (row_with columns key rows) []))
         ∙ there (row_with columns key rows) rows refl
 
--- where a test asks for a key, what FETCH finds is the row of the key, if it lies past the key that was reached and meets the test
-pub met_by_key : (t : Contents) (vars : List Datum) (test : Option (List Line)) (downward : Bool) (bound : Option (List Datum)) (key : List Datum) → IsAscending t.def.key t.rows → key_asked t.def.key vars test ≡ Some key
-    → first_met (test_of (over vars) test) (rows_past t.def.key downward bound t.rows) ≡ (if is_past downward bound key then first_met (test_of (over vars) test) (cons_option (keyed t key) []) else Ok None)
-met_by_key t vars None downward bound key up e = absurd cc
-met_by_key t vars (Some lines) downward bound key up e =
+-- where a test asks for a key once it is folded, what FETCH finds is the row of the key, if it lies past the key that was reached and meets the test
+abbrev FindsByKey : Contents → Bool → Option (List Datum) → List Datum → Test → Type 0
+FindsByKey t downward bound key test = first_met test (rows_past t.def.key downward bound t.rows) ≡ (if is_past downward bound key then first_met test (cons_option (keyed t key) []) else Ok None)
+
+met_by_asked : (t : Contents) (vars : List Datum) (test : Option (List Line)) (downward : Bool) (bound : Option (List Datum)) (key : List Datum) → IsAscending t.def.key t.rows → key_asked t.def.key vars test ≡ Some key
+    → FindsByKey t downward bound key (test_of (over vars) test)
+met_by_asked t vars None downward bound key up e = absurd cc
+met_by_asked t vars (Some lines) downward bound key up e =
     met_at_key t.def.key downward bound key (test_of (over vars) (Some lines)) t.rows (λ row. asked_quiet row vars t.def.key lines key e) (λ row. asked_only row vars t.def.key lines key e) up
 
+pub met_by_key : (t : Contents) (vars : List Datum) (test : Option (List Line)) (downward : Bool) (bound : Option (List Datum)) (key : List Datum) → IsAscending t.def.key t.rows
+    → key_asked t.def.key vars (folded_test vars test) ≡ Some key → FindsByKey t downward bound key (test_of (over vars) test)
+met_by_key t vars test downward bound key up e = subst (FindsByKey t downward bound key) (tests_same vars test) (met_by_asked t vars (folded_test vars test) downward bound key up e)
+
 module _ (t : Contents) (vars : List Datum) (test : Option (List Line)) (downward : Bool) (bound : Option (List Datum)) (key : List Datum)
-    (up : IsAscending t.def.key t.rows) (asked : key_asked t.def.key vars test ≡ Some key) where
+    (up : IsAscending t.def.key t.rows) (asked : key_asked t.def.key vars (folded_test vars test) ≡ Some key) where
   abbrev due : Result (Option (List Datum)) SqlState
   due = first_met (test_of (over vars) test) (rows_past t.def.key downward bound t.rows)
 

@@ -19,6 +19,8 @@ use Rattle.psm_tablecode.specs.declared.walking.Walk.{Walk}
 use Rattle.psm_tablecode.specs.Asked.{columns_in, key_asked, unique_asked, walk_by, walk_for}
 use Rattle.psm_tablecode.specs.Bounds.{bounds_asked, Bounds}
 use Rattle.psm_tablecode.specs.Codes.{over}
+use Rattle.psm_tablecode.specs.Folding.{folded_test}
+use Rattle.psm_tablecode.proofs.FoldLaws.{tests_same}
 use Rattle.psm_tablecode.proofs.UniqueWalks.{unique_only, unique_quiet}
 use Rattle.psm_cursor.specs.Fetching.{Finds}
 use Rattle.psm_cursor.specs.Walking.{is_past}
@@ -90,12 +92,21 @@ module _ (t : Contents) (vars : List Datum) (test : Option (List Line)) (downwar
       ap (λ (rows : List (List Datum)). first_met (test_of (over vars) (Some lines)) (filter (lies_past t.def.key downward bound) rows)) (filter-walk (λ row. equal_values unique.values (values_at columns row)) downward t.rows)
       ∙ met-among (test_of (over vars) (Some lines)) (lies_past t.def.key downward bound) (λ row. equal_values unique.values (values_at columns row)) (unmet lines asked) (in_walk downward t.rows)
 
+  -- the rows that are looked up, past the key that was reached
+  abbrev past : List (List Datum) → List (List Datum)
+  past rows = filter (lies_past t.def.key downward bound) (in_walk downward rows)
+
   module _ (walk : Walk) (w : walk ≡ walk_for t downward vars test) (k : walk.key ≡ None) (u : walk.unique ≡ Some unique) where
-    asked : unique_asked t.def.unique vars test ≡ Some unique
-    asked = asked_by downward (key_asked t.def.key vars test) (unique_asked t.def.unique vars test) (bounds_asked t.def.key vars test) walk unique w k u
+    asked : unique_asked t.def.unique vars (folded_test vars test) ≡ Some unique
+    asked =
+        let lines : Option (List Line) = folded_test vars test in
+        asked_by downward (key_asked t.def.key vars lines) (unique_asked t.def.unique vars lines) (bounds_asked t.def.key vars lines) walk unique w k u
+
+    met_there : first_met (test_of (over vars) test) (past found) ≡ due
+    met_there = subst (λ (f : Test). first_met f (past found) ≡ first_met f (rows_past t.def.key downward bound t.rows)) (tests_same vars test) (met_with (folded_test vars test) asked)
 
     due_by : (rows : List (List Datum)) → found ≡ rows → due ≡ first_met (test_of (over vars) test) (filter (lies_past t.def.key downward bound) (in_walk downward rows))
-    due_by rows e = sym (met_with test asked) ∙ ap (λ (l : List (List Datum)). first_met (test_of (over vars) test) (filter (lies_past t.def.key downward bound) (in_walk downward l))) e
+    due_by rows e = sym met_there ∙ ap (λ (l : List (List Datum)). first_met (test_of (over vars) test) (filter (lies_past t.def.key downward bound) (in_walk downward l))) e
 
     none_walked : (d : Bool) → first_met (test_of (over vars) test) (filter (lies_past t.def.key downward bound) (in_walk d [])) ≡ Ok None
     none_walked true = refl

@@ -1,5 +1,5 @@
 -- FETCH finds between a key and the edge of a walk what it finds among all rows past the key.
-use Rattle.std.proofs.Common.{◌≡◌, ℕ, Bool, true, false, ◌&&◌, List, [], ◌∷◌, length, arith, refl, ap, sym, ◌∙◌, Option, Some, None, Result, Ok}
+use Rattle.std.proofs.Common.{◌≡◌, ℕ, Bool, true, false, ◌&&◌, List, [], ◌∷◌, length, arith, refl, ap, sym, subst, ◌∙◌, Option, Some, None, Result, Ok}
 use Rattle.std.specs.Prelude.{IfSome, cond, filter, not, if◌then◌else◌}
 use Rattle.std.specs.Ordering.{is_gt, is_lt, ordering_reverse}
 use Rattle.std.specs.declared.cmp.Ordering.{Ordering}
@@ -20,15 +20,17 @@ use Rattle.psm_table.specs.Queries.{in_walk, is_met}
 use Rattle.psm_table.specs.Table.{Contents}
 use Rattle.psm_table.proofs.KeyLaws.{key_order-total}
 use Rattle.psm_table.proofs.RowOrders.{length-values_at}
-use Rattle.psm_tablecode.specs.Asked.{key_asked, rows_of, unique_asked, walk_by, walk_for}
+use Rattle.psm_tablecode.specs.Asked.{key_asked, rows_of, unique_asked, walk_asked, walk_by, walk_for}
 use Rattle.psm_tablecode.specs.Bounds.{bounds_asked, bounds_of, is_between, Bounds}
 use Rattle.psm_tablecode.specs.Codes.{over}
 use Rattle.psm_tablecode.specs.Edges.{is_begun, is_not_ended, lies_within}
+use Rattle.psm_tablecode.specs.Folding.{folded_test}
 use Rattle.psm_tablecode.specs.Tests.{are_quiet}
 use Rattle.psm_tablecode.specs.declared.walking.Edge.{Edge}
 use Rattle.psm_tablecode.specs.declared.walking.Unique.{Unique}
 use Rattle.psm_tablecode.specs.declared.walking.Walk.{Walk}
 use Rattle.psm_tablecode.proofs.EdgeLaws.{bounds_reach, lies_between}
+use Rattle.psm_tablecode.proofs.FoldLaws.{tests_same}
 use Rattle.psm_tablecode.proofs.Ranges.{bounds_only, bounds_quiet}
 use Rattle.psm_tablecode.proofs.Stepped.{filter-reverse}
 use Rattle.psm_cursor.specs.Walking.{high_edge_past, low_edge_past, walk_past}
@@ -87,9 +89,12 @@ module _ (t : Contents) (vars : List Datum) (row : List Datum) where
   outside_of walk downward lines None (Some unique) w k e = let all : true ≡ false = sym (ap (λ (x : Walk). Within x) w) ∙ e in cc
   outside_of walk downward lines (Some asked) u w k e = let none : Some asked ≡ None = sym (ap (λ (x : Walk). x.key) w) ∙ k in cc
 
+  outside_asked : (walk : Walk) (downward : Bool) (test : Option (List Line)) → walk ≡ walk_asked t.def downward vars test → walk.key ≡ None → Within walk ≡ false → mapped is_met (test_of (over vars) test row) ≡ Ok false
+  outside_asked walk downward None w k e = let all : true ≡ false = sym (ap (λ (x : Walk). Within x) w) ∙ e in cc
+  outside_asked walk downward (Some lines) w k e = outside_of walk downward lines (key_asked t.def.key vars (Some lines)) (unique_asked t.def.unique vars (Some lines)) w k e
+
   outside : (walk : Walk) (downward : Bool) (test : Option (List Line)) → walk ≡ walk_for t downward vars test → walk.key ≡ None → Within walk ≡ false → mapped is_met (test_of (over vars) test row) ≡ Ok false
-  outside walk downward None w k e = let all : true ≡ false = sym (ap (λ (x : Walk). Within x) w) ∙ e in cc
-  outside walk downward (Some lines) w k e = outside_of walk downward lines (key_asked t.def.key vars (Some lines)) (unique_asked t.def.unique vars (Some lines)) w k e
+  outside walk downward test w k e = subst (λ (f : Test). mapped is_met (f row) ≡ Ok false) (tests_same vars test) (outside_asked walk downward (folded_test vars test) w k e)
 
 -- ---- the cut at a key
 

@@ -7,6 +7,7 @@ ghost use Rattle.psm_table.specs.Evaluator.{test_of};
 ghost use Rattle.psm_table.specs.Table.{IsTable};
 ghost use Rattle.psm_tablecode.specs.Asked.{key_asked, rows_of, walk_for, IsLookUp};
 ghost use Rattle.psm_tablecode.specs.Codes.{over};
+ghost use Rattle.psm_tablecode.specs.Folding.{folded_test};
 ghost use Rattle.psm_tablecode.specs.RemainingRows.{cut_edge};
 ghost use Rattle.psm_tablecode.specs.TypeChecks.{Runs, TypeChecksTable};
 ghost use Rattle.psm_cursor.specs.Fetching.{Finds};
@@ -54,7 +55,7 @@ fn met_at_key<'a>(
     asked: &Key,
 ) -> Result<Option<&'a Row>, ValueFault>
     requires type_checks { TypeChecksTable query.now vars.now table.now.contents.def }
-    requires asked { key_asked table.now.contents.def.key vars.now query.now.test ≡ Some asked.now }
+    requires asked { key_asked table.now.contents.def.key vars.now (folded_test vars.now query.now.test) ≡ Some asked.now }
     requires fits { IsKey table.now.contents.def asked.now }
     ensures row { Finds (first_met (test_of (over vars.now) query.now.test) (rows_past table.now.contents.def.key query.now.downward (option_copied key.entry) table.now.contents.rows)) result }
     ensures fits { IfOk result (λ o. IfSome o (λ row. IsRow table.now.contents.def row.now)) }
