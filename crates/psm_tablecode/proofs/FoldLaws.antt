@@ -104,7 +104,7 @@ both_true : (a b : Bool) → a ≡ true → b ≡ true → (a && b) ≡ true
 both_true a b p q = ap (λ c. c && b) p ∙ q
 
 module _ (row vars : List Datum) where
-  -- what the word for an operation that folds values says of it
+  -- what is known of an operation that folds values
   pub record Folds (n : ℕ) (o : Op) : Type 0 where
     pub fits : (os : List Operand) → are_values (suc n) os ≡ true → Fits o os row vars
     pub puts : (d : Datum) (ds : List Datum) (os : List Operand) → value_put o ds ≡ Some d → applied o (Values ds ++ os) row vars ≡ Went Ahead (Value d ∷ os)
@@ -281,7 +281,7 @@ module _ (row vars : List Datum) where
   last_quiet (suc n) [] ds e h = absurd cc
   last_quiet (suc n) (o ∷ done) ds e h = last_by n o done ds (fixed vars o) (last_values vars n done) refl e (λ more r. last_quiet n done more r h) refl
 
-  -- where an operation is folded, or kept, and what is done then raises nothing, neither did it jump nor did what was done before it raise a condition
+  -- Where what is done after an operation raises nothing, what was done before it raises nothing, and the operation doesn't jump.
   abbrev Quiet : List Op → Op → Type 0
   Quiet done o = (all_quiet done ≡ true) × GoesOn o
 

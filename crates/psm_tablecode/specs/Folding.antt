@@ -17,7 +17,7 @@ use Rattle.psm_tablecode.specs.Tests.{are_quiet, fixed, is_quiet, with_first}
 
 -- ---- one operation
 
--- how many values are folded into one by an operation; by any other none are
+-- how many values an operation folds into one; one that is never folded takes none
 abbrev pub folds : Op → ℕ
 folds op.Negate = 1
 folds op.Add = 2
@@ -47,7 +47,7 @@ value_alone (Went (Jump p) os) = None
 value_alone (Raised state) = None
 value_alone Stuck = None
 
--- the value that an operation puts in place of some, the last one first, unless it raises a condition
+-- the value that an operation puts in place of its operands, the last one first, unless it raises a condition
 abbrev pub value_put : Op → List Datum → Option Datum
 value_put o ds = value_alone (applied o (map Value ds) [] [])
 
@@ -77,7 +77,7 @@ abbrev pub done_with : ℕ → List Op → Op → Option Datum → List Op
 done_with n done o (Some d) = constant d ∷ drop n done
 done_with n done o None = o ∷ done
 
--- one more operation, folded with those that it takes the values of
+-- one more operation, folded with those whose values it takes
 abbrev pub fold_op : List Datum → List Op → Op → List Op
 fold_op vars done o = done_with (folds o) done o (value_on vars (folds o) done o)
 
@@ -97,7 +97,7 @@ ops_of lines = map (λ (l : Line). l.op) lines
 abbrev pub folded : List Datum → List Line → List Line
 folded vars lines = map bare (fold_ops vars [] (ops_of lines))
 
--- lines that raise nothing, and if these don't, they once they are folded; else these
+-- the lines if they raise nothing, or else the folded lines if these raise nothing, or else the lines
 abbrev pub quiet_form : List Datum → List Line → List Line
 quiet_form vars lines = if are_quiet lines then lines else if are_quiet (folded vars lines) then folded vars lines else lines
 
