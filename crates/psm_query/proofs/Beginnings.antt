@@ -31,9 +31,9 @@ use Rattle.psm_table.specs.Map.{prefix_order}
 use Rattle.psm_table.specs.Queries.{is_met, walked}
 use Rattle.psm_table.specs.Unique.{is_null}
 use Rattle.psm_table.proofs.Rules.{first_true, second_true}
-use Rattle.psm_tablecode.specs.Asked.{filled, with_first}
+use Rattle.psm_tablecode.specs.Asked.{filled}
 use Rattle.psm_tablecode.specs.Codes.{over, truth_in}
-use Rattle.psm_tablecode.specs.Tests.{fixed, is_and, is_column, is_equality, made_equal, opposite}
+use Rattle.psm_tablecode.specs.Tests.{fixed, is_and, is_column, is_equality, made_equal, opposite, with_first}
 use Rattle.psm_tablecode.proofs.Conjunctions.{run, says}
 use Rattle.psm_tablecode.proofs.Results.{mapped-same}
 use Rattle.psm_query.specs.Ends.{firsts_in, firsts_of, joined_value, more_firsts, rows_beginning}

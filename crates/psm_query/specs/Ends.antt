@@ -16,8 +16,8 @@ use Rattle.psm_exprcode.specs.declared.op.Line.{Line}
 use Rattle.psm_table.specs.Key.{values_at}
 use Rattle.psm_table.specs.Map.{prefix_order}
 use Rattle.psm_table.specs.Rows.{last_of}
-use Rattle.psm_tablecode.specs.Asked.{filled, with_first}
-use Rattle.psm_tablecode.specs.Tests.{first_three, is_and, is_column, made_equal}
+use Rattle.psm_tablecode.specs.Asked.{filled}
+use Rattle.psm_tablecode.specs.Tests.{first_three, is_and, is_column, made_equal, with_first}
 use Rattle.psm_query.specs.Gathered.{Gathered}
 use Rattle.psm_query.specs.declared.ends.Beginning.{Beginning}
 use Rattle.psm_query.specs.declared.tally.Tally.{Tally}

@@ -59,7 +59,7 @@ fn more_firsts(
     first: &Datum,
 ) -> Result<Option<Key>, AllocError>
     requires { 3 ≤ length lines.now }
-    ensures { IfOk result (λ firsts. firsts ≡ asked.with_first (Some first.now) (ends.more_firsts columns.now vars.now (drop 3 lines.now))) }
+    ensures { IfOk result (λ firsts. firsts ≡ tests.with_first (Some first.now) (ends.more_firsts columns.now vars.now (drop 3 lines.now))) }
 {
     let mut firsts = Vec::new(alloc);
     firsts.push(first.copy(alloc)?)?;
