@@ -22,8 +22,8 @@ use psm_resolved::{
 use psm_value::Datum;
 use std::alloc::AllocError;
 
-/// Writes an expression, in which NULL is a value of that letter. A column can't stand outside of rows: what is written of it stands for
-/// nothing.
+/// Writes an expression (ISO/IEC 9075:1992, clauses 6 and 8), in which NULL is a value of that letter. A column can't stand outside of
+/// rows: what is written of it stands for nothing. Out of memory is the one error.
 #[cycle(writing)]
 pub fn expr(
     out: &mut Writer,
@@ -446,7 +446,7 @@ fn several(
     Ok(())
 }
 
-/// Writes the arguments of a routine, whose parameters have these letters.
+/// Writes the arguments of a routine (ISO/IEC 9075-4:1996), whose parameters have these letters. Out of memory is the one error.
 #[cycle(writing)]
 pub fn arguments(
     out: &mut Writer,

@@ -11,7 +11,8 @@ use psm_list::{Boxed, List};
 use psm_resolved::{ResolvedExpr, ResolvedItem, ResolvedItems, ResolvedQuery};
 use std::alloc::{AllocError, Global};
 
-/// The letters of the items of a query, the first one first.
+/// The letters of the items of a query (ISO/IEC 9075:1992, clause 7), the first one first: N, T or B each. Out of memory is the one
+/// error.
 pub fn item_letters(
     alloc: Global,
     known: &Known,

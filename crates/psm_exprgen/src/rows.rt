@@ -14,8 +14,8 @@ use psm_resolved::{ResolvedExpr, row_code};
 use psm_value::Datum;
 use std::alloc::{AllocError, Global};
 
-/// Code of that letter over columns and variables of these: that of the expression where it is of that letter, and else that of
-/// NULL.
+/// Code of that letter over columns and variables of these: that of the expression (ISO/IEC 9075:1992, clause 6) where it is of that
+/// letter, and else that of NULL. Out of memory is the one error.
 #[tactic(auto, using(crate::proofs::ExprLetters::null_fits))]
 pub fn row(
     alloc: Global,
@@ -114,7 +114,7 @@ pub(crate) fn values(
     Ok(List::of(codes))
 }
 
-/// Code of a condition.
+/// Code of a search condition (ISO/IEC 9075:1992, clause 8.12). Out of memory is the one error.
 #[tactic(auto, using(crate::proofs::ExprLetters::test_goes))]
 pub fn test(
     alloc: Global,
@@ -144,7 +144,7 @@ pub(crate) fn test_perhaps(
     }
 }
 
-/// The same of each condition.
+/// The same of each search condition. Out of memory is the one error.
 pub fn tests(
     alloc: Global,
     es: &List<Boxed<ResolvedExpr>>,

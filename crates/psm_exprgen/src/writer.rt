@@ -14,7 +14,8 @@ use std::marker::Model;
 /// The lines so far, the letters of the operands after them, the queries so far, and the labels: for each the line to which it is bound.
 ///
 /// A line that isn't written yet is named by a label, which is bound once it follows. So lines have labels where they jump and where the
-/// run goes on after a condition; `patch_lines` puts lines in place of them.
+/// run goes on after a condition; code generation puts lines in place of them at the end. Out of memory is the one error of what is
+/// written, and after it nothing is said of the writer.
 #[derive(Drop)]
 pub struct Writer {
     code: LinesWriter,
