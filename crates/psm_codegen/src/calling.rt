@@ -1,17 +1,13 @@
 //! Arguments of CALL, rows of INSERT, declarations and messages of conditions: what is evaluated before a statement does its work.
 ghost use Rattle.std.specs.Prelude.{◌≡◌, ◌∷◌, ◌<◌, ◌+◌, ◌≤◌, IfOk};
-ghost use Rattle.psm_codegen.specs.Labels.{Drafted, patched_instruction};
+ghost use Rattle.psm_exprgen.specs.Labels.{Drafted, patched_instruction};
+ghost use Rattle.psm_exprgen.specs.Written.{Written};
 ghost use Rattle.psm_codegen.specs.Simples.{CallArguments, Declares, Default, Signals, WritesRows, letter_of_slots};
-ghost use Rattle.psm_codegen.specs.Written.{Written};
 
-use crate::emit_context::EmitContext;
-use crate::exprs::{arguments, expr};
-use crate::known::Known;
-use crate::places::letter_at;
 use crate::storing::copies;
-use crate::writer::Writer;
 use psm_code::Instruction;
 use psm_exprcode::{Letter, Op};
+use psm_exprgen::{EmitContext, Known, Writer, arguments, expr, letter_at};
 use psm_list::{Boxed, List};
 use psm_resolved::{ResolvedArgument, ResolvedDeclaration, ResolvedExpr};
 use psm_value::Datum;

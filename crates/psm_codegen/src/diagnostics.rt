@@ -3,11 +3,10 @@ ghost use Rattle.std.specs.Prelude.{◌≡◌, IfOk};
 ghost use Rattle.psm_code.specs.Instructions.{condition_letter, statement_letter};
 ghost use Rattle.psm_codegen.specs.Simples.{condition_items, item_stored, statement_items};
 
-use crate::emit_context::EmitContext;
-use crate::writer::Writer;
 use psm_code::Instruction;
 use psm_cond::{ConditionItem, DiagnosticsArea, StatementItem};
 use psm_exprcode::{Letter, Op};
+use psm_exprgen::{EmitContext, Writer};
 use psm_list::List;
 use std::alloc::AllocError;
 

@@ -1,21 +1,21 @@
 //! What is written of a routine.
 ghost use Rattle.std.specs.Prelude.{◌≡◌, ◌<◌, ◌^◌, [], None, Some, length, map, suc, IfOk};
-ghost use Rattle.psm_codegen.specs.declared.known.Known.{Known};
+ghost use Rattle.psm_exprgen.specs.declared.known.Known.{Known};
+ghost use Rattle.psm_exprgen.specs.Labels.{patched_line};
+ghost use Rattle.psm_exprgen.specs.Queries.{item_letters};
+ghost use Rattle.psm_exprgen.specs.Written.{bound, last_letter, letters_at, puts, with_label};
 ghost use Rattle.psm_codegen.specs.FunctionBuilder.{at, block_entered, next_context, several_values, with_code, with_handler, with_plain};
-ghost use Rattle.psm_codegen.specs.Labels.{line_of, patched_context, patched_line};
-ghost use Rattle.psm_codegen.specs.Queries.{item_letters};
+ghost use Rattle.psm_codegen.specs.Labels.{line_of, patched_context};
 ghost use Rattle.psm_codegen.specs.Simples.{changed, condition_number, declared_with};
 ghost use Rattle.psm_codegen.specs.Statements.{with_cursor};
-ghost use Rattle.psm_codegen.specs.Written.{bound, last_letter, letters_at, puts, with_label};
 
 use crate::labels::{patch_contexts, patch_lines};
-use crate::places::letters_at;
-use crate::writer::Writer;
 use psm_code::{CodeCursor, Instruction, Lines, Plan};
 use psm_cond::{
     Block, ConditionValue, Context, ContextKind, Declared, Handler, HandlerKind, HandlerTable,
 };
 use psm_exprcode::{Letter, Query};
+use psm_exprgen::{Writer, letters_at};
 use psm_list::{List, OneOrMore};
 use psm_resolved::{ResolvedCondition, ResolvedCursor};
 use std::alloc::{AllocError, Global};

@@ -8,18 +8,13 @@ ghost use Rattle.psm_codegen.specs.Simples.{WritesAnywhere, WritesSimple, letter
 use crate::calling::{call_arguments, rows, signals};
 use crate::changes::{deletes, updates};
 use crate::diagnostics::{condition_items, statement_items};
-use crate::emit_context::EmitContext;
 use crate::enclosing::EnclosingBlock;
-use crate::exprs::expr;
-use crate::known::Known;
 use crate::leaving::{iterates, leaves};
-use crate::letters::item_letters;
 use crate::parts::{FunctionBuilder, numbered};
-use crate::places::{letter_at, letters_at, number_at};
-use crate::queries::query_code;
 use crate::storing::{gives, retrieves};
 use psm_code::{Instruction, Plan};
 use psm_exprcode::{Letter, Op};
+use psm_exprgen::{EmitContext, Known, expr, item_letters, letter_at, letters_at, number_at, query_code};
 use psm_list::{Boxed, List};
 use psm_resolved::{
     ResolvedArgument, ResolvedDiagnostics, ResolvedExpr, ResolvedNumber, ResolvedQuery,

@@ -6,7 +6,6 @@ ghost use Rattle.psm_codegen.specs.Labels.{DraftedParts, patched_block};
 ghost use Rattle.psm_codegen.specs.StatementForms.{WritesForm};
 ghost use Rattle.psm_codegen.specs.Statements.{WritesBranches, WritesComparisons, WritesElse, WritesHandlers, WritesStatement, WritesStatements};
 
-use crate::emit_context::EmitContext;
 use crate::enclosing::EnclosingBlock;
 use crate::parts::FunctionBuilder;
 use crate::simples::simple;
@@ -16,6 +15,7 @@ use crate::steps::{
 };
 use psm_code::Instruction;
 use psm_exprcode::{Letter, Op};
+use psm_exprgen::EmitContext;
 use psm_list::{Boxed, List};
 use psm_resolved::{
     ResolvedBlock, ResolvedBranch, ResolvedExpr, ResolvedFor, ResolvedHandler, ResolvedStatement,

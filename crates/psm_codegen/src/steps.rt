@@ -1,23 +1,21 @@
 //! Steps of statements that have statements, which write no statement.
 ghost use Rattle.std.specs.Prelude.{◌≡◌, ◌∷◌, [], map, suc, IfOk};
 ghost use Rattle.psm_code.specs.declared.instruction.Instruction.TheVariants as instruction;
-ghost use Rattle.psm_codegen.specs.Exprs.{Writes};
+ghost use Rattle.psm_exprgen.specs.Exprs.{Writes};
+ghost use Rattle.psm_exprgen.specs.Labels.{Drafted};
+ghost use Rattle.psm_exprgen.specs.Written.{applied, taken, takes};
 ghost use Rattle.psm_codegen.specs.FunctionBuilder.{FunctionBuilder as Whole, at, block_entered, next_context, with_code};
-ghost use Rattle.psm_codegen.specs.Labels.{Drafted, DraftedParts};
+ghost use Rattle.psm_codegen.specs.Labels.{DraftedParts};
 ghost use Rattle.psm_codegen.specs.Simples.{Declares};
 ghost use Rattle.psm_codegen.specs.Statements.{WritesCursors, fetched, jumped, passed};
-ghost use Rattle.psm_codegen.specs.Written.{applied, taken, takes};
 
 use crate::calling::declares;
-use crate::emit_context::EmitContext;
 use crate::enclosing::EnclosingBlock;
-use crate::exprs::expr;
-use crate::letters::item_letters;
 use crate::parts::FunctionBuilder;
-use crate::queries::query_code;
 use crate::storing::stores;
 use psm_code::Instruction;
 use psm_exprcode::{Letter, Op};
+use psm_exprgen::{EmitContext, expr, item_letters, query_code};
 use psm_list::{Boxed, List};
 use psm_resolved::{
     ResolvedCursor, ResolvedDeclaration, ResolvedExpr, ResolvedFor, ResolvedHandler,

@@ -3,13 +3,12 @@ ghost use Rattle.std.specs.Prelude.{◌≡◌, IfOk};
 ghost use Rattle.psm_code.specs.declared.instruction.Instruction.TheVariants as instruction;
 ghost use Rattle.psm_simulation.specs.Scheme.{slots_given};
 ghost use Rattle.psm_exprcode.specs.declared.op.Op.TheVariants as op;
+ghost use Rattle.psm_exprgen.specs.Written.{applied, last_letter, takes};
 ghost use Rattle.psm_codegen.specs.Simples.{copied, retrieved, stored};
-ghost use Rattle.psm_codegen.specs.Written.{applied, last_letter, takes};
 
-use crate::emit_context::EmitContext;
-use crate::writer::Writer;
 use psm_code::Instruction;
 use psm_exprcode::Op;
+use psm_exprgen::{EmitContext, Writer};
 use psm_list::List;
 use psm_resolved::ResolvedArgument;
 use std::alloc::AllocError;
