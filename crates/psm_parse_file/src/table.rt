@@ -5,7 +5,7 @@ ghost use Rattle.psm_tree.specs.Readers.{Takes, TakesAs, reading};
 
 use crate::rules::{column_rules, table_rule};
 use psm_grammar::Halt;
-use psm_list::{List, OneOrMore};
+use psm_list::{Boxed, List, OneOrMore};
 use psm_parse_token::{Tokens, constant, data_type};
 use psm_token::{Sign, Word};
 use psm_tree::{Constant, Element, Identifier};
@@ -37,30 +37,32 @@ fn perhaps_default(
 
 /// `name type [DEFAULT const] {column_rule}`
 #[tactic(auto, using(psm_tree::proofs::Reading::steps), unfolding(psm_tree::specs::FileGrammar::column))]
-fn column(alloc: Global, tokens: &mut Tokens, levels: u32) -> Result<Element, Halt>
+fn column(alloc: Global, tokens: &mut Tokens, levels: u32) -> Result<Boxed<Element>, Halt>
     ensures { Takes (reading levels column_part tokens.old.rest.now) result tokens.new.rest.now }
 {
     let name = tokens.name(alloc)?;
     let kind = data_type(tokens, levels)?;
     let default = perhaps_default(alloc, tokens, levels)?;
     let rules = column_rules(alloc, tokens, levels)?;
-    Ok(Element::Column {
+    let column = Element::Column {
         name,
         kind,
         default,
         rules,
-    })
+    };
+    Ok(Boxed::new(alloc, column)?)
 }
 
 /// `column | table_rule`: a column begins with a name.
 #[tactic(auto, using(psm_tree::proofs::Reading::steps, psm_tree::proofs::Firsts::first_column), unfolding(psm_tree::specs::FileGrammar::element))]
-fn element(alloc: Global, tokens: &mut Tokens, levels: u32) -> Result<Element, Halt>
+fn element(alloc: Global, tokens: &mut Tokens, levels: u32) -> Result<Boxed<Element>, Halt>
     ensures { Takes (reading levels element_part tokens.old.rest.now) result tokens.new.rest.now }
 {
     if tokens.at_name() {
         return column(alloc, tokens, levels);
     }
-    Ok(Element::Rule(table_rule(alloc, tokens, levels)?))
+    let rule = Element::Rule(table_rule(alloc, tokens, levels)?);
+    Ok(Boxed::new(alloc, rule)?)
 }
 
 /// `"," element`
@@ -69,7 +71,8 @@ fn next_element(alloc: Global, tokens: &mut Tokens, levels: u32) -> Result<Eleme
     ensures { Takes (reading levels next_element_part tokens.old.rest.now) result tokens.new.rest.now }
 {
     tokens.sign(Sign::Comma)?;
-    element(alloc, tokens, levels)
+    let element = element(alloc, tokens, levels)?;
+    Ok(element.into_inner())
 }
 
 /// `{"," element}`
@@ -90,12 +93,16 @@ fn next_elements(alloc: Global, tokens: &mut Tokens, levels: u32) -> Result<List
 
 /// `element {"," element}`
 #[tactic(auto, using(psm_tree::proofs::Reading::steps), unfolding(psm_tree::specs::FileGrammar::elements))]
-fn elements(alloc: Global, tokens: &mut Tokens, levels: u32) -> Result<OneOrMore<Element>, Halt>
+fn elements(
+    alloc: Global,
+    tokens: &mut Tokens,
+    levels: u32,
+) -> Result<Boxed<OneOrMore<Element>>, Halt>
     ensures { Takes (reading levels elements_part tokens.old.rest.now) result tokens.new.rest.now }
 {
     let first = element(alloc, tokens, levels)?;
     let rest = next_elements(alloc, tokens, levels)?;
-    Ok(OneOrMore::of(first, rest))
+    Ok(Boxed::new(alloc, OneOrMore::of(first.into_inner(), rest))?)
 }
 
 /// `name "(" element {"," element} ")"`: the name and the elements.
@@ -104,7 +111,7 @@ pub(crate) fn table(
     alloc: Global,
     tokens: &mut Tokens,
     levels: u32,
-) -> Result<(Identifier, OneOrMore<Element>), Halt>
+) -> Result<(Identifier, Boxed<OneOrMore<Element>>), Halt>
     ensures { TakesAs (λ x. record { name = x.0; elements = x.1 }) (reading levels table_part tokens.old.rest.now) result tokens.new.rest.now }
 {
     let name = tokens.name(alloc)?;
