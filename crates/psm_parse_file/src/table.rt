@@ -37,32 +37,30 @@ fn perhaps_default(
 
 /// `name type [DEFAULT const] {column_rule}`
 #[tactic(auto, using(psm_tree::proofs::Reading::steps), unfolding(psm_tree::specs::FileGrammar::column))]
-fn column(alloc: Global, tokens: &mut Tokens, levels: u32) -> Result<Boxed<Element>, Halt>
+fn column(alloc: Global, tokens: &mut Tokens, levels: u32) -> Result<Element, Halt>
     ensures { Takes (reading levels column_part tokens.old.rest.now) result tokens.new.rest.now }
 {
     let name = tokens.name(alloc)?;
     let kind = data_type(tokens, levels)?;
     let default = perhaps_default(alloc, tokens, levels)?;
     let rules = column_rules(alloc, tokens, levels)?;
-    let column = Element::Column {
+    Ok(Element::Column {
         name,
         kind,
         default,
         rules,
-    };
-    Ok(Boxed::new(alloc, column)?)
+    })
 }
 
 /// `column | table_rule`: a column begins with a name.
 #[tactic(auto, using(psm_tree::proofs::Reading::steps, psm_tree::proofs::Firsts::first_column), unfolding(psm_tree::specs::FileGrammar::element))]
-fn element(alloc: Global, tokens: &mut Tokens, levels: u32) -> Result<Boxed<Element>, Halt>
+fn element(alloc: Global, tokens: &mut Tokens, levels: u32) -> Result<Element, Halt>
     ensures { Takes (reading levels element_part tokens.old.rest.now) result tokens.new.rest.now }
 {
     if tokens.at_name() {
         return column(alloc, tokens, levels);
     }
-    let rule = Element::Rule(table_rule(alloc, tokens, levels)?);
-    Ok(Boxed::new(alloc, rule)?)
+    Ok(Element::Rule(table_rule(alloc, tokens, levels)?))
 }
 
 /// `"," element`
@@ -71,8 +69,7 @@ fn next_element(alloc: Global, tokens: &mut Tokens, levels: u32) -> Result<Eleme
     ensures { Takes (reading levels next_element_part tokens.old.rest.now) result tokens.new.rest.now }
 {
     tokens.sign(Sign::Comma)?;
-    let element = element(alloc, tokens, levels)?;
-    Ok(element.into_inner())
+    element(alloc, tokens, levels)
 }
 
 /// `{"," element}`
@@ -100,7 +97,7 @@ fn elements(
 ) -> Result<Boxed<OneOrMore<Element>>, Halt>
     ensures { Takes (reading levels elements_part tokens.old.rest.now) result tokens.new.rest.now }
 {
-    let first = element(alloc, tokens, levels)?;
+    let first = Boxed::new(alloc, element(alloc, tokens, levels)?)?;
     let rest = next_elements(alloc, tokens, levels)?;
     Ok(Boxed::new(alloc, OneOrMore::of(first.into_inner(), rest))?)
 }
