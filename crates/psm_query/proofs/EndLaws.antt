@@ -1,12 +1,13 @@
--- What the length of a table and its ends tell of set functions over all its rows.
-use Rattle.std.proofs.Common.{◌≡◌, ◌≢◌, Bor, ℕ, suc, ◌+◌, ◌-◌, ◌<◌, Bool, true, false, ◌&&◌, ◌||◌, List, [], ◌∷◌, ◌++◌, length, get_or, append_assoc, length-append, refl, ap, sym, subst, ◌∙◌, arith, Option, Some, None, Result, Ok, ◌⊎◌, inl, inr}
-use Rattle.std.specs.Prelude.{All, filter, map, not, reverse, slice_get, cond, unwrap_or, if◌then◌else◌, MatchOption}
+-- What the ends of rows whose keys begin alike, and the length of a table, tell of set functions.
+use Rattle.std.proofs.Common.{◌≡◌, ◌≢◌, Bor, ℕ, zero, suc, eqb-true, ◌+◌, ◌-◌, ◌<◌, Bool, true, false, ◌&&◌, ◌||◌, List, [], ◌∷◌, ◌++◌, length, get_or, append_assoc, length-append, refl, ap, sym, subst, ◌∙◌, arith, Option, Some, None, Result, Ok, ◌⊎◌, inl, inr}
+use Rattle.std.specs.Prelude.{All, AllPairs, filter, is_none, map, nat_eq, not, reverse, slice_get, cond, unwrap_or, if◌then◌else◌, MatchOption}
 use Rattle.std.specs.List.{cons_option, list_all, list_any}
 use Rattle.std.specs.Option.{option_copied}
 use Rattle.std.specs.Ordering.{is_eq, is_gt, is_lt, is_le, ordering_reverse, ordering_then}
 use Rattle.std.specs.declared.cmp.Ordering.{Ordering}
 use Rattle.std.specs.declared.cmp.Ordering.TheVariants.{Less, Equal, Greater}
-use Rattle.std.proofs.lemmas.List.Elements.{All-head, All-tail}
+use Rattle.std.proofs.lemmas.List.Elements.{All-filter, All-head, All-tail}
+use Rattle.std.proofs.lemmas.List.Kept.{AllPairs-filter}
 use Rattle.std.proofs.lemmas.List.{get_or-reverse, length-reverse}
 use Rattle.std.proofs.lemmas.Option.{slice_get-get_or, unwrap_or-slice_get}
 use Rattle.psm_sqlstate.specs.declared.state.SqlState.{SqlState}
@@ -27,24 +28,24 @@ use Rattle.psm_exprcode.specs.Applied.{applied, with_named}
 use Rattle.psm_exprcode.specs.Evaluated.{evaluated, goes_on, place_after, ran, Outcome}
 use Rattle.psm_table.specs.Cuts.{is_past, rows_between}
 use Rattle.psm_table.specs.declared.cut.Cut.{Cut}
-use Rattle.psm_table.specs.Definition.{IsRow}
 use Rattle.psm_table.specs.Table.{Contents, IsTable}
 use Rattle.psm_table.specs.Evaluator.{and_then, mapped, test_of}
-use Rattle.psm_table.specs.Key.{key_order, values_at}
+use Rattle.psm_table.specs.Key.{key_order, values_at, AreColumnsOf}
 use Rattle.psm_table.specs.Map.{prefix_order}
 use Rattle.psm_table.specs.Queries as q
 use Rattle.psm_table.specs.Queries.{column, in_walk, comes_after, comes_before, first_by, has_nulls, known, operand_of, operands_of, walked, whole}
 use Rattle.psm_table.specs.Rows.{last_of, IsAscending}
 use Rattle.psm_table.specs.Unique.{is_null}
-use Rattle.psm_table.proofs.Filters.{AllPairs-first, AllPairs-rest}
-use Rattle.psm_table.proofs.Orders.{order_first}
+use Rattle.psm_table.proofs.Filters.{equal_is, filter-whole, filtered, AllPairs-first, AllPairs-rest}
 use Rattle.psm_table.proofs.Rules.{first_true, second_true}
 use Rattle.psm_table.proofs.Walks.{last-cons}
 use Rattle.psm_tablecode.specs.Codes.{over, set_function, set_of, value_in}
 use Rattle.psm_tablecode.specs.Rows.{values_for}
 use Rattle.psm_tablecode.proofs.Conjunctions.{says}
-use Rattle.psm_query.specs.Ends.{first_like, gathered_told, in_column, is_column_alone, is_told, sets_are_told, told, told_column, IsFirst}
+use Rattle.psm_query.specs.Ends.{first_like, firsts_of, gathered_told, in_column, is_column_alone, is_of_ends, is_told, rows_beginning, sets_are_told, told, told_beginning, with_column, with_firsts, IsNext}
+use Rattle.psm_query.specs.declared.ends.Beginning.{Beginning}
 use Rattle.psm_query.specs.Gathered.{nothing, with_rows, Gathered}
+use Rattle.psm_query.proofs.Beginnings.{and_assoc, and_true, begins_both, begins_next, if_some, unless_some, walked_beginning}
 use Rattle.psm_query.proofs.Tallied.{kept, kept-all, tallies, tally}
 use Rattle.psm_query.specs.declared.tally.Tally.{Tally}
 use Rattle.psm_query.specs.declared.tally.Tally.TheVariants as tally_of
@@ -62,12 +63,12 @@ module _ (c : ℕ) where
   of_row None row = whole 1
   of_row (Some code) row = at row
 
-  abbrev pub AreTold : List Aggregate → Type 0
-  AreTold sets = list_all (λ (a : Aggregate). is_told c a.function a.operand) sets ≡ true
+  abbrev pub AreTold : Bool → List Aggregate → Type 0
+  AreTold all sets = list_all (λ (a : Aggregate). is_told all c a.function a.operand) sets ≡ true
 
   -- ---- what is taken of the rows
 
-  module _ (vars : List Datum) where
+  module _ (vars : List Datum) (all : Bool) where
     abbrev after : List Datum → Next → List Operand → Outcome
     after row next = ran row vars 1 (place_after 0 next) []
 
@@ -80,7 +81,7 @@ module _ (c : ℕ) where
     value_alone row (l ∷ []) h = ap (λ (o : Op). value_in (goes_on (applied o [] row vars) (after row))) ((says row vars l.op).column c h) ∙ named row (slice_get row c) refl
     value_alone row (l ∷ k ∷ lines) h = absurd (cc)
 
-    operand_alone : (f : SetFunction) (operand : Option (List Line)) (row : List Datum) → is_told c f operand ≡ true → operand_of (over vars) operand row ≡ Ok (of_row operand row)
+    operand_alone : (f : SetFunction) (operand : Option (List Line)) (row : List Datum) → is_told all c f operand ≡ true → operand_of (over vars) operand row ≡ Ok (of_row operand row)
     operand_alone f None row h = refl
     operand_alone function.Count (Some code) row h = absurd (cc)
     operand_alone function.Sum (Some code) row h = absurd (cc)
@@ -88,14 +89,14 @@ module _ (c : ℕ) where
     operand_alone function.Max (Some code) row h = value_alone row code h
     operand_alone function.Avg (Some code) row h = absurd (cc)
 
-    operands_alone : (sets : List Aggregate) (row : List Datum) → AreTold sets → operands_of (over vars) (map set_of sets) row ≡ Ok (map (λ (a : Aggregate). of_row a.operand row) sets)
+    operands_alone : (sets : List Aggregate) (row : List Datum) → AreTold all sets → operands_of (over vars) (map set_of sets) row ≡ Ok (map (λ (a : Aggregate). of_row a.operand row) sets)
     operands_alone [] row h = refl
     operands_alone (a ∷ sets) row h =
-        let one = operand_alone a.function a.operand row (first_true (is_told c a.function a.operand) (list_all (λ (b : Aggregate). is_told c b.function b.operand) sets) h) in
-        let rest = operands_alone sets row (second_true (is_told c a.function a.operand) (list_all (λ (b : Aggregate). is_told c b.function b.operand) sets) h) in
+        let one = operand_alone a.function a.operand row (first_true (is_told all c a.function a.operand) (list_all (λ (b : Aggregate). is_told all c b.function b.operand) sets) h) in
+        let rest = operands_alone sets row (second_true (is_told all c a.function a.operand) (list_all (λ (b : Aggregate). is_told all c b.function b.operand) sets) h) in
         ap (λ r. and_then r (λ b. mapped (λ bs. b ∷ bs) (operands_of (over vars) (map set_of sets) row))) one ∙ ap (mapped (λ bs. of_row a.operand row ∷ bs)) rest
 
-    pub walked_alone : (sets : List Aggregate) (rows : List (List Datum)) → AreTold sets
+    pub walked_alone : (sets : List Aggregate) (rows : List (List Datum)) → AreTold all sets
         → walked (test_of (over vars) None) (operands_of (over vars) (map set_of sets)) rows ≡ Ok (map (λ row. map (λ (a : Aggregate). of_row a.operand row) sets) rows)
     walked_alone sets [] h = refl
     walked_alone sets (row ∷ rows) h =
@@ -253,23 +254,12 @@ module _ (l : Datum) where
         ∙ twice (ties l v) v w ws refl (sym (ap is_eq (data_order-total.congr v w l f)))
   ]
 
--- ---- rows that ascend by a key whose first column it is
+-- ---- rows in which the values of a column don't fall
 
-module _ (c : ℕ) (columns : List ℕ) where
-  abbrev Ascend : List (List Datum) → Type 0
-  Ascend rows = IsAscending (c ∷ columns) rows
-
-  then_less : (o p : Ordering) → ordering_then o p ≡ Less → is_le o ≡ true
-  then_less Less p h = refl
-  then_less Equal p h = refl
-  then_less Greater p h = absurd (cc)
-
-  rise_rows : (row : List Datum) (rows : List (List Datum)) → Ascend (row ∷ rows) → Rise (at c row) (map (at c) rows)
-  rise_rows row [] h = tt
-  rise_rows row (next ∷ rows) h = (
-    then_less (data_order (at c row) (at c next)) (key_order (values_at columns row) (values_at columns next)) (All-head (λ b. key_order (values_at (c ∷ columns) row) (values_at (c ∷ columns) b) ≡ Less) next rows (AllPairs-first (λ a b. key_order (values_at (c ∷ columns) a) (values_at (c ∷ columns) b) ≡ Less) row (next ∷ rows) h)),
-    rise_rows next rows (AllPairs-rest (λ a b. key_order (values_at (c ∷ columns) a) (values_at (c ∷ columns) b) ≡ Less) row (next ∷ rows) h),
-  )
+module _ (c : ℕ) where
+  abbrev pub Rises : List (List Datum) → Type 0
+  Rises [] = Unit {0}
+  Rises (row ∷ rows) = Rise (at c row) (map (at c) rows)
 
   -- the last row has the last value
   final_row : (row : List Datum) (rows : List (List Datum)) → (last : List Datum) × (last_of (row ∷ rows) ≡ Some last) × (at c last ≡ final (at c row) (map (at c) rows))
@@ -285,157 +275,255 @@ module _ (c : ℕ) (columns : List ℕ) where
       by_tie true e = refl
       by_tie false e = e
 
-  greatest_row : (row : List Datum) (rows : List (List Datum)) → Ascend (row ∷ rows) → Some (first_by comes_after (at c row) (map (at c) rows)) ≡ in_column c (first_like c (last_of (row ∷ rows)) (row ∷ rows))
+  greatest_row : (row : List Datum) (rows : List (List Datum)) → Rises (row ∷ rows) → Some (first_by comes_after (at c row) (map (at c) rows)) ≡ in_column c (first_like c (last_of (row ∷ rows)) (row ∷ rows))
   greatest_row row rows h =
       let r = final_row row rows in
       let same : data_order (final (at c row) (map (at c) rows)) (at c r.0) ≡ Equal = ap (λ v. data_order v (at c r.0)) (sym r.2) ∙ data_order-same (at c r.0) in
-      greatest (at c r.0) (at c row) (map (at c) rows) (rise_rows row rows h) same ∙ sym (tie_rows (at c r.0) (row ∷ rows)) ∙ ap (λ o. in_column c (first_like c o (row ∷ rows))) (sym r.1)
+      greatest (at c r.0) (at c row) (map (at c) rows) h same ∙ sym (tie_rows (at c r.0) (row ∷ rows)) ∙ ap (λ o. in_column c (first_like c o (row ∷ rows))) (sym r.1)
 
-  tally_told : (f : SetFunction) (operand : Option (List Line)) (rows : List (List Datum)) → is_told c f operand ≡ true → All (IsFilled c) rows → Ascend rows
-      → tally (set_function f) (known (map (of_row c operand) rows)) ≡ told c rows f
-  tally_told function.Count None rows t filled h = ap tally_of.Count (known_ones c rows)
-  tally_told function.Count (Some code) rows t filled h = absurd (cc)
-  tally_told function.Sum operand rows t filled h = absurd (cc)
-  tally_told function.Avg operand rows t filled h = absurd (cc)
-  tally_told function.Min None rows t filled h = absurd (cc)
-  tally_told function.Max None rows t filled h = absurd (cc)
-  tally_told function.Min (Some code) [] t filled h = refl
-  tally_told function.Max (Some code) [] t filled h = refl
-  tally_told function.Min (Some code) (row ∷ rows) t filled h = ap (tally q.Min) (known_rows c (row ∷ rows) filled) ∙ ap (λ v. tally_of.Min (Some v)) (least_first (at c row) (map (at c) rows) (rise_rows row rows h))
-  tally_told function.Max (Some code) (row ∷ rows) t filled h = ap (tally q.Max) (known_rows c (row ∷ rows) filled) ∙ ap tally_of.Max (greatest_row row rows h)
+  tally_told : (all : Bool) (every : List (List Datum)) (f : SetFunction) (operand : Option (List Line)) (rows : List (List Datum)) → is_told all c f operand ≡ true → (all ≡ true → every ≡ rows) → All (IsFilled c) rows → Rises rows
+      → tally (set_function f) (known (map (of_row c operand) rows)) ≡ told c every rows f
+  tally_told all every function.Count None rows t same filled h = ap tally_of.Count (known_ones c rows ∙ ap length (sym (same t)))
+  tally_told all every function.Count (Some code) rows t same filled h = absurd (cc)
+  tally_told all every function.Sum operand rows t same filled h = absurd (cc)
+  tally_told all every function.Avg operand rows t same filled h = absurd (cc)
+  tally_told all every function.Min None rows t same filled h = absurd (cc)
+  tally_told all every function.Max None rows t same filled h = absurd (cc)
+  tally_told all every function.Min (Some code) [] t same filled h = refl
+  tally_told all every function.Max (Some code) [] t same filled h = refl
+  tally_told all every function.Min (Some code) (row ∷ rows) t same filled h = ap (tally q.Min) (known_rows c (row ∷ rows) filled) ∙ ap (λ v. tally_of.Min (Some v)) (least_first (at c row) (map (at c) rows) h)
+  tally_told all every function.Max (Some code) (row ∷ rows) t same filled h = ap (tally q.Max) (known_rows c (row ∷ rows) filled) ∙ ap tally_of.Max (greatest_row row rows h)
 
-  tallies_told : (sets : List Aggregate) (rows : List (List Datum)) → AreTold c sets → All (IsFilled c) rows → Ascend rows → map (tally_over c rows) sets ≡ map (λ (a : Aggregate). told c rows a.function) sets
-  tallies_told [] rows t filled h = refl
-  tallies_told (a ∷ sets) rows t filled h =
-      let one = tally_told a.function a.operand rows (first_true (is_told c a.function a.operand) (list_all (λ (b : Aggregate). is_told c b.function b.operand) sets) t) filled h in
-      let more = tallies_told sets rows (second_true (is_told c a.function a.operand) (list_all (λ (b : Aggregate). is_told c b.function b.operand) sets) t) filled h in
-      ap (λ t. t ∷ map (tally_over c rows) sets) one ∙ ap (λ ts. told c rows a.function ∷ ts) more
+  module _ (all : Bool) (every rows : List (List Datum)) (same : all ≡ true → every ≡ rows) (filled : All (IsFilled c) rows) (h : Rises rows) where
+    tallies_told : (sets : List Aggregate) → AreTold c all sets → map (tally_over c rows) sets ≡ map (λ (a : Aggregate). told c every rows a.function) sets
+    tallies_told [] t = refl
+    tallies_told (a ∷ sets) t =
+        let one = tally_told all every a.function a.operand rows (first_true (is_told all c a.function a.operand) (list_all (λ (b : Aggregate). is_told all c b.function b.operand) sets) t) same filled h in
+        let more = tallies_told sets (second_true (is_told all c a.function a.operand) (list_all (λ (b : Aggregate). is_told all c b.function b.operand) sets) t) in
+        ap (λ t. t ∷ map (tally_over c rows) sets) one ∙ ap (λ ts. told c every rows a.function ∷ ts) more
 
-  -- what is kept of such set functions after all rows
-  pub kept_told : (sets : List Aggregate) (rows : List (List Datum)) → AreTold c sets → All (IsFilled c) rows → Ascend rows
-      → kept sets (map (taken_of c sets) rows) ≡ gathered_told c rows sets
-  kept_told sets rows t filled h =
-      ap (λ ts. record { rows = []; tallies = ts; skipped = has_nulls (map (taken_of c sets) rows) }) (tallies_over c [] sets rows ∙ tallies_told sets rows t filled h)
-      ∙ ap (λ b. record { rows = []; tallies = map (λ (a : Aggregate). told c rows a.function) sets; skipped = b }) (no_nulls c sets rows filled)
+    -- what is kept of such set functions after all rows
+    pub kept_told : (sets : List Aggregate) → AreTold c all sets → kept sets (map (taken_of c sets) rows) ≡ record { rows = []; tallies = map (λ (a : Aggregate). told c every rows a.function) sets; skipped = false }
+    kept_told sets t =
+        ap (λ ts. record { rows = []; tallies = ts; skipped = has_nulls (map (taken_of c sets) rows) }) (tallies_over c [] sets rows ∙ tallies_told sets t)
+        ∙ ap (λ b. record { rows = []; tallies = map (λ (a : Aggregate). told c every rows a.function) sets; skipped = b }) (no_nulls c sets rows filled)
 
--- ---- over the rows of a table
+-- ---- rows whose keys begin alike
+
+then_less : (o p : Ordering) → ordering_then o p ≡ Less → is_le o ≡ true
+then_less Less p h = refl
+then_less Equal p h = refl
+then_less Greater p h = absurd (cc)
+
+-- the values of the column after those with which the keys begin
+rise_next : (key : List ℕ) (firsts : List Datum) (c : ℕ) (a b : List Datum) → IsNext (length firsts) key c → is_eq (prefix_order firsts (values_at key a)) ≡ true → is_eq (prefix_order firsts (values_at key b)) ≡ true
+    → key_order (values_at key a) (values_at key b) ≡ Less → is_le (data_order (at c a) (at c b)) ≡ true
+rise_next [] firsts c a b n p q h = absurd (cc)
+rise_next (k ∷ key) [] c a b n p q h =
+    subst (λ j. is_le (data_order (at j a) (at j b)) ≡ true) (some_same k c n) (then_less (data_order (at k a) (at k b)) (key_order (values_at key a) (values_at key b)) h)
+rise_next (k ∷ key) (v ∷ vs) c a b n p q h =
+    let f = begins_both a k key v vs p in
+    let g = begins_both b k key v vs q in
+    let turned : data_order v (at k b) ≡ Equal = data_order-turned v (at k b) ∙ ap ordering_reverse (equal_is (data_order (at k b) v) g.0) in
+    let same : data_order (at k a) (at k b) ≡ Equal = data_order-total.congr (at k a) v (at k b) (equal_is (data_order (at k a) v) f.0) ∙ turned in
+    rise_next key vs c a b n f.1 g.1 (sym (ap (λ o. ordering_then o (key_order (values_at key a) (values_at key b))) same) ∙ h)
+
+-- whether the keys begin with one value more
+begins_last : (key : List ℕ) (firsts : List Datum) (c : ℕ) (v : Datum) (row : List Datum) → IsNext (length firsts) key c
+    → is_eq (prefix_order (firsts ++ v ∷ []) (values_at key row)) ≡ (is_eq (prefix_order firsts (values_at key row)) && is_eq (data_order (at c row) v))
+begins_last [] firsts c v row n = absurd (cc)
+begins_last (k ∷ key) [] c v row n = begins_next row v [] k key ∙ sym (and_true (is_eq (data_order (at k row) v))) ∙ ap (λ (j : ℕ). is_eq (data_order (at j row) v)) (some_same k c n)
+begins_last (k ∷ key) (w ∷ ws) c v row n =
+    begins_next row w (ws ++ v ∷ []) k key ∙ ap (λ x. is_eq (data_order (at k row) w) && x) (begins_last key ws c v row n)
+    ∙ sym (and_assoc (is_eq (data_order (at k row) w)) (is_eq (prefix_order ws (values_at key row))) (is_eq (data_order (at c row) v)))
+    ∙ ap (λ x. x && is_eq (data_order (at c row) v)) (sym (begins_next row w ws k key))
 
 filled_at : (d : Datum) → d ≢ Null → is_null d ≡ false
 filled_at Null n = absurd (n refl)
 filled_at (Num n) h = refl
 filled_at (Text t) h = refl
 
+filled_next : (key : List ℕ) (n c : ℕ) (row : List Datum) → IsNext n key c → All (λ d. d ≢ Null) (values_at key row) → is_null (at c row) ≡ false
+filled_next [] n c row e h = absurd (cc)
+filled_next (k ∷ key) zero c row e h = subst (λ j. is_null (at j row) ≡ false) (some_same k c e) (filled_at (at k row) (All-head (λ d. d ≢ Null) (at k row) (values_at key row) h))
+filled_next (k ∷ key) (suc n) c row e h = filled_next key n c row e (All-tail (λ d. d ≢ Null) (at k row) (values_at key row) h)
+
+-- each key begins with no values
+begin_all : (key : List ℕ) (firsts : List Datum) (rows : List (List Datum)) → length firsts ≡ 0 → rows_beginning key firsts rows ≡ rows
+begin_all key [] rows e = filter-whole (λ row. is_eq (prefix_order [] (values_at key row))) rows (λ k d l. refl)
+begin_all key (v ∷ vs) rows e = absurd (omega (arith, e))
+
+module _ (key : List ℕ) (firsts : List Datum) (c : ℕ) (next : IsNext (length firsts) key c) where
+  abbrev Begins : List Datum → Bool
+  Begins row = is_eq (prefix_order firsts (values_at key row))
+
+  abbrev Below : List Datum → List Datum → Type 0
+  Below a b = key_order (values_at key a) (values_at key b) ≡ Less
+
+  rises_from : (row : List Datum) (rows : List (List Datum)) → AllPairs Below (row ∷ rows) → All (λ r. Begins r ≡ true) (row ∷ rows) → Rise (at c row) (map (at c) rows)
+  rises_from row [] up h = tt
+  rises_from row (other ∷ rows) up h =
+      let more = All-tail (λ r. Begins r ≡ true) row (other ∷ rows) h in (
+        rise_next key firsts c row other next (All-head (λ r. Begins r ≡ true) row (other ∷ rows) h) (All-head (λ r. Begins r ≡ true) other rows more) (All-head (Below row) other rows (AllPairs-first Below row (other ∷ rows) up)),
+        rises_from other rows (AllPairs-rest Below row (other ∷ rows) up) more,
+      )
+
+  rises_all : (rows : List (List Datum)) → AllPairs Below rows → All (λ r. Begins r ≡ true) rows → Rises c rows
+  rises_all [] up h = tt
+  rises_all (row ∷ rows) up h = rises_from row rows up h
+
+  rises_beginning : (rows : List (List Datum)) → IsAscending key rows → Rises c (rows_beginning key firsts rows)
+  rises_beginning rows up = rises_all (rows_beginning key firsts rows) (AllPairs-filter Below Begins rows up) (filtered Begins (λ r. Begins r ≡ true) (λ r e. e) rows)
+
+  filled_beginning : (rows : List (List Datum)) → All (λ row. All (λ d. d ≢ Null) (values_at key row)) rows → All (IsFilled c) (rows_beginning key firsts rows)
+  filled_beginning rows h =
+      All-filter Begins (IsFilled c) rows (λ k d l. filled_next key (length firsts) c (get_or rows k d) next (h k d l))
+
+-- ---- over the rows of a table
+
+-- what is told of a query
+pub record IsTold (key : List ℕ) (vars : List Datum) (downward : Bool) (test : Option (List Line)) (items : Items) (b : Beginning) : Type 0 where
+  pub upward : downward ≡ false
+  pub firsts : firsts_of key vars test ≡ Some b.firsts
+  pub next : IsNext (length b.firsts) key b.column
+  pub sets : sets_are_told (is_none test) b.column items ≡ true
+
+abbrev Chosen : Bool → List ℕ → Items → Option (List Datum) → Beginning → Type 0
+Chosen all key items o b = (o ≡ Some b.firsts) × IsNext (length b.firsts) key b.column × (sets_are_told all b.column items ≡ true)
+
+module _ (all : Bool) (key : List ℕ) (items : Items) where
+  chosen_column : (firsts : List Datum) (b : Beginning) (o : Option ℕ) → slice_get key (length firsts) ≡ o → with_column all firsts items o ≡ Some b → Chosen all key items (Some firsts) b
+  chosen_column firsts b None n e = absurd (cc)
+  chosen_column firsts b (Some c) n e =
+      let made : Beginning = record { firsts = firsts; column = c } in
+      let k = if_some (sets_are_told all c items) (Some made) b e in
+      let same : made ≡ b = let f = k.1 in cc in
+      subst (Chosen all key items (Some firsts)) same (refl, n, k.0)
+
+  chosen : (b : Beginning) (o : Option (List Datum)) → with_firsts all key items o ≡ Some b → Chosen all key items o b
+  chosen b None e = absurd (cc)
+  chosen b (Some firsts) e = chosen_column firsts b (slice_get key (length firsts)) refl e
+
+pub is_told_of : (key : List ℕ) (vars : List Datum) (downward : Bool) (test : Option (List Line)) (items : Items) (b : Beginning) → told_beginning key vars downward test items ≡ Some b → IsTold key vars downward test items b
+is_told_of key vars downward test items b e =
+    let k = unless_some downward (with_firsts (is_none test) key items (firsts_of key vars test)) b e in
+    let p = chosen (is_none test) key items b (firsts_of key vars test) k.1 in
+    record { upward = k.0; firsts = p.0; next = p.1; sets = p.2 }
+
+-- a set function that an end tells may be told by one
+of_end : (all : Bool) (c : ℕ) (f : SetFunction) (operand : Option (List Line)) → is_of_ends all f ≡ false → is_told all c f operand ≡ false
+of_end all c function.Count None h = h
+of_end all c function.Count (Some code) h = refl
+of_end all c function.Sum operand h = refl
+of_end all c function.Min operand h = absurd (cc)
+of_end all c function.Max operand h = absurd (cc)
+of_end all c function.Avg operand h = refl
+
+of_first : (x y u v : Bool) → (x ≡ false → u ≡ false) → (y ≡ false → v ≡ false) → (x && y) ≡ false → (u && v) ≡ false
+of_first true y u v f g h = ap (λ w. u && w) (g h) ∙ never u
+  where
+    never : (b : Bool) → (b && false) ≡ false
+    never true = refl
+    never false = refl
+of_first false y u v f g h = ap (λ w. w && v) (f refl)
+
+pub of_ends : (all : Bool) (sets : List Aggregate) → list_all (λ (a : Aggregate). is_of_ends all a.function) sets ≡ false → (c : ℕ) → list_all (λ (a : Aggregate). is_told all c a.function a.operand) sets ≡ false
+of_ends all [] h c = absurd (cc)
+of_ends all (a ∷ sets) h c =
+    of_first (is_of_ends all a.function) (list_all (λ (b : Aggregate). is_of_ends all b.function) sets) (is_told all c a.function a.operand) (list_all (λ (b : Aggregate). is_told all c b.function b.operand) sets)
+    (of_end all c a.function a.operand) (λ e. of_ends all sets e c) h
+
+-- without a test there are no values, so that all rows begin so
+all_of : (key : List ℕ) (vars : List Datum) (test : Option (List Line)) (firsts : List Datum) (rows : List (List Datum)) → firsts_of key vars test ≡ Some firsts → is_none test ≡ true → rows ≡ rows_beginning key firsts rows
+all_of key vars None firsts rows f e = let same : [] ≡ firsts = cc in sym (begin_all key firsts rows (ap length (sym same)))
+all_of key vars (Some lines) firsts rows f e = absurd (cc)
+
 module _ (vars : List Datum) (rows : List (List Datum)) where
   abbrev pub Gathers : Bool → Option (List Line) → Items → Result Gathered SqlState
   Gathers downward test items = mapped (with_rows items (nothing items)) (walked (test_of (over vars) test) (values_for vars items) (in_walk downward rows))
 
-  told_upward : (c : ℕ) (columns : List ℕ) (sets : List Aggregate) → AreTold c sets → All (λ row. All (λ d. d ≢ Null) (values_at (c ∷ columns) row)) rows → IsAscending (c ∷ columns) rows → Gathers false None (Sets sets) ≡ Ok (gathered_told c rows sets)
-  told_upward c columns sets t filled h =
-      let one : All (IsFilled c) rows = λ k d l. filled_at (at c (get_or rows k d)) (All-head (λ d. d ≢ Null) (at c (get_or rows k d)) (values_at columns (get_or rows k d)) (filled k d l)) in
-      ap (mapped (with_rows (Sets sets) (nothing (Sets sets)))) (walked_alone c vars sets rows t)
-      ∙ ap Ok (kept-all sets (map (taken_of c sets) rows) ∙ kept_told c columns sets rows t one h)
-
-  told_both : (c column : ℕ) (columns : List ℕ) (downward : Bool) (sets : List Aggregate) (b : Bool) → list_all (λ (a : Aggregate). is_told c a.function a.operand) sets ≡ b
-      → (if not downward && b then Some c else None) ≡ Some column → All (λ row. All (λ d. d ≢ Null) (values_at (c ∷ columns) row)) rows → IsAscending (c ∷ columns) rows
-      → Gathers downward None (Sets sets) ≡ Ok (gathered_told column rows sets)
-  told_both c column columns true sets b t e filled h = absurd (cc)
-  told_both c column columns false sets false t e filled h = absurd (cc)
-  told_both c column columns false sets true t e filled h = told_upward c columns sets t filled h ∙ ap (λ k. Ok (gathered_told k rows sets)) (some_same c column e)
-
   -- what the length and the ends tell is what a walk over all rows gathers
-  pub gathers_told : (key : List ℕ) (column : ℕ) (downward : Bool) (test : Option (List Line)) (sets : List Aggregate) → told_column key downward test (Sets sets) ≡ Some column
-      → All (λ row. All (λ d. d ≢ Null) (values_at key row)) rows → IsAscending key rows → Gathers downward test (Sets sets) ≡ Ok (gathered_told column rows sets)
-  gathers_told [] column downward test sets e filled h = absurd (cc)
-  gathers_told (c ∷ columns) column downward (Some code) sets e filled h = absurd (cc)
-  gathers_told (c ∷ columns) column downward None sets e filled h = told_both c column columns downward sets (list_all (λ (a : Aggregate). is_told c a.function a.operand) sets) refl e filled h
+  pub gathers_told : (key : List ℕ) (b : Beginning) (downward : Bool) (test : Option (List Line)) (sets : List Aggregate) → IsTold key vars downward test (Sets sets) b
+      → All (λ row. AreColumnsOf row key) rows → All (λ row. All (λ d. d ≢ Null) (values_at key row)) rows → IsAscending key rows → Gathers downward test (Sets sets) ≡ Ok (gathered_told key b rows sets)
+  gathers_told key b downward test sets t exist filled up =
+      let some : List (List Datum) = rows_beginning key b.firsts rows in
+      let all : Bool = is_none test in
+      let same : all ≡ true → rows ≡ some = λ e. all_of key vars test b.firsts rows t.firsts e in
+      ap (λ d. Gathers d test (Sets sets)) t.upward
+      ∙ ap (mapped (with_rows (Sets sets) (nothing (Sets sets)))) (walked_beginning vars key b.firsts test (values_for vars (Sets sets)) rows exist t.firsts ∙ walked_alone b.column vars all sets some t.sets)
+      ∙ ap Ok (kept-all sets (map (taken_of b.column sets) some)
+      ∙ kept_told b.column all rows some same (filled_beginning key b.firsts b.column t.next rows filled) (rises_beginning key b.firsts b.column t.next rows up) sets t.sets)
 
--- the column that tells is the first of the key
-told_first : (c column : ℕ) (columns : List ℕ) (b : Bool) → (if b then Some c else None) ≡ Some column → slice_get (c ∷ columns) 0 ≡ Some column
-told_first c column columns true e = e
-told_first c column columns false e = absurd (cc)
+-- ---- the ends of some rows
 
-pub is_first : (key : List ℕ) (column : ℕ) (downward : Bool) (test : Option (List Line)) (items : Items) → told_column key downward test items ≡ Some column → IsFirst column key
-is_first [] column downward test items e = absurd (cc)
-is_first (c ∷ columns) column downward (Some code) items e = absurd (cc)
-is_first (c ∷ columns) column downward None items e = told_first c column columns (not downward && sets_are_told c items) e
+module _ (rows : List (List Datum)) (row : List Datum) (rest : List (List Datum)) (e : reverse rows ≡ row ∷ rest) where
+  some_rows : length rows ≡ suc (length rest)
+  some_rows = sym (length-reverse rows) ∙ ap length e
 
--- ---- the ends of a table
+  inside : length rows - 1 < length rows
+  inside = omega (arith, some_rows)
 
-none_of : (rows : List (List Datum)) → length rows ≡ 0 → rows ≡ []
-none_of [] e = refl
-none_of (row ∷ rows) e = absurd (omega (arith, e))
+  at_last : get_or rows (length rows - 1) row ≡ row
+  at_last =
+      let positive : 0 < length rows = omega (arith, some_rows) in
+      let none : length rows - 1 ≡ length rows - 1 - 0 = omega arith in
+      ap (λ i. get_or rows i row) none ∙ sym (get_or-reverse rows 0 row positive) ∙ ap (λ l. get_or l 0 row) e
 
-module _ (rows : List (List Datum)) where
-  none_turned : reverse rows ≡ [] → rows ≡ []
-  none_turned e = none_of rows (sym (length-reverse rows) ∙ ap length e)
+  last_turned : last_of rows ≡ Some row
+  last_turned = slice_get-get_or rows (length rows - 1) row inside ∙ ap Some at_last
 
-  module _ (row : List Datum) (rest : List (List Datum)) (e : reverse rows ≡ row ∷ rest) where
-    some_rows : length rows ≡ suc (length rest)
-    some_rows = sym (length-reverse rows) ∙ ap length e
+neither : (o : Ordering) → (not (is_lt o) && not (is_gt o)) ≡ is_eq o
+neither Less = refl
+neither Equal = refl
+neither Greater = refl
 
-    inside : length rows - 1 < length rows
-    inside = omega (arith, some_rows)
+-- the rows between the cuts before and behind some values
+pub between_cuts : (key : List ℕ) (firsts : List Datum) (low high : Cut) (rows : List (List Datum)) → low.values.now ≡ firsts → low.is_behind ≡ false → high.values.now ≡ firsts → high.is_behind ≡ true
+    → rows_between key (Some low) (Some high) rows ≡ rows_beginning key firsts rows
+between_cuts key firsts low high rows a b d e =
+    ap (λ vs. filter (λ row. is_past vs low.is_behind (values_at key row) && not (is_past high.values.now high.is_behind (values_at key row))) rows) a
+    ∙ ap (λ t. filter (λ row. is_past firsts t (values_at key row) && not (is_past high.values.now high.is_behind (values_at key row))) rows) b
+    ∙ ap (λ vs. filter (λ row. is_past firsts false (values_at key row) && not (is_past vs high.is_behind (values_at key row))) rows) d
+    ∙ ap (λ t. filter (λ row. is_past firsts false (values_at key row) && not (is_past firsts t (values_at key row))) rows) e
+    ∙ (λ i. filter (λ row. neither (prefix_order firsts (values_at key row)) i) rows)
 
-    at_last : get_or rows (length rows - 1) row ≡ row
-    at_last =
-        let positive : 0 < length rows = omega (arith, some_rows) in
-        let none : length rows - 1 ≡ length rows - 1 - 0 = omega arith in
-        ap (λ i. get_or rows i row) none ∙ sym (get_or-reverse rows 0 row positive) ∙ ap (λ l. get_or l 0 row) e
+-- without values these are all rows
+pub all_begin : (key : List ℕ) (firsts : List Datum) (rows : List (List Datum)) (b : Bool) → b ≡ nat_eq (length firsts) 0 → b ≡ true → rows ≡ rows_beginning key firsts rows
+all_begin key firsts rows b e f = sym (begin_all key firsts rows (eqb-true (length firsts) 0 (sym e ∙ f)))
 
-    pub last_turned : last_of rows ≡ Some row
-    last_turned = slice_get-get_or rows (length rows - 1) row inside ∙ ap Some at_last
+filter_both : {X : Type 0} (p q : X → Bool) (x : X) (xs : List X) (b d : Bool) → p x ≡ b → q x ≡ d → filter (λ y. p y && q y) xs ≡ filter q (filter p xs)
+    → cond (p x && q x) (x ∷ filter (λ y. p y && q y) xs) (filter (λ y. p y && q y) xs) ≡ filter q (cond (p x) (x ∷ filter p xs) (filter p xs))
+filter_both p q x xs true d e f h = (λ i. cond (e i && q x) (x ∷ h i) (h i)) ∙ (λ i. filter q (cond (sym e i) (x ∷ filter p xs) (filter p xs)))
+filter_both p q x xs false d e f h = (λ i. cond (e i && q x) (x ∷ h i) (h i)) ∙ (λ i. filter q (cond (sym e i) (x ∷ filter p xs) (filter p xs)))
 
-    pub last_of_all : (P : List Datum → Type 0) → All P rows → P row
-    last_of_all P h = subst P at_last (h (length rows - 1) row inside)
+filter_twice : {X : Type 0} (p q : X → Bool) (xs : List X) → filter (λ y. p y && q y) xs ≡ filter q (filter p xs)
+filter_twice p q [] = refl
+filter_twice p q (x ∷ xs) = filter_both p q x xs (p x) (q x) refl refl (filter_twice p q xs)
 
-first_exists : (c : ℕ) (key : List ℕ) (width : ℕ) → IsFirst c key → All (λ i. i < width) key → c < width
-first_exists c [] width f h = absurd (cc)
-first_exists c (k ∷ columns) width f h = subst (λ i. i < width) (some_same k c f) (All-head (λ i. i < width) k columns h)
+-- of rows that begin alike those that have one value more, and the first that has the value of the last row
+module _ (key : List ℕ) (firsts : List Datum) (c : ℕ) (next : IsNext (length firsts) key c) (rows : List (List Datum)) where
+  begin_further : (v : Datum) → rows_beginning key (firsts ++ v ∷ []) rows ≡ filter (λ row. is_eq (data_order (at c row) v)) (rows_beginning key firsts rows)
+  begin_further v =
+      (λ i. filter (λ row. begins_last key firsts c v row next i) rows)
+      ∙ filter_twice (λ row. is_eq (prefix_order firsts (values_at key row))) (λ row. is_eq (data_order (at c row) v)) rows
 
--- the last row of a table has the first column of the key
-pub first_in_last : (t : Contents) (c : ℕ) (row : List Datum) (rest : List (List Datum)) → IsTable t → IsFirst c t.def.key → reverse t.rows ≡ row ∷ rest → c < length row
-first_in_last t c row rest h f e =
-    subst (λ n. c < n) (sym (last_of_all t.rows row rest e (IsRow t.def) h.fit).long) (first_exists c t.def.key (length t.def.columns) f h.defined.exist)
-
--- a table without rows has no greatest
-pub no_last : (c : ℕ) (rows : List (List Datum)) → reverse rows ≡ [] → None ≡ first_like c (last_of rows) rows
-no_last c rows e = ap (λ l. first_like c (last_of l) l) (sym (none_turned rows e))
-
-module _ (c : ℕ) (columns : List ℕ) where
-  neither : (o : Ordering) → (not (is_lt o) && not (is_gt o)) ≡ is_eq o
-  neither Less = refl
-  neither Equal = refl
-  neither Greater = refl
-
-  tie_between : (v : Datum) (row : List Datum) → (not (is_lt (prefix_order (v ∷ []) (values_at (c ∷ columns) row))) && not (is_gt (prefix_order (v ∷ []) (values_at (c ∷ columns) row)))) ≡ is_eq (data_order (at c row) v)
-  tie_between v row = neither (prefix_order (v ∷ []) (values_at (c ∷ columns) row)) ∙ ap is_eq (sym (order_first (at c row) v (values_at columns row)))
-
-  ties_between : (v : Datum) (rows : List (List Datum)) → filter (λ row. not (is_lt (prefix_order (v ∷ []) (values_at (c ∷ columns) row))) && not (is_gt (prefix_order (v ∷ []) (values_at (c ∷ columns) row)))) rows ≡ filter (λ row. is_eq (data_order (at c row) v)) rows
-  ties_between v rows = λ i. filter (λ row. tie_between v row i) rows
-
-  tied : (v : Datum) (low high : Cut) (rows : List (List Datum)) → low.values.now ≡ v ∷ [] → low.is_behind ≡ false → high.values.now ≡ v ∷ [] → high.is_behind ≡ true
-      → rows_between (c ∷ columns) (Some low) (Some high) rows ≡ filter (λ row. is_eq (data_order (at c row) v)) rows
-  tied v low high rows a b d e =
-      ap (λ vs. filter (λ row. is_past vs low.is_behind (values_at (c ∷ columns) row) && not (is_past high.values.now high.is_behind (values_at (c ∷ columns) row))) rows) a
-      ∙ ap (λ t. filter (λ row. is_past (v ∷ []) t (values_at (c ∷ columns) row) && not (is_past high.values.now high.is_behind (values_at (c ∷ columns) row))) rows) b
-      ∙ ap (λ vs. filter (λ row. is_past (v ∷ []) false (values_at (c ∷ columns) row) && not (is_past vs high.is_behind (values_at (c ∷ columns) row))) rows) d
-      ∙ ap (λ t. filter (λ row. is_past (v ∷ []) false (values_at (c ∷ columns) row) && not (is_past (v ∷ []) t (values_at (c ∷ columns) row))) rows) e
-      ∙ ties_between v rows
-
--- the first row between the cuts before and behind the last row's value is the first that has this value
-pub found_greatest : (c : ℕ) (key : List ℕ) (rows : List (List Datum)) (last : List Datum) (rest found : List (List Datum)) (low high : Cut) (v : Datum) → IsFirst c key → reverse rows ≡ last ∷ rest
-    → v ≡ at c last → low.values.now ≡ v ∷ [] → low.is_behind ≡ false → high.values.now ≡ v ∷ [] → high.is_behind ≡ true → found ≡ rows_between key (Some low) (Some high) rows
-    → slice_get found 0 ≡ first_like c (last_of rows) rows
-found_greatest c [] rows last rest found low high v f l e p q r s g = absurd (cc)
-found_greatest c (k ∷ columns) rows last rest found low high v f l e p q r s g =
-    ap (λ rs. slice_get rs 0) (g ∙ ap (λ (i : ℕ). rows_between (i ∷ columns) (Some low) (Some high) rows) (some_same k c f) ∙ tied c columns v low high rows p q r s
-    ∙ ap (λ w. filter (λ row. is_eq (data_order (at c row) w)) rows) e)
-    ∙ ap (λ o. first_like c o rows) (sym (last_turned rows last rest l))
+  pub found_greatest : (last : List Datum) (rest found : List (List Datum)) (values : List Datum) → reverse (rows_beginning key firsts rows) ≡ last ∷ rest → values ≡ firsts ++ at c last ∷ []
+      → found ≡ rows_beginning key values rows → slice_get found 0 ≡ first_like c (last_of (rows_beginning key firsts rows)) (rows_beginning key firsts rows)
+  found_greatest last rest found values l e g =
+      ap (λ rs. slice_get rs 0) (g ∙ ap (λ vs. rows_beginning key vs rows) e ∙ begin_further (at c last))
+      ∙ ap (λ o. first_like c o (rows_beginning key firsts rows)) (sym (last_turned (rows_beginning key firsts rows) last rest l))
 
 -- a walk has its first row next
 pub next_first : (r : Option (Bor (List Datum))) (rows rest : List (List Datum)) → MatchOption r (rows ≡ []) (λ row. rows ≡ row.now ∷ rest) → option_copied r ≡ slice_get rows 0
 next_first None rows rest e = sym (ap (λ l. slice_get l 0) e)
 next_first (Some row) rows rest e = sym (ap (λ l. slice_get l 0) e)
+
+-- the rows of a table have the columns of its key
+column_wide : (width : ℕ) (row : List Datum) (key : List ℕ) → length row ≡ width → All (λ c. c < width) key → AreColumnsOf row key
+column_wide width row key e h = subst (λ n. All (λ c. c < n) key) (sym e) h
+
+pub table_columns : (t : Contents) → IsTable t → All (λ row. AreColumnsOf row t.def.key) t.rows
+table_columns t h k d l = column_wide (length t.def.columns) (get_or t.rows k d) t.def.key (h.fit k d l).long h.defined.exist
 
 -- no value in the key of a table's row is null
 pub table_filled : (t : Contents) → IsTable t → All (λ row. All (λ d. d ≢ Null) (values_at t.def.key row)) t.rows

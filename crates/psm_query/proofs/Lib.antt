@@ -4,3 +4,5 @@ pub mod Finished
 pub mod WalkLaws
 pub mod Means
 pub mod Tallied
+pub mod Beginnings
+pub mod FirstLaws

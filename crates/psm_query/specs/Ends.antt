@@ -1,5 +1,6 @@
--- Queries that the ends of a table and its length answer: COUNT(*), and MIN and MAX of the first column of the key, without a test.
-use Rattle.std.specs.Prelude.{◌≡◌, Bool, true, false, not, ◌&&◌, ℕ, List, [], ◌∷◌, filter, length, map, slice_get, slice_index_or, Option, Some, None, option_map, if◌then◌else◌}
+-- Queries that the ends of a walk and the length of a table answer: COUNT(*) without a test, and MIN and MAX of the column of the key
+-- that comes after those which the test makes equal to values.
+use Rattle.std.specs.Prelude.{◌≡◌, Bool, true, false, ℕ, List, [], ◌∷◌, drop, filter, is_none, length, map, slice_get, slice_index_or, Option, Some, None, option_map, if◌then◌else◌}
 use Rattle.std.specs.List.{list_all}
 use Rattle.std.specs.Option.{option_map_or}
 use Rattle.std.specs.Ordering.{is_eq}
@@ -12,11 +13,52 @@ use Rattle.psm_exprcode.specs.declared.aggregate.SetFunction.TheVariants.{Count,
 use Rattle.psm_exprcode.specs.declared.items.Items.{Items}
 use Rattle.psm_exprcode.specs.declared.items.Items.TheVariants.{Rows, Sets}
 use Rattle.psm_exprcode.specs.declared.op.Line.{Line}
+use Rattle.psm_table.specs.Key.{values_at}
+use Rattle.psm_table.specs.Map.{prefix_order}
 use Rattle.psm_table.specs.Rows.{last_of}
-use Rattle.psm_tablecode.specs.Tests.{is_column}
+use Rattle.psm_tablecode.specs.Asked.{filled}
+use Rattle.psm_tablecode.specs.Tests.{first_three, is_and, is_column, made_equal, with_first}
 use Rattle.psm_query.specs.Gathered.{Gathered}
+use Rattle.psm_query.specs.declared.ends.Beginning.{Beginning}
 use Rattle.psm_query.specs.declared.tally.Tally.{Tally}
 use Rattle.psm_query.specs.declared.tally.Tally.TheVariants as tally_of
+
+-- ---- the values to which a test makes the first columns of a key equal
+
+-- the value, which isn't null, to which an equality at the beginning of lines makes a column equal
+abbrev pub equal_value : ℕ → List Datum → List Line → Option Datum
+equal_value c vars lines = filled (first_three (made_equal c vars) lines)
+
+abbrev pub is_and_first : List Line → Bool
+is_and_first [] = false
+is_and_first (l ∷ lines) = is_and l.op
+
+-- the same of an equality with AND after it
+abbrev pub joined_value : ℕ → List Datum → List Line → Option Datum
+joined_value c vars lines = if is_and_first (drop 3 lines) then equal_value c vars lines else None
+
+-- the values of further columns: the lines are an equality with each of the first of these, in order, and AND after each
+abbrev pub more_firsts : List ℕ → List Datum → List Line → Option (List Datum)
+more_firsts [] vars [] = Some []
+more_firsts [] vars (l ∷ lines) = None
+more_firsts (c ∷ columns) vars [] = Some []
+more_firsts (c ∷ columns) vars (l ∷ lines) = with_first (joined_value c vars (l ∷ lines)) (more_firsts columns vars (drop 4 (l ∷ lines)))
+
+abbrev pub firsts_in : List ℕ → List Datum → List Line → Option (List Datum)
+firsts_in [] vars lines = None
+firsts_in (c ∷ columns) vars lines = with_first (equal_value c vars lines) (more_firsts columns vars (drop 3 lines))
+
+-- The values, none of them null, to which a test makes the first columns of a key equal, if it asks for nothing else. A test asks so
+-- by equalities with the columns in order, joined by AND.
+abbrev pub firsts_of : List ℕ → List Datum → Option (List Line) → Option (List Datum)
+firsts_of columns vars None = Some []
+firsts_of columns vars (Some lines) = firsts_in columns vars lines
+
+-- the rows whose key begins with some values
+abbrev pub rows_beginning : List ℕ → List Datum → List (List Datum) → List (List Datum)
+rows_beginning key firsts rows = filter (λ row. is_eq (prefix_order firsts (values_at key row))) rows
+
+-- ---- set functions
 
 -- whether code is a column alone
 abbrev pub is_column_alone : ℕ → List Line → Bool
@@ -24,28 +66,43 @@ is_column_alone c [] = false
 is_column_alone c (l ∷ []) = is_column c l.op
 is_column_alone c (l ∷ k ∷ lines) = false
 
--- whether the length of a table tells a set function, or one of its ends does: the rows ascend by column c
-abbrev pub is_told : ℕ → SetFunction → Option (List Line) → Bool
-is_told c Count None = true
-is_told c Count (Some code) = false
-is_told c Min operand = option_map_or (is_column_alone c) operand false
-is_told c Max operand = option_map_or (is_column_alone c) operand false
-is_told c Sum operand = false
-is_told c Avg operand = false
+-- whether an end of rows may tell a set function, or, where all rows of a table are these, its length
+abbrev pub is_of_ends : Bool → SetFunction → Bool
+is_of_ends all Count = all
+is_of_ends all Min = true
+is_of_ends all Max = true
+is_of_ends all Sum = false
+is_of_ends all Avg = false
 
-abbrev pub sets_are_told : ℕ → Items → Bool
-sets_are_told c (Rows codes) = false
-sets_are_told c (Sets sets) = list_all (λ a. is_told c a.function a.operand) sets
+-- whether that tells it, where the rows ascend by column c
+abbrev pub is_told : Bool → ℕ → SetFunction → Option (List Line) → Bool
+is_told all c Count None = all
+is_told all c Count (Some code) = false
+is_told all c Min operand = option_map_or (is_column_alone c) operand false
+is_told all c Max operand = option_map_or (is_column_alone c) operand false
+is_told all c Sum operand = false
+is_told all c Avg operand = false
 
--- the column is the first of some
-abbrev pub IsFirst : ℕ → List ℕ → Type 0
-IsFirst c columns = slice_get columns 0 ≡ Some c
+abbrev pub sets_are_told : Bool → ℕ → Items → Bool
+sets_are_told all c (Rows codes) = false
+sets_are_told all c (Sets sets) = list_all (λ a. is_told all c a.function a.operand) sets
 
--- the first column of the key, if the query has no test, goes upward, and asks for such set functions alone
-abbrev pub told_column : List ℕ → Bool → Option (List Line) → Items → Option ℕ
-told_column [] downward test items = None
-told_column (c ∷ columns) downward (Some code) items = None
-told_column (c ∷ columns) downward None items = if not downward && sets_are_told c items then Some c else None
+-- the column comes after the first n of a key
+abbrev pub IsNext : ℕ → List ℕ → ℕ → Type 0
+IsNext n key c = slice_get key n ≡ Some c
+
+-- with the column after those of the values, if there is one and the query asks for such set functions alone
+abbrev pub with_column : Bool → List Datum → Items → Option ℕ → Option Beginning
+with_column all firsts items None = None
+with_column all firsts items (Some c) = if sets_are_told all c items then Some (record { firsts = firsts; column = c }) else None
+
+abbrev pub with_firsts : Bool → List ℕ → Items → Option (List Datum) → Option Beginning
+with_firsts all key items None = None
+with_firsts all key items (Some firsts) = with_column all firsts items (slice_get key (length firsts))
+
+-- what the keys of the rows begin with, and the column after it, if the ends of these rows answer the query
+abbrev pub told_beginning : List ℕ → List Datum → Bool → Option (List Line) → Items → Option Beginning
+told_beginning key vars downward test items = if downward then None else with_firsts (is_none test) key items (firsts_of key vars test)
 
 -- the first row that has the value of a row in a column
 abbrev pub first_like : ℕ → Option (List Datum) → List (List Datum) → Option (List Datum)
@@ -55,14 +112,17 @@ first_like c (Some row) rows = slice_get (filter (λ r. is_eq (data_order (slice
 abbrev pub in_column : ℕ → Option (List Datum) → Option Datum
 in_column c row = option_map (λ (r : List Datum). slice_index_or r c Null) row
 
--- what is known of such a set function after all rows
-abbrev pub told : ℕ → List (List Datum) → SetFunction → Tally
-told c rows Count = tally_of.Count (length rows)
-told c rows Min = tally_of.Min (in_column c (slice_get rows 0))
-told c rows Max = tally_of.Max (in_column c (first_like c (last_of rows) rows))
-told c rows Sum = tally_of.Count 0
-told c rows Avg = tally_of.Count 0
+-- what is known of such a set function after all rows of a table, of which those come that have the beginning
+abbrev pub told : ℕ → List (List Datum) → List (List Datum) → SetFunction → Tally
+told c all rows Count = tally_of.Count (length all)
+told c all rows Min = tally_of.Min (in_column c (slice_get rows 0))
+told c all rows Max = tally_of.Max (in_column c (first_like c (last_of rows) rows))
+told c all rows Sum = tally_of.Count 0
+told c all rows Avg = tally_of.Count 0
+
+abbrev pub told_of : List ℕ → Beginning → List (List Datum) → SetFunction → Tally
+told_of key b rows f = told b.column rows (rows_beginning key b.firsts rows) f
 
 -- what is kept of such set functions after all rows
-abbrev pub gathered_told : ℕ → List (List Datum) → List Aggregate → Gathered
-gathered_told c rows sets = record { rows = []; tallies = map (λ (a : Aggregate). told c rows a.function) sets; skipped = false }
+abbrev pub gathered_told : List ℕ → Beginning → List (List Datum) → List Aggregate → Gathered
+gathered_told key b rows sets = record { rows = []; tallies = map (λ (a : Aggregate). told_of key b rows a.function) sets; skipped = false }

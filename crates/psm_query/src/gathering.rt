@@ -1,5 +1,5 @@
 //! What is kept of a query from row to row.
-ghost use Rattle.std.specs.Prelude.{◌≡◌, ◌<◌, map, All, IfOk, OnOk};
+ghost use Rattle.std.specs.Prelude.{◌≡◌, ◌<◌, length, map, All, IfOk, OnOk};
 ghost use Rattle.std.specs.List.{list_any};
 ghost use Rattle.psm_value.specs.Answer.{Gives};
 ghost use Rattle.psm_table.specs.Evaluator.{collected, mapped, test_of};
@@ -7,14 +7,14 @@ ghost use Rattle.psm_table.specs.Queries.{in_walk, walked};
 ghost use Rattle.psm_table.specs.Table.{most_rows};
 ghost use Rattle.psm_table.specs.Unique.{is_null as is_null_value};
 ghost use Rattle.psm_tablecode.specs.Codes.{over, set_function};
-ghost use Rattle.psm_query.specs.Ends.{gathered_told, IsFirst};
-ghost use Rattle.psm_query.specs.Gathered.{finished, nothing, with_rows, with_taken, AreUpTo};
+ghost use Rattle.psm_query.specs.Ends.{gathered_told, IsNext};
+ghost use Rattle.psm_query.specs.Gathered.{finished, nothing, with_rows, with_taken};
 ghost use Rattle.psm_tablecode.specs.Rows.{values_for};
 ghost use Rattle.psm_tablecode.specs.TypeChecks.{TypeChecksTable};
 ghost use Rattle.psm_query.specs.Tallies.{added, count_of, empty, finish as finish_of};
 
 use crate::answer::Answer;
-use crate::ends::{tallies_told, told_column};
+use crate::ends::{Beginning, tallies_told, told_beginning};
 use crate::tally::{Tally, is_null};
 use psm_exprcode::{Aggregate, Items, Query};
 use psm_table::{Row, Table};
@@ -50,30 +50,28 @@ impl Gathering {
         requires { TypeChecksTable query.now vars.now table.now.contents.def }
         ensures { Gives (mapped (with_rows query.now.items (nothing query.now.items)) (walked (test_of (over vars.now) query.now.test) (values_for vars.now query.now.items) (in_walk query.now.downward table.now.contents.rows))) result }
     {
-        match (&query.items, told_column(query, table.def().key.items())) {
-            (Items::Sets(sets), Some(column)) => Ok(Gathering::told(
-                alloc,
-                table,
-                column,
-                sets.items(),
-            )?),
-            _ => Gathering::of_walk(alloc, table, query, vars),
+        let Items::Sets(sets) = &query.items else {
+            return Gathering::of_walk(alloc, table, query, vars);
+        };
+        match told_beginning(alloc, query, table.def().key.items(), vars)? {
+            Some(beginning) => Ok(Gathering::told(alloc, table, &beginning, sets.items())?),
+            None => Gathering::of_walk(alloc, table, query, vars),
         }
     }
 
-    /// What the length of the table and its ends tell of set functions.
+    /// What the length of the table, or the ends of the rows with a beginning, tell of set functions.
     fn told(
         alloc: Global,
         table: &Table,
-        column: u32,
+        beginning: &Beginning,
         sets: &[Aggregate],
     ) -> Result<Gathering, AllocError>
-        requires { IsFirst column table.now.contents.def.key }
-        ensures { IfOk result (λ g. g ≡ gathered_told column table.now.contents.rows sets.now) }
+        requires { IsNext (length beginning.now.firsts) table.now.contents.def.key beginning.now.column }
+        ensures { IfOk result (λ g. g ≡ gathered_told table.now.contents.def.key beginning.now table.now.contents.rows sets.now) }
     {
         Ok(Gathering {
             rows: Vec::new(alloc),
-            tallies: tallies_told(alloc, table, column, sets)?,
+            tallies: tallies_told(alloc, table, beginning, sets)?,
             skipped: false,
         })
     }

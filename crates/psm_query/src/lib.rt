@@ -4,6 +4,7 @@
 mod answer;
 mod answering;
 mod ends;
+mod firsts;
 mod gathering;
 mod tally;
 mod total;
