@@ -26,6 +26,7 @@ impl Leading {
     }
 
     /// The order of two keys as far as these numbers decide it, and else `Equal`.
+    #[inline(always)]
     pub(crate) fn order(&self, other: &Leading) -> Ordering
         ensures { result ≡ leading_order self.now other.now }
     {

@@ -240,6 +240,7 @@ pub(crate) fn order_of(a: &Datum, b: &Datum) -> Ordering
 }
 
 /// The order of two numbers. Those of one scale are compared by their digits alone.
+#[inline(always)]
 #[tactic(auto, using(crate::proofs::Orders::same_scale))]
 pub(crate) fn order_of_numbers(a: Dec, b: Dec) -> Ordering
     ensures { result ≡ order a b }

@@ -325,6 +325,17 @@ pub(crate) fn turn<V: Drop>(pairs: &[Pair<V>], probe: Probe<'_>, is_behind: bool
     ensures past { drop result pairs.now ≡ filter (λ p. is_past (probe_key probe.entry) is_behind p.key) pairs.now }
     ensures others { take result pairs.now ≡ filter (λ p. not (is_past (probe_key probe.entry) is_behind p.key)) pairs.now }
 {
+    turn_at(pairs, probe.narrowed(), is_behind)
+}
+
+/// The same, by a probe that is compared as it is.
+fn turn_at<V: Drop>(pairs: &[Pair<V>], probe: Probe<'_>, is_behind: bool) -> usize
+    requires fits { FitsProbe probe }
+    requires order { AreAscending pairs.now }
+    ensures inside { result ≤ length pairs.now }
+    ensures past { drop result pairs.now ≡ filter (λ p. is_past (probe_key probe.entry) is_behind p.key) pairs.now }
+    ensures others { take result pairs.now ≡ filter (λ p. not (is_past (probe_key probe.entry) is_behind p.key)) pairs.now }
+{
     let mut low = 0;
     let mut high = pairs.len();
     while low < high {

@@ -120,6 +120,7 @@ impl StoredKey {
     }
 
     /// The order of the key and what is looked for.
+    #[inline(always)]
     pub(crate) fn order(&self, probe: Probe<'_>) -> Ordering
         requires { FitsProbe probe }
         ensures { result ≡ key_order self.now (probe_key probe.entry) }
@@ -171,9 +172,12 @@ pub(crate) fn order_of_prefix(key: &StoredKey, probe: Probe<'_>) -> Ordering
 {
     let sought = probe.narrowed();
     match (&key.parts, sought) {
-        (StoredParts::Numbers(first, _), Probe::Number(number)) => order_of_numbers(
-            *first, *number,
-        ),
+        (StoredParts::One(Datum::Num(a)), Probe::Number(b)) => order_of_numbers(*a, *b),
+        (StoredParts::One(value), Probe::One(sought)) => value.total_cmp(sought),
+        (StoredParts::Numbers(a, _), Probe::Number(b)) => order_of_numbers(*a, *b),
+        (StoredParts::Numbers(a, b), Probe::Numbers(first, second)) => {
+            order_of_pairs(*a, *b, *first, *second)
+        }
         (StoredParts::Many(values), Probe::One(value)) if !values.is_empty() => {
             order_of(&values[0], value)
         }

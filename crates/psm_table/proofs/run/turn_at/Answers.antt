@@ -4,7 +4,7 @@ use Rattle.psm_table.specs.declared.map.Pair.{Pair}
 use Rattle.psm_table.specs.Place.{probe_key}
 use Rattle.psm_table.proofs.Halves.{parted_fail, parted_pass, parted_drop, parted_inside, parted_take}
 use Rattle.psm_table.proofs.Walks.{up-past}
-use Rattle.psm_table.proofs.run.turn.Goals as goal
+use Rattle.psm_table.proofs.run.turn_at.Goals as goal
 
 pub loop-low-preserved-then-is_past : goal.loop-low-preserved-then-is_past
 loop-low-preserved-then-is_past g c =
