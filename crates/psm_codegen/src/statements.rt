@@ -77,53 +77,28 @@ fn form(
         } => over_rows(list, parts, emit_context, enclosing, *level, head.get()),
         ResolvedStatement::If {
             branches: list,
-            otherwise: last,
-        } => conditional(list, parts, emit_context, enclosing, last),
+            otherwise,
+        } => {
+            branches(list, parts, emit_context, enclosing)?;
+            statements(otherwise, parts, emit_context, enclosing)
+        }
         ResolvedStatement::Case {
             operand,
             branches: list,
             otherwise: last,
-        } => cases(list, parts, emit_context, enclosing, operand, last),
+        } => match operand {
+            None => {
+                branches(list, parts, emit_context, enclosing)?;
+                otherwise(last, parts, emit_context, enclosing)
+            }
+            Some(e) => {
+                evaluated(parts, emit_context, e.get(), Letter::N)?;
+                comparisons(list, parts, emit_context, enclosing)?;
+                take(parts, emit_context, Op::Drop)?;
+                otherwise(last, parts, emit_context, enclosing)
+            }
+        },
         ResolvedStatement::Simple(s) => simple(parts, emit_context, enclosing, s.get()),
-    }
-}
-
-#[cycle(stating)]
-fn conditional(
-    list: &List<Boxed<ResolvedBranch>>,
-    parts: &mut FunctionBuilder,
-    emit_context: EmitContext<'_>,
-    enclosing: &[EnclosingBlock],
-    last: &List<Boxed<ResolvedStatement>>,
-) -> Result<(), AllocError>
-    ensures { IfOk result (λ _. DraftedParts (λ σ. WritesForm emit_context.entry.known.now emit_context.entry.context (σ emit_context.entry.resume) (map (patched_block σ) enclosing.now) (layers.If list.now last.now)) parts.old parts.new) }
-{
-    branches(list, parts, emit_context, enclosing)?;
-    statements(last, parts, emit_context, enclosing)
-}
-
-#[cycle(stating)]
-fn cases(
-    list: &List<Boxed<ResolvedBranch>>,
-    parts: &mut FunctionBuilder,
-    emit_context: EmitContext<'_>,
-    enclosing: &[EnclosingBlock],
-    operand: &Option<Boxed<ResolvedExpr>>,
-    last: &List<Boxed<ResolvedStatement>>,
-) -> Result<(), AllocError>
-    ensures { IfOk result (λ _. DraftedParts (λ σ. WritesForm emit_context.entry.known.now emit_context.entry.context (σ emit_context.entry.resume) (map (patched_block σ) enclosing.now) (layers.Case operand.now list.now last.now)) parts.old parts.new) }
-{
-    match operand {
-        None => {
-            branches(list, parts, emit_context, enclosing)?;
-            otherwise(last, parts, emit_context, enclosing)
-        }
-        Some(e) => {
-            evaluated(parts, emit_context, e.get(), Letter::N)?;
-            comparisons(list, parts, emit_context, enclosing)?;
-            take(parts, emit_context, Op::Drop)?;
-            otherwise(last, parts, emit_context, enclosing)
-        }
     }
 }
 
