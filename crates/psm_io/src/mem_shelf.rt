@@ -64,7 +64,7 @@ impl Shelf for MemShelf {
             (times name.now self.old.failed) (times name.now self.new.failed) result }
         ensures never_falls { times name.now self.old.failed ≤ times name.now self.new.failed }
         ensures others { (n : List ℕ) → n ≢ name.now → times n self.new.failed ≡ times n self.old.failed }
-        ensures told { (n : List ℕ) → first_named n self.new.files ≡ first_named n self.old.files }
+        ensures contents { (n : List ℕ) → first_named n self.new.files ≡ first_named n self.old.files }
 
         ensures due { (given result ≡ due self.old name.now most) ⊎ (result ≡ Err ShelfFault.Memory) }
         ensures files { self.new.files ≡ self.old.files }
