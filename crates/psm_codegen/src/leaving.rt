@@ -8,7 +8,7 @@ use psm_exprcode::Op;
 use psm_exprgen::Writer;
 use std::alloc::AllocError;
 
-/// Leaves the statement of a level, and the blocks in between. What is around is told innermost first.
+/// Leaves the statement of a level, and the blocks in between. The enclosing blocks are given with the innermost one first.
 pub(crate) fn leaves(
     out: &mut Writer,
     context: u32,

@@ -1,4 +1,4 @@
-//! The lines of a statement (ISO/IEC 9075-4:1996). What is around is told innermost first.
+//! The lines of a statement (ISO/IEC 9075-4:1996). The enclosing blocks are given with the innermost one first.
 ghost use Rattle.std.specs.Prelude.{◌≡◌, ◌∷◌, map, None, Some, IfOk};
 ghost use Rattle.psm_resolved.specs.declared.statement.ResolvedStatement.TheOpen as layers;
 ghost use Rattle.psm_codegen.specs.FunctionBuilder.{FunctionBuilder as Whole, at};

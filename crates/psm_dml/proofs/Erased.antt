@@ -3,7 +3,7 @@ use Rattle.std.proofs.Common.{◌≡◌, ℕ, List, [], Bool, true, false, refl,
 use Rattle.std.specs.Prelude.{codes, slice_get}
 use Rattle.psm_cond.specs.Condition.{Entries}
 use Rattle.psm_cond.specs.declared.fault.DataFault.{DataFault}
-use Rattle.psm_cond.specs.declared.fault.DataFault.TheVariants as told_as
+use Rattle.psm_cond.specs.declared.fault.DataFault.TheVariants as reported_as
 use Rattle.psm_exprcode.specs.declared.op.Line.{Line}
 use Rattle.psm_sqlstate.specs.declared.state.SqlState.{SqlState}
 use Rattle.psm_value.specs.declared.datum.Datum.{Datum}
@@ -22,7 +22,7 @@ use Rattle.psm_dml.specs.Ends.{keyed_schema, schema_of, Bears, ErasesByRules, Is
 use Rattle.psm_row_changes.proofs.Effects.{changed_is}
 
 -- a condition that is due of the table
-pub borne_of : {A : Type 0} (c : Contents) (due : Result A Failure) (condition : Entries) (state : List ℕ) → due ≡ Err (OfTable state) → Bears state c.def (told_as.Raised condition) → IsDue c.def due condition
+pub borne_of : {A : Type 0} (c : Contents) (due : Result A Failure) (condition : Entries) (state : List ℕ) → due ≡ Err (OfTable state) → Bears state c.def (reported_as.Raised condition) → IsDue c.def due condition
 borne_of c due condition state e h = subst (λ d. IsDue c.def d condition) (sym e) h
 
 module _ (constraints : List ForeignKey) (old : List Contents) (t : ℕ) (c : Contents) (table : IsTable c) (checks : List (List Line)) (legal : IsLegal (over []) (schema_of c.def checks) c.rows) where
@@ -78,6 +78,6 @@ module _ (constraints : List ForeignKey) (key : List Datum) (old new : List Cont
   erased_done e f row own checks legal = ((without_row key c).rows, erase_at_ends constraints old t c table checks legal key row own true (sym e), f ∙ changed_is (without_row key) old t c here)
 
   pub erased_fails : (what : DataFault) → false ≡ are_keyed_with constraints (rows_in old) t (without_row key c).rows → Bears (codes "23000") c.def what → new ≡ old → ends_as (Err what)
-  erased_fails (told_as.Raised condition) e h f row own checks legal =
+  erased_fails (reported_as.Raised condition) e h f row own checks legal =
       (borne_of c (deleted_at (over []) (keyed_schema constraints old t c.def checks) row c.rows) condition (codes "23000") (erase_at_ends constraints old t c table checks legal key row own false (sym e)) h, f)
-  erased_fails told_as.Memory e h f row own checks legal = f
+  erased_fails reported_as.Memory e h f row own checks legal = f

@@ -61,7 +61,7 @@ Ends c due old t new (Ok n) = (rows : List (List Datum)) × (due ≡ Ok (record 
 Ends c due old t new (Err (fault.Raised condition)) = IsDue c.def due condition × (new ≡ old)
 Ends c due old t new (Err fault.Memory) = new ≡ old
 
--- the same of a positioned statement, which tells whether the row has another key now
+-- the same of a positioned statement, which answers whether the row has another key now
 abbrev pub EndsAt : Contents → Result Moved Failure → List Contents → ℕ → List Contents → Result Bool DataFault → Type 0
 EndsAt c due old t new (Ok b) = (rows : List (List Datum)) × (due ≡ Ok (record { rows = rows; moved = b })) × (new ≡ slice_set old t (record c { rows = rows }))
 EndsAt c due old t new (Err (fault.Raised condition)) = IsDue c.def due condition × (new ≡ old)

@@ -64,7 +64,7 @@ Refuses due (Condition state) = due ≡ Raised state
 Refuses due Memory = Unit {0}
 
 -- The call goes on as is due and leaves the operands that are due, or it refuses. Then it leaves the old operands
--- below the so many that are taken.
+-- below the n that are taken.
 abbrev pub Applies : ℕ → List Operand → Applied → Result Next ValueFault → List Operand → Type 0
 Applies n old due (Ok next) new = due ≡ Went next new
 Applies n old due (Err fault) new = Refuses due fault × (new ≡ drop n old)

@@ -26,7 +26,7 @@ use psm_store::Store;
 use psm_unwind::{Outcome, Run, routine_at};
 use std::alloc::{AllocError, Global};
 
-/// Does the instructions that come next up to the first that isn't a common one, and that one too; tells how the run has ended, if it
+/// Does the instructions that come next up to the first that isn't a common one, and that one too; answers how the run has ended, if it
 /// has, with the turns that there were before its last instruction.
 ///
 /// Most lines are common ones, which touch neither a table nor a block. The run goes from one to the other without a look at what it

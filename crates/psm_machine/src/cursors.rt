@@ -118,7 +118,7 @@ pub fn fetch<S: Store>(
     }
 }
 
-/// The same of FOR, where no row is no condition. It tells whether there is one; without one the run is to go on at the line that
+/// The same of FOR, where no row is no condition. It answers whether there is one; without one the run is to go on at the line that
 /// the instruction names.
 pub fn next<S: Store>(
     alloc: Global,

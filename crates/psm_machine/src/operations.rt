@@ -10,7 +10,7 @@ use psm_exprcode::{Next, Op};
 use psm_unwind::Run;
 use std::alloc::Global;
 
-/// Carries out an operation over the operands, which sees the variables and no column, and tells where the run goes on.
+/// Carries out an operation over the operands, which sees the variables and no column, and answers where the run goes on.
 ///
 /// The operands that it takes have to be there, and so has the variable that it names; its type or scale is within bounds. Where it
 /// raises a condition, those that it takes are gone.

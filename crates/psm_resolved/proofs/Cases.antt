@@ -32,7 +32,7 @@ use Rattle.psm_resolved.specs.RowValue.{listed, row_value}
 use Rattle.psm_resolved.specs.RowType.{RowType, goes_as, letter_at, is_scale, row_type_of}
 use Rattle.psm_resolved.specs.Written.{Written, with_line, patched, Jumps, Adds, puts_value, puts_first, with_scale, Writes, WritesSource, WritesFirst, WritesOthers}
 use Rattle.psm_resolved.proofs.Equations.{value-Coalesce, row_type-Coalesce}
-use Rattle.psm_resolved.proofs.Forms.{Meaning, puts, told, relabel, one_adds, written_ok}
+use Rattle.psm_resolved.proofs.Forms.{Meaning, puts, where_true_inverted, relabel, one_adds, written_ok}
 use Rattle.psm_resolved.proofs.Jumps.{set_move, open_branch, open_value}
 use Rattle.psm_resolved.proofs.Operations.{value_fall_through, one_fall_through, adds_same}
 use Rattle.psm_resolved.proofs.Pending.{pends_none, pends_more, pends_closed, replaced_here}
@@ -184,7 +184,7 @@ coalesce_first : (columns variables : List Letter) (e : ResolvedExpr) (values : 
     → k ≡ letter_at scale → WritesFirst columns variables k values w0 w1 → IfOk r (λ _. w2 ≡ with_scale scale w1) → IfOk r (λ _. Writes columns variables e w0 w2)
 coalesce_first columns variables e values scale l w0 w1 w2 r q m x y = written_ok columns variables e w0 w2 (with_scale scale w1) r y (λ k h.
     let tests : Bool = list_all (goes_as (letter_at scale)) (map (row_type_of columns variables) (listed values)) in
-    let s = told (row_type_of columns variables e) (tests && is_scale scale) (letter_at scale) k (ap (row_type_of columns variables) q ∙ row_type-Coalesce columns variables values scale) h in
+    let s = where_true_inverted (row_type_of columns variables e) (tests && is_scale scale) (letter_at scale) k (ap (row_type_of columns variables) q ∙ row_type-Coalesce columns variables values scale) h in
     relabel (is_of_kind columns variables) (letter_at scale) k (puts_value e) w0 (with_scale scale w1) s.1
     (scale_adds columns variables scale (λ row vars. first_set (row_value row vars values.first) (map (row_value row vars) values.rest)) (λ row vars. row_value row vars e) w0 w1 (and_second tests (is_scale scale) s.0)
     (λ row vars. ap (row_value row vars) q ∙ value-Coalesce row vars values scale)

@@ -31,7 +31,7 @@ use Rattle.psm_resolved.specs.RowType.{RowType, is_of, goes_as, may_be, are_test
 use Rattle.psm_resolved.specs.Choices.{compared, test_move, fits_test, WritesTest, Branch, chosen_move, branched, WritesWhens, puts_else, WritesElse}
 use Rattle.psm_resolved.specs.Written.{Written, with_op, with_scale, with_copy, with_comparison, last_letter, patched, Jumps, Leaves, Adds, puts_value, Writes, WritesSource}
 use Rattle.psm_resolved.proofs.Equations.{value-Case, row_type-Case, value_of_when, row_type_of_when}
-use Rattle.psm_resolved.proofs.Forms.{Meaning, puts, told, value_found, relabel, written_ok, comparison_fall_through, comparison_rule}
+use Rattle.psm_resolved.proofs.Forms.{Meaning, puts, where_true_inverted, value_found, relabel, written_ok, comparison_fall_through, comparison_rule}
 use Rattle.psm_resolved.proofs.Lines.{fall_through, Rule, line_block}
 use Rattle.psm_resolved.proofs.Operations.{move_two, adds_same, adds_more, adds_op, adds_leaf}
 use Rattle.psm_resolved.proofs.Pending.{pends_more, pends_closed}
@@ -222,7 +222,7 @@ searched_written columns variables e whens otherwise scale l jumps places w0 w1 
     let row_types : List (RowType × RowType) = map (when_row_type columns variables) (listed whens) in
     let tests : Bool = are_tests None row_types in
     let results : Bool = are_results L row_types (option_map (row_type_of columns variables) otherwise) in
-    let s = told (row_type_of columns variables e) (tests && (results && is_scale scale)) L k (ap (row_type_of columns variables) q ∙ row_type-Case columns variables None whens otherwise scale) h in
+    let s = where_true_inverted (row_type_of columns variables e) (tests && (results && is_scale scale)) L k (ap (row_type_of columns variables) q ∙ row_type-Case columns variables None whens otherwise scale) h in
     let more : (results && is_scale scale) ≡ true = and_second tests (results && is_scale scale) s.0 in
     let u : Meaning = λ row vars. chosen (map (when_value row vars) (listed whens)) (else_value otherwise row vars) in
     let whole : Adds M (L ∷ []) (puts u) w0 w3 =
@@ -268,7 +268,7 @@ compared_written columns variables e a whens otherwise scale l jumps places w0 w
     let row_types : List (RowType × RowType) = map (when_row_type columns variables) (listed whens) in
     let test : Letter → Bool = λ j. is_of j (row_type_of columns variables a) && list_all (λ w. is_of j w.0) row_types in
     let results : Bool = are_results L row_types (option_map (row_type_of columns variables) otherwise) in
-    let s = told (row_type_of columns variables e) (some_value test && (results && is_scale scale)) L k (ap (row_type_of columns variables) q ∙ row_type-Case columns variables (Some a) whens otherwise scale) h in
+    let s = where_true_inverted (row_type_of columns variables e) (some_value test && (results && is_scale scale)) L k (ap (row_type_of columns variables) q ∙ row_type-Case columns variables (Some a) whens otherwise scale) h in
     let more : (results && is_scale scale) ≡ true = and_second (some_value test) (results && is_scale scale) s.0 in
     let f = value_found test (and_first (some_value test) (results && is_scale scale) s.0) in
     let first : Adds M (f.0 ∷ []) (puts_value a) w0 w1 = g f.0 (and_first (is_of f.0 (row_type_of columns variables a)) (list_all (λ w. is_of f.0 w.0) row_types) f.2) in

@@ -19,7 +19,7 @@ use Rattle.psm_scope.specs.Pass.{added, joined, order, order_in}
 use Rattle.psm_scope.proofs.Lists.{both}
 use Rattle.psm_scope.proofs.Narrowing.{Each, narrowed_more, narrowed_none}
 
--- ---- kinds are told apart by their numbers
+-- ---- kinds are distinguished by their numbers
 
 abbrev kind_at : ℕ → ArgKind
 kind_at zero = SmallInt

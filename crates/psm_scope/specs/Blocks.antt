@@ -43,7 +43,7 @@ pub record IsBlock (cs : List Candidate) (b : Block) : Type 0 where
   pub all : b.all ≡ set_of (λ c. true) cs
   pub sets : (place : ℕ) (d : PlaceSets) → place < length b.places.items → HasSets place cs (slice_index_or b.places.items place d)
 
--- blocks with so many places each, and their functions in order
+-- blocks of `count` parameters a function, and their functions in order
 abbrev pub AreBlocks : ℕ → List Candidate → List Block → Type 0
 AreBlocks count cs [] = cs ≡ []
 AreBlocks count cs (b ∷ bs) = (first : List Candidate) × (rest : List Candidate) × (first ++ rest ≡ cs) × (length b.places.items ≡ count) × IsBlock first b × AreBlocks count rest bs
@@ -53,7 +53,7 @@ abbrev pub IsGroup : ℕ → List Candidate → Option Group → Type 0
 IsGroup count cs None = cs ≡ []
 IsGroup count cs (Some g) = AreBlocks count cs g.blocks.items
 
--- each function has so many parameters
+-- each function has `count` parameters
 abbrev pub HaveCount : ℕ → List Candidate → Type 0
 HaveCount count [] = Unit {0}
 HaveCount count (c ∷ cs) = (length c.1 ≡ count) × HaveCount count cs

@@ -134,7 +134,7 @@ pub(crate) struct Block {
 }
 
 impl Block {
-    // No functions, which have so many parameters.
+    // No functions, of `count` parameters each.
     fn new(alloc: Global, count: usize) -> Result<Block, AllocError>
         ensures block { IfOk result (λ block. IsBlock [] block) }
         ensures places { IfOk result (λ block. length block.places.items ≡ count) }

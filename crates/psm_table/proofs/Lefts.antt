@@ -127,7 +127,7 @@ module _ (columns : List ℕ) (t : List Datum → Bool) (same : (a b : List Datu
   kept_pairs p xs true = refl
   kept_pairs p xs false = refl
 
-  -- a test that tells equal keys not apart keeps the rows of the pairs that it keeps
+  -- a test that doesn't distinguish equal keys keeps the rows of the pairs that it keeps
   pub rows-kept : (pairs : List Slot) → All (HasItsKey columns) pairs → filter (λ row. t (values_at columns row)) (live_rows pairs) ≡ live_rows (filter (λ p. t p.key) pairs)
   rows-kept [] h = refl
   rows-kept (p ∷ ps) h =

@@ -146,12 +146,12 @@ up_to_turned false Equal h = cc
 up_to_turned false Greater h = refl
 
 -- what the words for a comparison say of it
-record Tells (o : Op) : Type 0 where
+record IsJudged (o : Op) : Type 0 where
   pub from : (is_in : Bool) → from_test o ≡ Some is_in → Judges (from_order is_in) o
   pub up_to : (is_in : Bool) → up_to_test o ≡ Some is_in → Judges (up_to_order is_in) o
 
-untold : (o : Op) → from_test o ≡ None → up_to_test o ≡ None → Tells o
-untold o f u = record {
+unjudged : (o : Op) → from_test o ≡ None → up_to_test o ≡ None → IsJudged o
+unjudged o f u = record {
   from = λ is_in h. absurd (cc);
   up_to = λ is_in h. absurd (cc);
 }
@@ -172,46 +172,46 @@ up_to_at_most : (is_in : Bool) → up_to_test op.LessOrEqual ≡ Some is_in → 
 up_to_at_most true h = judges_at_most
 up_to_at_most false h = absurd (cc)
 
-tells : (o : Op) → Tells o
-tells (op.Constant k d) = untold (op.Constant k d) refl refl
-tells (op.Variable i) = untold (op.Variable i) refl refl
-tells (op.Column i) = untold (op.Column i) refl refl
-tells op.Duplicate = untold op.Duplicate refl refl
-tells op.Drop = untold op.Drop refl refl
-tells op.DropBelow = untold op.DropBelow refl refl
-tells op.Negate = untold op.Negate refl refl
-tells op.Add = untold op.Add refl refl
-tells op.Subtract = untold op.Subtract refl refl
-tells op.Multiply = untold op.Multiply refl refl
-tells op.Divide = untold op.Divide refl refl
-tells (op.Rescale s) = untold (op.Rescale s) refl refl
-tells op.Concatenate = untold op.Concatenate refl refl
-tells op.CharacterLength = untold op.CharacterLength refl refl
-tells op.Position = untold op.Position refl refl
-tells op.SubstringFrom = untold op.SubstringFrom refl refl
-tells op.SubstringFromFor = untold op.SubstringFromFor refl refl
-tells (op.Trim side) = untold (op.Trim side) refl refl
-tells op.Upper = untold op.Upper refl refl
-tells op.Lower = untold op.Lower refl refl
-tells op.Equal = untold op.Equal refl refl
-tells op.NotEqual = untold op.NotEqual refl refl
-tells op.Less = record { from = λ is_in h. absurd (cc); up_to = up_to_less }
-tells op.LessOrEqual = record { from = λ is_in h. absurd (cc); up_to = up_to_at_most }
-tells op.Greater = record { from = from_greater; up_to = λ is_in h. absurd (cc) }
-tells op.GreaterOrEqual = record { from = from_at_least; up_to = λ is_in h. absurd (cc) }
-tells op.And = untold op.And refl refl
-tells op.Or = untold op.Or refl refl
-tells op.Not = untold op.Not refl refl
-tells op.IsNull = untold op.IsNull refl refl
-tells op.Like = untold op.Like refl refl
-tells op.LikeEscape = untold op.LikeEscape refl refl
-tells op.Between = untold op.Between refl refl
-tells (op.In n) = untold (op.In n) refl refl
-tells op.NullIf = untold op.NullIf refl refl
-tells (op.Cast to) = untold (op.Cast to) refl refl
-tells (op.Jump p) = untold (op.Jump p) refl refl
-tells (op.JumpUnlessTrue p) = untold (op.JumpUnlessTrue p) refl refl
-tells (op.JumpUnlessNull p) = untold (op.JumpUnlessNull p) refl refl
+judged : (o : Op) → IsJudged o
+judged (op.Constant k d) = unjudged (op.Constant k d) refl refl
+judged (op.Variable i) = unjudged (op.Variable i) refl refl
+judged (op.Column i) = unjudged (op.Column i) refl refl
+judged op.Duplicate = unjudged op.Duplicate refl refl
+judged op.Drop = unjudged op.Drop refl refl
+judged op.DropBelow = unjudged op.DropBelow refl refl
+judged op.Negate = unjudged op.Negate refl refl
+judged op.Add = unjudged op.Add refl refl
+judged op.Subtract = unjudged op.Subtract refl refl
+judged op.Multiply = unjudged op.Multiply refl refl
+judged op.Divide = unjudged op.Divide refl refl
+judged (op.Rescale s) = unjudged (op.Rescale s) refl refl
+judged op.Concatenate = unjudged op.Concatenate refl refl
+judged op.CharacterLength = unjudged op.CharacterLength refl refl
+judged op.Position = unjudged op.Position refl refl
+judged op.SubstringFrom = unjudged op.SubstringFrom refl refl
+judged op.SubstringFromFor = unjudged op.SubstringFromFor refl refl
+judged (op.Trim side) = unjudged (op.Trim side) refl refl
+judged op.Upper = unjudged op.Upper refl refl
+judged op.Lower = unjudged op.Lower refl refl
+judged op.Equal = unjudged op.Equal refl refl
+judged op.NotEqual = unjudged op.NotEqual refl refl
+judged op.Less = record { from = λ is_in h. absurd (cc); up_to = up_to_less }
+judged op.LessOrEqual = record { from = λ is_in h. absurd (cc); up_to = up_to_at_most }
+judged op.Greater = record { from = from_greater; up_to = λ is_in h. absurd (cc) }
+judged op.GreaterOrEqual = record { from = from_at_least; up_to = λ is_in h. absurd (cc) }
+judged op.And = unjudged op.And refl refl
+judged op.Or = unjudged op.Or refl refl
+judged op.Not = unjudged op.Not refl refl
+judged op.IsNull = unjudged op.IsNull refl refl
+judged op.Like = unjudged op.Like refl refl
+judged op.LikeEscape = unjudged op.LikeEscape refl refl
+judged op.Between = unjudged op.Between refl refl
+judged (op.In n) = unjudged (op.In n) refl refl
+judged op.NullIf = unjudged op.NullIf refl refl
+judged (op.Cast to) = unjudged (op.Cast to) refl refl
+judged (op.Jump p) = unjudged (op.Jump p) refl refl
+judged (op.JumpUnlessTrue p) = unjudged (op.JumpUnlessTrue p) refl refl
+judged (op.JumpUnlessNull p) = unjudged (op.JumpUnlessNull p) refl refl
 
 -- an end has both parts
 ends : (i : Option Bool) (v : Option Datum) (d : End) → end_of i v ≡ Some d → (i ≡ Some d.is_in) × (v ≡ Some d.value)
@@ -251,22 +251,22 @@ module _ (row vars : List Datum) (c : ℕ) (a b e : Op) (os first second third :
       ap (λ y. f (data_order d y)) x.1 ∙ judged_at f j d x.0 (x.2 ∙ ap (λ l. Value x.0 ∷ l) (value_of d a os first v puts_a))
 
   low_left : (d : End) → is_column c a ≡ true → end_of (from_test e) (fixed vars b) ≡ Some d → is_from (Some d) here ≡ true
-  low_left d i h = let p = ends (from_test e) (fixed vars b) d h in on_left (from_order d.is_in) ((tells e).from d.is_in p.0) d.value i p.1
+  low_left d i h = let p = ends (from_test e) (fixed vars b) d h in on_left (from_order d.is_in) ((judged e).from d.is_in p.0) d.value i p.1
 
   low_right : (d : End) → is_column c b ≡ true → end_of (up_to_test e) (fixed vars a) ≡ Some d → is_from (Some d) here ≡ true
   low_right d i h =
       let p = ends (up_to_test e) (fixed vars a) d h in
       ap (from_order d.is_in) (data_order-turned here d.value)
-      ∙ from_turned d.is_in (data_order d.value here) (on_right (up_to_order d.is_in) ((tells e).up_to d.is_in p.0) d.value i p.1)
+      ∙ from_turned d.is_in (data_order d.value here) (on_right (up_to_order d.is_in) ((judged e).up_to d.is_in p.0) d.value i p.1)
 
   high_left : (d : End) → is_column c a ≡ true → end_of (up_to_test e) (fixed vars b) ≡ Some d → is_up_to (Some d) here ≡ true
-  high_left d i h = let p = ends (up_to_test e) (fixed vars b) d h in on_left (up_to_order d.is_in) ((tells e).up_to d.is_in p.0) d.value i p.1
+  high_left d i h = let p = ends (up_to_test e) (fixed vars b) d h in on_left (up_to_order d.is_in) ((judged e).up_to d.is_in p.0) d.value i p.1
 
   high_right : (d : End) → is_column c b ≡ true → end_of (from_test e) (fixed vars a) ≡ Some d → is_up_to (Some d) here ≡ true
   high_right d i h =
       let p = ends (from_test e) (fixed vars a) d h in
       ap (up_to_order d.is_in) (data_order-turned here d.value)
-      ∙ up_to_turned d.is_in (data_order d.value here) (on_right (from_order d.is_in) ((tells e).from d.is_in p.0) d.value i p.1)
+      ∙ up_to_turned d.is_in (data_order d.value here) (on_right (from_order d.is_in) ((judged e).from d.is_in p.0) d.value i p.1)
 
   low_by : (d : End) (i j : Bool) → is_column c a ≡ i → is_column c b ≡ j → (if i then end_of (from_test e) (fixed vars b) else if j then end_of (up_to_test e) (fixed vars a) else None) ≡ Some d
       → is_from (Some d) here ≡ true

@@ -66,7 +66,7 @@ module _ (lines : List Line) (at : ℕ) where
       let p : at ≡ at - 1 + 1 = omega (arith, h) in
       g ∙ ap (free_before o) (f ∙ ap (λ m. free (drop m lines)) p) ∙ sym (free_some lines (at - 1) o e)
 
--- ---- some operations, where there are so many
+-- ---- one, two or three operations, where there are that many
 
 abbrev pub of_three_ops : {X : Type 0} → (Op → Op → Op → Option X) → Option Op → Option Op → Option Op → Option X
 of_three_ops make None b e = None
@@ -144,7 +144,7 @@ module _ {X : Type 0} (width : ℕ) (make : List Line → Option X) (wide : 1 �
       ∙ ap (λ n. option_or (if nat_eq (free (drop (suc p + width) (l ∷ ls))) 0 then make (drop p ls) else None) (made width make (drop n (l ∷ ls)))) f
 
   module _ (lines : List Line) where
-    -- what the lines make that begin where a place is the end of so many lines, or later
+    -- what n lines make that end at an index or later
     abbrev pub made_from : ℕ → Option X
     made_from at = made width make (drop (at + 1 - width) lines)
 

@@ -20,8 +20,8 @@ Answers due (Err (Raised condition)) = IsRaised due condition
 Answers due (Err Memory) = Unit {0}
 
 -- the fault of a statement is that of its evaluation, unless memory runs out
-abbrev pub Tells : ValueFault → DataFault → Type 0
-Tells (value_fault.Condition state) (Raised condition) = condition ≡ alone (entry_of state)
-Tells (value_fault.Condition state) Memory = Unit {0}
-Tells value_fault.Memory (Raised condition) = ⊥
-Tells value_fault.Memory Memory = Unit {0}
+abbrev pub Reports : ValueFault → DataFault → Type 0
+Reports (value_fault.Condition state) (Raised condition) = condition ≡ alone (entry_of state)
+Reports (value_fault.Condition state) Memory = Unit {0}
+Reports value_fault.Memory (Raised condition) = ⊥
+Reports value_fault.Memory Memory = Unit {0}

@@ -114,7 +114,7 @@ fn quiet_test(op: &Op) -> Option<Op>
     }
 }
 
-// The last so many are taken off.
+// The last `count` are taken off.
 #[tactic(auto, using(crate::proofs::FoldSteps::cut_back))]
 fn cut(done: &mut Vec<Op>, count: usize)
     requires { count ≤ length done.old.items }
@@ -169,7 +169,7 @@ fn value_on(
     }
 }
 
-// The values that the last so many operations put, as operands.
+// The values that the last `count` operations put, as operands.
 #[tactic(auto, using(crate::proofs::FoldSteps::values_zero, crate::proofs::FoldSteps::values_none))]
 fn last_values(
     alloc: Global,

@@ -116,14 +116,14 @@ trimmed_is Both t r f = end_is f.0 r f.2 ∙ ap before_blanks (front_is t f.0 f.
 
 -- ---- LIKE
 
-abbrev pub Tells : List Item → Type 0
-Tells p = (t : List ℕ) → IsTrue (is_like p t) ↔ Matches p t
+abbrev pub IsExact : List Item → Type 0
+IsExact p = (t : List ℕ) → IsTrue (is_like p t) ↔ Matches p t
 
 drop_none : (p : List Item) (k : ℕ) → Matches p (drop k []) → Matches p []
 drop_none p zero m = m
 drop_none p (suc k) m = m
 
-some_more : (p : List Item) → Tells p → (c : ℕ) (t : List ℕ) → (IsTrue (some_end (is_like p) t) ↔ Matches (Any ∷ p) t)
+some_more : (p : List Item) → IsExact p → (c : ℕ) (t : List ℕ) → (IsTrue (some_end (is_like p) t) ↔ Matches (Any ∷ p) t)
     → IsTrue (some_end (is_like p) (c ∷ t)) ↔ Matches (Any ∷ p) (c ∷ t)
 some_more p ih c t rec = (forth, back)
   where
@@ -137,24 +137,24 @@ some_more p ih c t rec = (forth, back)
     back (zero, m) = or_left (is_like p (c ∷ t)) (some_end (is_like p) t) ((ih (c ∷ t)).1 m)
     back (suc k, m) = or_right (is_like p (c ∷ t)) (some_end (is_like p) t) (rec.1 (k, m))
 
-some_tells : (p : List Item) → Tells p → (t : List ℕ) → IsTrue (some_end (is_like p) t) ↔ Matches (Any ∷ p) t
-some_tells p ih [] = ((λ h. (0, (ih []).0 h)), (λ m. (ih []).1 (drop_none p m.0 m.1)))
-some_tells p ih (c ∷ t) = some_more p ih c t (some_tells p ih t)
+some_exact : (p : List Item) → IsExact p → (t : List ℕ) → IsTrue (some_end (is_like p) t) ↔ Matches (Any ∷ p) t
+some_exact p ih [] = ((λ h. (0, (ih []).0 h)), (λ m. (ih []).1 (drop_none p m.0 m.1)))
+some_exact p ih (c ∷ t) = some_more p ih c t (some_exact p ih t)
 
-tells : (p : List Item) → Tells p
-tells [] [] = ((λ h. tt), (λ m. refl))
-tells [] (c ∷ t) = ((λ h. true≢false (sym h)), (λ m. absurd m))
-tells (Any ∷ p) t = some_tells p (tells p) t
-tells (One ∷ p) [] = ((λ h. true≢false (sym h)), (λ m. absurd m))
-tells (One ∷ p) (c ∷ t) = tells p t
-tells (Literal d ∷ p) [] = ((λ h. true≢false (sym h)), (λ m. absurd m))
-tells (Literal d ∷ p) (c ∷ t) = (
-  (λ h. let parts = and_parts (nat_eq c d) (is_like p t) h in (eqb-true c d parts.0, (tells p t).0 parts.1)),
-  (λ m. and_from (nat_eq c d) (is_like p t) (eq-eqb c d m.0) ((tells p t).1 m.1)),
+is_exact : (p : List Item) → IsExact p
+is_exact [] [] = ((λ h. tt), (λ m. refl))
+is_exact [] (c ∷ t) = ((λ h. true≢false (sym h)), (λ m. absurd m))
+is_exact (Any ∷ p) t = some_exact p (is_exact p) t
+is_exact (One ∷ p) [] = ((λ h. true≢false (sym h)), (λ m. absurd m))
+is_exact (One ∷ p) (c ∷ t) = is_exact p t
+is_exact (Literal d ∷ p) [] = ((λ h. true≢false (sym h)), (λ m. absurd m))
+is_exact (Literal d ∷ p) (c ∷ t) = (
+  (λ h. let parts = and_parts (nat_eq c d) (is_like p t) h in (eqb-true c d parts.0, (is_exact p t).0 parts.1)),
+  (λ m. and_from (nat_eq c d) (is_like p t) (eq-eqb c d m.0) ((is_exact p t).1 m.1)),
 )
 
 pub like_is : (p : List Item) (t : List ℕ) (b : Bool) → (IsTrue b ↔ Matches p t) → b ≡ is_like p t
-like_is p t b h = both_ways b (is_like p t) (λ g. (tells p t).1 (h.0 g)) (λ g. h.1 ((tells p t).0 g))
+like_is p t b h = both_ways b (is_like p t) (λ g. (is_exact p t).1 (h.0 g)) (λ g. h.1 ((is_exact p t).0 g))
 
 -- the answer of LIKE where neither the escape text nor the pattern is at fault
 pub like_answers : (given : Result (Option ℕ) TextFault) (e : Option ℕ) (pattern text p t : List ℕ) (w b : Bool)

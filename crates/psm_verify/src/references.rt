@@ -16,7 +16,7 @@ use psm_list::List;
 use psm_table::{ForeignKey, TableDef};
 use std::alloc::{AllocError, Global};
 
-/// Whether the constraints stand in the order of the referencing tables, of which there are so many.
+/// Whether the constraints stand in the order of the `count` referencing tables.
 pub(crate) fn are_in_turn(keys: &[ForeignKey], count: usize) -> bool
     ensures { result ≡ rules.are_in_turn 0 count keys.now }
 {

@@ -26,7 +26,7 @@ use psm_list::List;
 use std::alloc::{AllocError, Global};
 
 /// The code as code that keeps its rules, or the first line of its listing that breaks one, and which: a line that breaks several is
-/// told by the rule that comes first in [`psm_code::CodeRule`]. Out of memory is the one other answer.
+/// reported by the rule that comes first in [`psm_code::CodeRule`]. Out of memory is the one other answer.
 ///
 /// It reads the listing a few times at most. What may not stand twice is found by maps.
 pub fn verified(alloc: Global, code: RawCode) -> Result<Result<Code, CodeFault>, AllocError>

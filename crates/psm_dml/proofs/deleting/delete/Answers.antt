@@ -14,7 +14,7 @@ use Rattle.psm_dml.specs.Ends.{keyed_schema, schema_of, Bears, Ends}
 use Rattle.psm_row_changes.specs.Rows.{changed_if, without_all, without_keys}
 use Rattle.psm_dml.specs.Collected.{key_in}
 use Rattle.psm_row_changes.proofs.Effects.{changed_is, said, there}
-use Rattle.psm_dml.proofs.Answering.{borne, told, gives_err}
+use Rattle.psm_dml.proofs.Answering.{borne, reported, gives_err}
 use Rattle.psm_dml.proofs.Erased.{erase_done, erase_fails, erase_raises}
 use Rattle.psm_dml.proofs.Planned.{deleted_is, deleted_raises}
 use Rattle.psm_dml.proofs.deleting.delete.Goals as goal
@@ -28,7 +28,7 @@ returns-in-Err-clause-answer g c =
     let table = c.in-Err.ensures.table in
     said (λ x. (checks : List (List Line)) → IsLegal (over []) (schema_of x.def checks) x.rows → Ends x (deleted (over vars) (over []) (keyed_schema c.args.constraints.now old c.args.t x.def checks) test x.rows) old c.args.t old (Err c.raised.result))
     (slice_get old c.args.t) t c.table.ensures
-    (λ checks legal. told old old c.args.t t (λ x. deleted (over vars) (over []) (keyed_schema c.args.constraints.now old c.args.t t.def checks) test t.rows) c.table.ensures c.in-Err.fault c.raised.result
+    (λ checks legal. reported old old c.args.t t (λ x. deleted (over vars) (over []) (keyed_schema c.args.constraints.now old c.args.t t.def checks) test t.rows) c.table.ensures c.in-Err.fault c.raised.result
     (λ s e. erase_raises c.args.constraints.now old c.args.t t table checks legal vars test s
     (deleted_raises t.def.key (over vars) test t.rows s table.ascend (gives_err (walked (test_of (over vars) test) (key_in t.def.key) t.rows) c.in-Err.fault s e c.in-Err.ensures.keys)))
     c.raised.ensures refl)

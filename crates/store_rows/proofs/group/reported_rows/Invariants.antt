@@ -1,6 +1,6 @@
 use Rattle.store_rows.specs.Alone.{IsAlone}
 use Rattle.store_rows.specs.Bench.{IsBench}
-use Rattle.store_rows.proofs.group.told_rows.Given as goal
+use Rattle.store_rows.proofs.group.reported_rows.Given as goal
 
 abbrev pub invariant-rows : goal.invariant-rows
 invariant-rows g l =
