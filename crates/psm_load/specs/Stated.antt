@@ -93,7 +93,7 @@ breaks_sets Value = Some Definition
 breaks_sets (Function f) = None
 breaks_sets Rows = None
 
--- the lines that stand behind the line of an item
+-- the lines that stand after the line of an item
 abbrev pub value_of_item : ItemHead → Part (List Line)
 value_of_item Value = expression
 value_of_item (Function f) = expression
