@@ -209,7 +209,7 @@ fn low_past<'a>(walk: &'a Walk, key: Option<&'a Key>) -> Option<Cut<'a>>
     match key {
         Some(key) if !walk.downward => Some(Cut {
             values: key.values(),
-            is_behind: true,
+            is_after: true,
         }),
         Some(_) | None => walk.low.as_ref().map(Edge::cut),
     }
@@ -222,7 +222,7 @@ fn high_past<'a>(walk: &'a Walk, key: Option<&'a Key>) -> Option<Cut<'a>>
     match key {
         Some(key) if walk.downward => Some(Cut {
             values: key.values(),
-            is_behind: false,
+            is_after: false,
         }),
         Some(_) | None => walk.high.as_ref().map(Edge::cut),
     }

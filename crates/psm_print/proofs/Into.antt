@@ -127,7 +127,7 @@ into_both {z} {X} {Y} {A = A} {f = f} {h = h} {q = q} {k = k} c i j same e = rec
       subst (λ y. Printed z.good (said z (seq f h (seq pair (optional q) k))) y (c y) (length w)) (sym made) (respelled (e l.one m.two) (shorter n (joined f u back)));
 }
 
--- what may stand behind two parts is left out, where the value doesn't say it
+-- what may stand after two parts is left out, where the value doesn't say it
 pub into_before : {z : PrintContext} {X Y Z A : Type 0} {f : X → Y × Option A → Z} {p h : Gram X} {q : Gram A} {r k : Gram Y} {b : X → List Token} {d : Y → List Token} (c : Z → List Token)
     → Into z p h b → Into z r k d → ((x : X) (y : Y) (o : Option A) → f x (y, o) ≡ f x (y, None)) → ((x : X) (y : Y) → b x ++ d y ≡ c (f x (y, None))) → Into z (seq f p (seq pair r (optional q))) (seq f h (seq pair k (optional q))) c
 into_before {z} {X} {Y} {A = A} {f = f} {h = h} {q = q} {k = k} c i j same e = record {

@@ -477,13 +477,13 @@ neither Less = refl
 neither Equal = refl
 neither Greater = refl
 
--- the rows between the cuts before and behind some values
-pub between_cuts : (key : List ℕ) (firsts : List Datum) (low high : Cut) (rows : List (List Datum)) → low.values.now ≡ firsts → low.is_behind ≡ false → high.values.now ≡ firsts → high.is_behind ≡ true
+-- the rows between the cuts before and after some values
+pub between_cuts : (key : List ℕ) (firsts : List Datum) (low high : Cut) (rows : List (List Datum)) → low.values.now ≡ firsts → low.is_after ≡ false → high.values.now ≡ firsts → high.is_after ≡ true
     → rows_between key (Some low) (Some high) rows ≡ rows_beginning key firsts rows
 between_cuts key firsts low high rows a b d e =
-    ap (λ vs. filter (λ row. is_past vs low.is_behind (values_at key row) && not (is_past high.values.now high.is_behind (values_at key row))) rows) a
-    ∙ ap (λ t. filter (λ row. is_past firsts t (values_at key row) && not (is_past high.values.now high.is_behind (values_at key row))) rows) b
-    ∙ ap (λ vs. filter (λ row. is_past firsts false (values_at key row) && not (is_past vs high.is_behind (values_at key row))) rows) d
+    ap (λ vs. filter (λ row. is_past vs low.is_after (values_at key row) && not (is_past high.values.now high.is_after (values_at key row))) rows) a
+    ∙ ap (λ t. filter (λ row. is_past firsts t (values_at key row) && not (is_past high.values.now high.is_after (values_at key row))) rows) b
+    ∙ ap (λ vs. filter (λ row. is_past firsts false (values_at key row) && not (is_past vs high.is_after (values_at key row))) rows) d
     ∙ ap (λ t. filter (λ row. is_past firsts false (values_at key row) && not (is_past firsts t (values_at key row))) rows) e
     ∙ (λ i. filter (λ row. neither (prefix_order firsts (values_at key row)) i) rows)
 

@@ -226,11 +226,11 @@ fn rows_with<'a>(table: &'a Table, firsts: &[Datum], downward: bool) -> RowsLeft
     }
     let low = Cut {
         values: firsts,
-        is_behind: false,
+        is_after: false,
     };
     let high = Cut {
         values: firsts,
-        is_behind: true,
+        is_after: true,
     };
     table.rows_between(Some(low), Some(high), downward)
 }

@@ -335,7 +335,7 @@ inserted_last : {X : Type 0} (xs : List X) (x : X) → insert xs (length xs) x �
 inserted_last [] x = refl
 inserted_last (y ∷ ys) x = ap (λ zs. y ∷ zs) (inserted_last ys x)
 
--- what is put in behind all others
+-- what is put in after all others
 pub inserted-last : {X : Type 0} (xs ys : List X) (n : ℕ) (x : X) → xs ≡ ys → n ≡ length xs → insert xs n x ≡ ys ++ x ∷ []
 inserted-last xs ys n x e l = ap (λ k. insert xs k x) l ∙ inserted_last xs x ∙ ap (λ zs. zs ++ x ∷ []) e
 

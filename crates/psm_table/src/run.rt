@@ -158,25 +158,25 @@ impl<V: Drop> Run<V> {
 
     /// Whether the first pair's key is past a cut. Where the numbers differ with which both begin, these decide.
     #[tactic(auto, using(crate::proofs::Heads::head_alone))]
-    pub(crate) fn begins_past(&self, probe: Probe<'_>, leading: &Leading, is_behind: bool) -> bool
+    pub(crate) fn begins_past(&self, probe: Probe<'_>, leading: &Leading, is_after: bool) -> bool
         requires fits { FitsProbe probe }
         requires leading { leading.now ≡ leading_of (probe_key probe) }
-        ensures { result ≡ begins (λ p. is_past (probe_key probe.entry) is_behind p.key) self.now }
+        ensures { result ≡ begins (λ p. is_past (probe_key probe.entry) is_after p.key) self.now }
     {
         match self.head.order(leading) {
             Ordering::Less => false,
             Ordering::Greater => true,
-            Ordering::Equal if probe.len() == 1 && self.head.leads_with(leading) => !is_behind,
-            Ordering::Equal => self.first_is_past(probe, is_behind),
+            Ordering::Equal if probe.len() == 1 && self.head.leads_with(leading) => !is_after,
+            Ordering::Equal => self.first_is_past(probe, is_after),
         }
     }
 
-    fn first_is_past(&self, probe: Probe<'_>, is_behind: bool) -> bool
+    fn first_is_past(&self, probe: Probe<'_>, is_after: bool) -> bool
         requires { FitsProbe probe }
-        ensures { result ≡ begins (λ p. is_past (probe_key probe.entry) is_behind p.key) self.now }
+        ensures { result ≡ begins (λ p. is_past (probe_key probe.entry) is_after p.key) self.now }
     {
         match self.pairs.as_slice() {
-            [first, ..] => is_past(&first.key, probe, is_behind),
+            [first, ..] => is_past(&first.key, probe, is_after),
             [] => false,
         }
     }
@@ -318,29 +318,29 @@ impl Run<Option<Row>> {
 }
 
 /// How many of the pairs, in ascending order of their keys, aren't past a cut.
-pub(crate) fn turn<V: Drop>(pairs: &[Pair<V>], probe: Probe<'_>, is_behind: bool) -> usize
+pub(crate) fn turn<V: Drop>(pairs: &[Pair<V>], probe: Probe<'_>, is_after: bool) -> usize
     requires fits { FitsProbe probe }
     requires order { AreAscending pairs.now }
     ensures inside { result ≤ length pairs.now }
-    ensures past { drop result pairs.now ≡ filter (λ p. is_past (probe_key probe.entry) is_behind p.key) pairs.now }
-    ensures others { take result pairs.now ≡ filter (λ p. not (is_past (probe_key probe.entry) is_behind p.key)) pairs.now }
+    ensures past { drop result pairs.now ≡ filter (λ p. is_past (probe_key probe.entry) is_after p.key) pairs.now }
+    ensures others { take result pairs.now ≡ filter (λ p. not (is_past (probe_key probe.entry) is_after p.key)) pairs.now }
 {
-    turn_at(pairs, probe.narrowed(), is_behind)
+    turn_at(pairs, probe.narrowed(), is_after)
 }
 
 /// The same, by a probe that is compared as it is.
-fn turn_at<V: Drop>(pairs: &[Pair<V>], probe: Probe<'_>, is_behind: bool) -> usize
+fn turn_at<V: Drop>(pairs: &[Pair<V>], probe: Probe<'_>, is_after: bool) -> usize
     requires fits { FitsProbe probe }
     requires order { AreAscending pairs.now }
     ensures inside { result ≤ length pairs.now }
-    ensures past { drop result pairs.now ≡ filter (λ p. is_past (probe_key probe.entry) is_behind p.key) pairs.now }
-    ensures others { take result pairs.now ≡ filter (λ p. not (is_past (probe_key probe.entry) is_behind p.key)) pairs.now }
+    ensures past { drop result pairs.now ≡ filter (λ p. is_past (probe_key probe.entry) is_after p.key) pairs.now }
+    ensures others { take result pairs.now ≡ filter (λ p. not (is_past (probe_key probe.entry) is_after p.key)) pairs.now }
 {
     let mut low = 0;
     let mut high = pairs.len();
     while low < high {
         let middle = low + (high - low) / 2;
-        if is_past(&pairs[middle].key, probe, is_behind) {
+        if is_past(&pairs[middle].key, probe, is_after) {
             high = middle;
         } else {
             low = middle + 1;

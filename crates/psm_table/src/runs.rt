@@ -36,18 +36,18 @@ pub(crate) fn locate<V: Drop>(runs: &[Run<V>], probe: Probe<'_>) -> usize
 }
 
 /// The last run whose first pair's key isn't past a cut, or the first.
-pub(crate) fn locate_past<V: Drop>(runs: &[Run<V>], probe: Probe<'_>, is_behind: bool) -> usize
+pub(crate) fn locate_past<V: Drop>(runs: &[Run<V>], probe: Probe<'_>, is_after: bool) -> usize
     requires fits { FitsProbe probe }
     requires order { AreAscending (joined runs.now) }
     requires runs { All IsRun runs.now }
-    ensures { 0 < length runs.now → IsTurn (λ p. is_past (probe_key probe.entry) is_behind p.key) runs.now result }
+    ensures { 0 < length runs.now → IsTurn (λ p. is_past (probe_key probe.entry) is_after p.key) runs.now result }
 {
     let leading = probe.leading();
     let mut low = 0;
     let mut high = runs.len();
     while low < high {
         let middle = low + (high - low) / 2;
-        if runs[middle].begins_past(probe, &leading, is_behind) {
+        if runs[middle].begins_past(probe, &leading, is_after) {
             high = middle;
         } else {
             low = middle + 1;

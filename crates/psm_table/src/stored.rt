@@ -186,12 +186,12 @@ pub(crate) fn order_of_prefix(key: &StoredKey, probe: Probe<'_>) -> Ordering
 }
 
 /// Whether a key is past the keys that begin with what it is compared with, or, if these count too, from them on.
-pub(crate) fn is_past(key: &StoredKey, probe: Probe<'_>, is_behind: bool) -> bool
+pub(crate) fn is_past(key: &StoredKey, probe: Probe<'_>, is_after: bool) -> bool
     requires { FitsProbe probe }
-    ensures { result ≡ is_past (probe_key probe.entry) is_behind key.now }
+    ensures { result ≡ is_past (probe_key probe.entry) is_after key.now }
 {
     let order = order_of_prefix(key, probe);
-    if is_behind {
+    if is_after {
         order.is_gt()
     } else {
         !order.is_lt()

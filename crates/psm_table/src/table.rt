@@ -48,7 +48,7 @@ pub struct Table {
     rows: OrderedMap<Option<Row>>,
     /// How many keys have a row.
     live: u32,
-    /// The lists of columns in which rows are looked up: the UNIQUE ones, and behind them those of indexes.
+    /// The lists of columns in which rows are looked up: the UNIQUE ones, and after them those of indexes.
     lists: Vec<List<u32>>,
     /// For each list the values of rows in it, each followed by the row's key.
     indexes: Vec<OrderedMap<()>>,
@@ -398,11 +398,11 @@ impl Table {
     {
         let low = Cut {
             values,
-            is_behind: false,
+            is_after: false,
         };
         let high = Cut {
             values,
-            is_behind: true,
+            is_after: true,
         };
         let mut found = RowsLeft::between(&self.rows, Some(low), Some(high), false);
         found.next().is_some()

@@ -189,20 +189,20 @@ module _ (row vars : List Datum) where
   goes_same xs ys h (Raised state) = refl
   goes_same xs ys h Stuck = refl
 
-  -- operations behind those that are done, which stand with the last one first
-  abbrev behind : List Op → List Op → List Op
-  behind done ops = reverse_aux done ops
+  -- operations after those that are done, which stand with the last one first
+  abbrev after_done : List Op → List Op → List Op
+  after_done done ops = reverse_aux done ops
 
-  same_behind : (done xs ys : List Op) → Same xs ys → Same (behind done xs) (behind done ys)
-  same_behind [] xs ys h = h
-  same_behind (o ∷ done) xs ys h = same_behind done (o ∷ xs) (o ∷ ys) (λ os. goes_same xs ys h (applied o os row vars))
+  same_after : (done xs ys : List Op) → Same xs ys → Same (after_done done xs) (after_done done ys)
+  same_after [] xs ys h = h
+  same_after (o ∷ done) xs ys h = same_after done (o ∷ xs) (o ∷ ys) (λ os. goes_same xs ys h (applied o os row vars))
 
-  -- the last n put values, and what comes behind them is the same with these on the operands
+  -- the last n put values, and what comes after them is the same with these on the operands
   abbrev Puts : ℕ → List Op → Type 0
-  Puts n done = (ds : List Datum) → last_values vars n done ≡ Some ds → (xs ys : List Op) → ((os : List Operand) → straight_on xs (Values ds ++ os) ≡ straight_on ys os) → Same (behind done xs) (behind (drop n done) ys)
+  Puts n done = (ds : List Datum) → last_values vars n done ≡ Some ds → (xs ys : List Op) → ((os : List Operand) → straight_on xs (Values ds ++ os) ≡ straight_on ys os) → Same (after_done done xs) (after_done (drop n done) ys)
 
   put_first : (n : ℕ) (o : Op) (done : List Op) (ds : List Datum) (f : Option Datum) (rest : Option (List Datum)) → Puts n done → fixed vars o ≡ f → last_values vars n done ≡ rest → with_first f rest ≡ Some ds
-      → (xs ys : List Op) → ((os : List Operand) → straight_on xs (Values ds ++ os) ≡ straight_on ys os) → Same (behind done (o ∷ xs)) (behind (drop n done) ys)
+      → (xs ys : List Op) → ((os : List Operand) → straight_on xs (Values ds ++ os) ≡ straight_on ys os) → Same (after_done done (o ∷ xs)) (after_done (drop n done) ys)
   put_first n o done ds None rest go f r e xs ys h = absurd cc
   put_first n o done ds (Some d) None go f r e xs ys h = absurd cc
   put_first n o done ds (Some d) (Some more) go f r e xs ys h =
@@ -211,28 +211,28 @@ module _ (row vars : List Datum) where
       (λ os. ap (λ (a : Applied). goes_on a (λ next. straight_on xs)) ((says row vars o).puts d f (Values more ++ os)) ∙ ap (λ (l : List Datum). straight_on xs (Values l ++ os)) all ∙ h os)
 
   values_put : (n : ℕ) (done : List Op) → Puts n done
-  values_put zero done ds e xs ys h = let none : [] ≡ ds = cc in same_behind done xs ys (λ os. ap (λ (l : List Datum). straight_on xs (Values l ++ os)) none ∙ h os)
+  values_put zero done ds e xs ys h = let none : [] ≡ ds = cc in same_after done xs ys (λ os. ap (λ (l : List Datum). straight_on xs (Values l ++ os)) none ∙ h os)
   values_put (suc n) [] ds e xs ys h = absurd cc
   values_put (suc n) (o ∷ done) ds e xs ys h = put_first n o done ds (fixed vars o) (last_values vars n done) (values_put n done) refl refl e xs ys h
 
   -- ---- one operation folded
 
   folded_same : (done : List Op) (o : Op) (ops : List Op) (n : ℕ) (found : Option (List Datum)) (put : Option Datum) → folds o ≡ suc n → last_values vars (suc n) done ≡ found → option_and_then (value_put o) found ≡ put
-      → Same (behind done (o ∷ ops)) (behind (done_with (suc n) done o put) ops)
+      → Same (after_done done (o ∷ ops)) (after_done (done_with (suc n) done o put) ops)
   folded_same done o ops n found None f l p os = refl
   folded_same done o ops n None (Some d) f l p os = absurd cc
   folded_same done o ops n (Some ds) (Some d) f l p os =
       values_put (suc n) done ds l (o ∷ ops) (constant d ∷ ops)
       (λ below. ap (λ (a : Applied). goes_on a (λ next. straight_on ops)) ((fold_says n o f).puts d ds below p)) os
 
-  fold_same_by : (done : List Op) (o : Op) (ops : List Op) (n : ℕ) → folds o ≡ n → Same (behind done (o ∷ ops)) (behind (done_with n done o (value_on vars n done o)) ops)
+  fold_same_by : (done : List Op) (o : Op) (ops : List Op) (n : ℕ) → folds o ≡ n → Same (after_done done (o ∷ ops)) (after_done (done_with n done o (value_on vars n done o)) ops)
   fold_same_by done o ops zero f os = refl
   fold_same_by done o ops (suc n) f os = folded_same done o ops n (last_values vars (suc n) done) (value_on vars (suc n) done o) f refl refl os
 
-  fold_same : (done : List Op) (o : Op) (ops : List Op) → Same (behind done (o ∷ ops)) (behind (fold_op vars done o) ops)
+  fold_same : (done : List Op) (o : Op) (ops : List Op) → Same (after_done done (o ∷ ops)) (after_done (fold_op vars done o) ops)
   fold_same done o ops = fold_same_by done o ops (folds o) refl
 
-  folds_same : (ops done : List Op) → Same (behind done ops) (fold_ops vars done ops)
+  folds_same : (ops done : List Op) → Same (after_done done ops) (fold_ops vars done ops)
   folds_same [] done os = refl
   folds_same (o ∷ ops) done os = fold_same done o ops os ∙ folds_same ops (fold_op vars done o) os
 

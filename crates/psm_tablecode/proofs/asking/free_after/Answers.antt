@@ -1,7 +1,7 @@
 use Rattle.std.proofs.Common.{◌-◌, sym, ap, ◌∙◌}
 use Rattle.std.specs.Option.{option_copied}
 use Rattle.psm_tablecode.proofs.Windows.{free_back, free_none}
-use Rattle.psm_tablecode.proofs.asking.free_behind.Goals as goal
+use Rattle.psm_tablecode.proofs.asking.free_after.Goals as goal
 
 pub returns-in-Some-clause-value : goal.returns-in-Some-clause-value
 returns-in-Some-clause-value c =
