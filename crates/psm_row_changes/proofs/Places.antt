@@ -52,15 +52,15 @@ found_after : {X : Type 0} (p : X → Bool) (xs ys : List X) → IsSome (find p 
 found_after p [] ys h = h
 found_after p (x ∷ xs) ys h = found_cons p x (xs ++ ys) (found_after p xs ys h)
 
-behind_step : {X : Type 0} (p q : X → Bool) (x : X) (xs : List X) (b c : Bool) → p x ≡ b → q x ≡ c → (p x ≡ true → q x ≡ true) → (IsSome (find p xs) → IsSome (find p (filter q xs))) → IsSome (find p (x ∷ xs)) → IsSome (find p (filter q (x ∷ xs)))
-behind_step p q x xs true true e g f r h = rw (g, e) refl
-behind_step p q x xs true false e g f r h = absurd (let bad : true ≡ false = sym (f e) ∙ g in cc)
-behind_step p q x xs false true e g f r h = rw (g, e) (r (rw e at h))
-behind_step p q x xs false false e g f r h = rw g (r (rw e at h))
+step_past : {X : Type 0} (p q : X → Bool) (x : X) (xs : List X) (b c : Bool) → p x ≡ b → q x ≡ c → (p x ≡ true → q x ≡ true) → (IsSome (find p xs) → IsSome (find p (filter q xs))) → IsSome (find p (x ∷ xs)) → IsSome (find p (filter q (x ∷ xs)))
+step_past p q x xs true true e g f r h = rw (g, e) refl
+step_past p q x xs true false e g f r h = absurd (let bad : true ≡ false = sym (f e) ∙ g in cc)
+step_past p q x xs false true e g f r h = rw (g, e) (r (rw e at h))
+step_past p q x xs false false e g f r h = rw g (r (rw e at h))
 
 found_past : {X : Type 0} (p q : X → Bool) → ((x : X) → p x ≡ true → q x ≡ true) → (xs : List X) → IsSome (find p xs) → IsSome (find p (filter q xs))
 found_past p q f [] h = h
-found_past p q f (x ∷ xs) h = behind_step p q x xs (p x) (q x) refl refl (f x) (found_past p q f xs) h
+found_past p q f (x ∷ xs) h = step_past p q x xs (p x) (q x) refl refl (f x) (found_past p q f xs) h
 
 -- ---- a row with a smaller key
 
