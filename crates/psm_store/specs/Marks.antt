@@ -24,7 +24,7 @@ pub record IsNewMark (count : ℕ) (tables : List Contents) (holds_old holds_new
   pub deepest : mark.depth ≡ count
   pub held : holds_new mark
   pub stands : at_new mark ≡ tables
-  pub last : (other : Mark) → holds_old other → other.place ≤ mark.place
+  pub last : (other : Mark) → holds_old other → other.position ≤ mark.position
 
 -- each of these marks that was held stays held, and stands for the same tables
 abbrev pub Keeps : (Mark → Type 0) → (Mark → Type 0) → (Mark → List Contents) → (Mark → Type 0) → (Mark → List Contents) → Type 0
@@ -36,4 +36,4 @@ AnyMark mark = Unit {0}
 
 -- a mark of less depth whose place isn't above
 abbrev pub IsOutside : Mark → Mark → Type 0
-IsOutside mark outer = (outer.depth < mark.depth) × (outer.place ≤ mark.place)
+IsOutside mark outer = (outer.depth < mark.depth) × (outer.position ≤ mark.position)

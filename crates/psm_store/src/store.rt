@@ -15,7 +15,7 @@ use std::sync::ledger::Ledger;
 #[derive(Clone, Copy, Debug, PartialEq, Eq)]
 pub struct Mark {
     pub depth: u128,
-    pub place: u64,
+    pub position: u64,
 }
 
 /// Tables that can be put back to marks. No call changes the definitions of the tables, nor their number.

@@ -32,4 +32,4 @@ contents_of states = map (λ s. s.contents) states
 
 -- the tables as they were before the entries from a place on
 abbrev pub before : ℕ → List Entry → List State → List Contents
-before place entries states = undone_from 0 (drop place entries) (contents_of states)
+before position entries states = undone_from 0 (drop position entries) (contents_of states)
