@@ -1,7 +1,7 @@
 -- Whether a plain cursor stands on a row.
 use Rattle.std.specs.Prelude.{Bool, true, false}
-use Rattle.psm_cursor.specs.declared.place.Standing.{Standing}
-use Rattle.psm_cursor.specs.declared.place.Standing.TheVariants.{OnRow, OffRow, PastLast}
+use Rattle.psm_cursor.specs.declared.position.Standing.{Standing}
+use Rattle.psm_cursor.specs.declared.position.Standing.TheVariants.{OnRow, OffRow, PastLast}
 
 abbrev pub is_on_row : Standing → Bool
 is_on_row OnRow = true

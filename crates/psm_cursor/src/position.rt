@@ -20,26 +20,26 @@ enum Standing {
 
 /// The key that a cursor reached, if any, and whether it stands on its row.
 #[derive(Debug, Drop)]
-pub(crate) struct Place {
+pub(crate) struct CursorPosition {
     reached: Option<Key>,
     standing: Standing,
 }
 
-impl Model for Place {
+impl Model for CursorPosition {
     ghost use Rattle.psm_table.specs.Cursors.{Position};
-    ghost use Rattle.psm_cursor.specs.Places.{is_on_row, is_past_last};
+    ghost use Rattle.psm_cursor.specs.Positions.{is_on_row, is_past_last};
 
     ghost Value = { Position };
 
     ghost view = { λ p. record { bound = p.reached; is_on_row = is_on_row p.standing; is_past_last = is_past_last p.standing } };
 }
 
-impl Place {
+impl CursorPosition {
     /// Before the first row.
-    pub(crate) fn before_first() -> Place
+    pub(crate) fn before_first() -> CursorPosition
         ensures { result ≡ before_first_row }
     {
-        Place {
+        CursorPosition {
             reached: None,
             standing: Standing::OffRow,
         }
