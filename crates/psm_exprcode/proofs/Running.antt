@@ -18,7 +18,7 @@ use Rattle.psm_exprcode.specs.declared.operand.Operand.{Operand}
 use Rattle.psm_exprcode.specs.declared.operand.Next.{Next}
 use Rattle.psm_exprcode.specs.declared.operand.Next.TheVariants.{Ahead, Jump}
 use Rattle.psm_exprcode.specs.Applied.{Applied, Went, Raised, Stuck, applied}
-use Rattle.psm_exprcode.specs.Evaluated.{Outcome, place_after, goes_on, ended, ran, evaluated, TypeChecks, Evaluates}
+use Rattle.psm_exprcode.specs.Evaluated.{Outcome, line_after, goes_on, ended, ran, evaluated, TypeChecks, Evaluates}
 use Rattle.psm_exprcode.specs.Fits.{Fits, Refuses}
 use Rattle.psm_exprcode.specs.Kinds.{is_letter, is_value, some_value, some_letter, is_of, have}
 use Rattle.psm_exprcode.specs.Operations.{Effect, effect}
@@ -54,7 +54,7 @@ lands_stands end lines distance s os h d = stated_landed end (slice_get lines di
 
 -- the operands are those of the place to which an operation at a place goes on
 abbrev pub Lands : Letter → ℕ → List Line → Next → List Operand → Type 0
-Lands end at after next os = (suc at ≤ place_after at next) × (stands end after (place_after at next - suc at) os ≡ true)
+Lands end at after next os = (suc at ≤ line_after at next) × (stands end after (line_after at next - suc at) os ≡ true)
 
 -- ---- one line
 
@@ -168,7 +168,7 @@ line_fits row vars end at pc l after os h e =
 
 -- the operands of the place to which the line goes on
 line_next : (row vars : List Datum) (end : Letter) (at pc : ℕ) (l : Line) (after : List Line) (os us : List Operand) (next : Next) → Runs row vars end at pc (l ∷ after) os → Lands end at after next us
-    → Runs row vars end (suc at) (place_after at next) after us
+    → Runs row vars end (suc at) (line_after at next) after us
 line_next row vars end at pc l after os us next h g = record {
   may = h.may;
   known = h.known;
@@ -178,7 +178,7 @@ line_next row vars end at pc l after os us next h g = record {
 }
 
 line_goes : (row vars : List Datum) (end : Letter) (at pc : ℕ) (l : Line) (after : List Line) (os us : List Operand) (next : Next) → Runs row vars end at pc (l ∷ after) os → at ≡ pc
-    → applied l.op os row vars ≡ Went next us → Runs row vars end (suc at) (place_after at next) after us
+    → applied l.op os row vars ≡ Went next us → Runs row vars end (suc at) (line_after at next) after us
 line_goes row vars end at pc l after os us next h e g =
     let F : Applied → Type 0 = λ a. Goes (Lands end at after) a in
     line_next row vars end at pc l after os us next h (subst F g (line_leads row vars end at pc l after os h e))
@@ -229,16 +229,16 @@ IsDue end None = ⊥
 IsDue end (Some (Ok o)) = is_of end o ≡ true
 IsDue end (Some (Err state)) = Unit {0}
 
-goes_due : (row vars : List Datum) (end : Letter) (at : ℕ) (after : List Line) (a : Applied) → ((next : Next) (os : List Operand) → Lands end at after next os → IsDue end (ran row vars (suc at) (place_after at next) after os))
-    → Goes (Lands end at after) a → IsDue end (goes_on a (λ next. ran row vars (suc at) (place_after at next) after))
+goes_due : (row vars : List Datum) (end : Letter) (at : ℕ) (after : List Line) (a : Applied) → ((next : Next) (os : List Operand) → Lands end at after next os → IsDue end (ran row vars (suc at) (line_after at next) after os))
+    → Goes (Lands end at after) a → IsDue end (goes_on a (λ next. ran row vars (suc at) (line_after at next) after))
 goes_due row vars end at after (Went next os) f h = f next os h
 goes_due row vars end at after (Raised state) f h = tt
 goes_due row vars end at after Stuck f h = absurd h
 
 runs_by : (row vars : List Datum) (end : Letter) (at pc : ℕ) (l : Line) (after : List Line) (os : List Operand) (b : Bool) → nat_eq at pc ≡ b → Runs row vars end at pc (l ∷ after) os
-    → ((next : Next) (us : List Operand) → Runs row vars end (suc at) (place_after at next) after us → IsDue end (ran row vars (suc at) (place_after at next) after us))
+    → ((next : Next) (us : List Operand) → Runs row vars end (suc at) (line_after at next) after us → IsDue end (ran row vars (suc at) (line_after at next) after us))
     → (Runs row vars end (suc at) pc after os → IsDue end (ran row vars (suc at) pc after os))
-    → IsDue end (if b then goes_on (applied l.op os row vars) (λ next. ran row vars (suc at) (place_after at next) after) else ran row vars (suc at) pc after os)
+    → IsDue end (if b then goes_on (applied l.op os row vars) (λ next. ran row vars (suc at) (line_after at next) after) else ran row vars (suc at) pc after os)
 runs_by row vars end at pc l after os true e h on passed =
     goes_due row vars end at after (applied l.op os row vars) (λ next us g. on next us (line_next row vars end at pc l after os us next h g)) (line_leads row vars end at pc l after os h (eqb-true at pc e))
 runs_by row vars end at pc l after os false e h on passed = passed (line_passed row vars end at pc l after os h (λ q. let r = eq-eqb at pc q in cc))
@@ -249,7 +249,7 @@ runs_due row vars end at pc [] os h =
     let F : List Operand → Type 0 = λ u. IsDue end (ended u) in
     subst F (sym r.1) r.2
 runs_due row vars end at pc (l ∷ after) os h =
-    runs_by row vars end at pc l after os (nat_eq at pc) refl h (λ next us k. runs_due row vars end (suc at) (place_after at next) after us k) (λ k. runs_due row vars end (suc at) pc after os k)
+    runs_by row vars end at pc l after os (nat_eq at pc) refl h (λ next us k. runs_due row vars end (suc at) (line_after at next) after us k) (λ k. runs_due row vars end (suc at) pc after os k)
 
 evaluated_due : (lines : List Line) (row vars : List Datum) (end : Letter) → TypeChecks lines row vars end → IsDue end (evaluated lines row vars)
 evaluated_due lines row vars end s = runs_due row vars end 0 0 lines [] (lines_begin lines row vars end s)
@@ -297,33 +297,33 @@ runs_first row vars lines at pc l os h e g =
     let F : List Line → Type 0 = λ ls. Runs row vars g.end at pc ls os in subst F (line_first lines at l h e) g.runs
 
 ran_first : (row vars : List Datum) (lines : List Line) (at pc : ℕ) (l : Line) (os : List Operand) (b : Bool) → at < length lines → l ≡ get_or lines at l → Going row vars lines at pc os → nat_eq at pc ≡ b
-    → (if b then goes_on (applied l.op os row vars) (λ next. ran row vars (suc at) (place_after at next) (drop (suc at) lines)) else ran row vars (suc at) pc (drop (suc at) lines) os) ≡ evaluated lines row vars
+    → (if b then goes_on (applied l.op os row vars) (λ next. ran row vars (suc at) (line_after at next) (drop (suc at) lines)) else ran row vars (suc at) pc (drop (suc at) lines) os) ≡ evaluated lines row vars
 ran_first row vars lines at pc l os b h e g q =
-    sym (ap (λ c. if c then goes_on (applied l.op os row vars) (λ next. ran row vars (suc at) (place_after at next) (drop (suc at) lines)) else ran row vars (suc at) pc (drop (suc at) lines) os) q)
+    sym (ap (λ c. if c then goes_on (applied l.op os row vars) (λ next. ran row vars (suc at) (line_after at next) (drop (suc at) lines)) else ran row vars (suc at) pc (drop (suc at) lines) os) q)
     ∙ sym (ap (λ ls. ran row vars at pc ls os) (line_first lines at l h e)) ∙ g.so_far
 
 fits_at : (row vars : List Datum) (lines : List Line) (at pc : ℕ) (l : Line) (os : List Operand) → at < length lines → l ≡ get_or lines at l → Going row vars lines at pc os → at ≡ pc
     → Fits l.op os row vars
 fits_at row vars lines at pc l os h e g q = line_fits row vars g.end at pc l (drop (suc at) lines) os (runs_first row vars lines at pc l os h e g) q
 
-next_place : (row vars : List Datum) (lines : List Line) (at pc : ℕ) (os : List Operand) → Going row vars lines (suc at) pc os → Going row vars lines (at + 1) pc os
-next_place row vars lines at pc os g =
+next_index : (row vars : List Datum) (lines : List Line) (at pc : ℕ) (os : List Operand) → Going row vars lines (suc at) pc os → Going row vars lines (at + 1) pc os
+next_index row vars lines at pc os g =
     let n : suc at ≡ at + 1 = omega arith in
     let F : ℕ → Type 0 = λ i. Going row vars lines i pc os in subst F n g
 
 going_on : (row vars : List Datum) (lines : List Line) (at pc there : ℕ) (l : Line) (os us : List Operand) (next : Next) → at < length lines → l ≡ get_or lines at l → Going row vars lines at pc os
-    → at ≡ pc → applied l.op os row vars ≡ Went next us → there ≡ place_after at next → Going row vars lines (at + 1) there us
+    → at ≡ pc → applied l.op os row vars ≡ Went next us → there ≡ line_after at next → Going row vars lines (at + 1) there us
 going_on row vars lines at pc there l os us next h e g q w p =
     let F : ℕ → Type 0 = λ i. Going row vars lines (at + 1) i us in
-    subst F (sym p) (next_place row vars lines at (place_after at next) us (record {
-      so_far = sym (ap (λ a. goes_on a (λ next. ran row vars (suc at) (place_after at next) (drop (suc at) lines))) w) ∙ ran_first row vars lines at pc l os true h e g (eq-eqb at pc q);
+    subst F (sym p) (next_index row vars lines at (line_after at next) us (record {
+      so_far = sym (ap (λ a. goes_on a (λ next. ran row vars (suc at) (line_after at next) (drop (suc at) lines))) w) ∙ ran_first row vars lines at pc l os true h e g (eq-eqb at pc q);
       end = g.end;
       runs = line_goes row vars g.end at pc l (drop (suc at) lines) os us next (runs_first row vars lines at pc l os h e g) q w;
     }))
 
 going_past : (row vars : List Datum) (lines : List Line) (at pc : ℕ) (l : Line) (os : List Operand) → at < length lines → l ≡ get_or lines at l → Going row vars lines at pc os
     → (at ≡ pc → ⊥) → Going row vars lines (at + 1) pc os
-going_past row vars lines at pc l os h e g q = next_place row vars lines at pc os (record {
+going_past row vars lines at pc l os h e g q = next_index row vars lines at pc os (record {
   so_far = ran_first row vars lines at pc l os false h e g (ne_eqb at pc q);
   end = g.end;
   runs = line_passed row vars g.end at pc l (drop (suc at) lines) os (runs_first row vars lines at pc l os h e g) q;
@@ -391,7 +391,7 @@ pub record Gone (row vars : List Datum) (lines : List Line) (at there : ℕ) (os
   pub later : length lines - there < length lines - at
 
 pub going_op : (row vars : List Datum) (lines : List Line) (at there : ℕ) (o : Op) (os us : List Operand) (next : Next) → option_map (λ l. l.op) (slice_get lines at) ≡ Some o → Going row vars lines at at os
-    → applied o os row vars ≡ Went next us → there ≡ place_after at next → Gone row vars lines at there us
+    → applied o os row vars ≡ Went next us → there ≡ line_after at next → Gone row vars lines at there us
 going_op row vars lines at there o os us next e g w p =
     let f = op_found lines at o e in
     let within : at < length lines = slice_get_within lines at f.line f.there in
@@ -426,7 +426,7 @@ refused_op row vars lines at o os (Condition state) e g h =
     let f = op_found lines at o e in
     let within : at < length lines = slice_get_within lines at f.line f.there in
     let first = ran_first row vars lines at at f.line os true within (sym (get_or_from_slice_get lines at f.line f.line f.there)) g (eq-eqb at at refl) in
-    sym first ∙ ap (λ a. goes_on a (λ next. ran row vars (suc at) (place_after at next) (drop (suc at) lines))) (ap (λ q. applied q os row vars) f.op ∙ h)
+    sym first ∙ ap (λ a. goes_on a (λ next. ran row vars (suc at) (line_after at next) (drop (suc at) lines))) (ap (λ q. applied q os row vars) f.op ∙ h)
 refused_op row vars lines at o os Memory e g h = tt
 
 -- the operand that is taken off then is the one to which the code comes

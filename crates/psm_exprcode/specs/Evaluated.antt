@@ -17,9 +17,9 @@ abbrev pub Outcome : Type 0
 Outcome = Option (Result Operand (List ℕ))
 
 -- the place after a line's
-abbrev pub place_after : ℕ → Next → ℕ
-place_after at Ahead = suc at
-place_after at (Jump p) = p
+abbrev pub line_after : ℕ → Next → ℕ
+line_after at Ahead = suc at
+line_after at (Jump p) = p
 
 abbrev pub goes_on : Applied → (Next → List Operand → Outcome) → Outcome
 goes_on (Went next os) go = go next os
@@ -36,7 +36,7 @@ ended (o ∷ p ∷ os) = None
 abbrev pub ran : List Datum → List Datum → ℕ → ℕ → List Line → List Operand → Outcome
 ran row vars at pc [] os = ended os
 ran row vars at pc (l ∷ after) os =
-    if nat_eq at pc then goes_on (applied l.op os row vars) (λ next. ran row vars (suc at) (place_after at next) after)
+    if nat_eq at pc then goes_on (applied l.op os row vars) (λ next. ran row vars (suc at) (line_after at next) after)
     else ran row vars (suc at) pc after os
 
 -- the value of the expression over the columns and the variables

@@ -37,8 +37,8 @@ pub fn apply(
 {
     match op {
         Op::Constant(_, value) => put_copy(alloc, operands, value),
-        Op::Variable(place) => put_named(alloc, operands, vars, *place),
-        Op::Column(place) => put_named(alloc, operands, row, *place),
+        Op::Variable(index) => put_named(alloc, operands, vars, *index),
+        Op::Column(index) => put_named(alloc, operands, row, *index),
         Op::Duplicate => duplicate(alloc, operands),
         Op::Drop => Ok(drop_last(operands)),
         Op::DropBelow => nip(operands),
@@ -72,8 +72,8 @@ pub fn apply(
         Op::In(count) => test_among(operands, *count),
         Op::NullIf => null_if(operands),
         Op::Cast(to) => cast_one(alloc, operands, *to),
-        Op::Jump(place) => Ok(Next::Jump(*place)),
-        Op::JumpUnlessTrue(place) => Ok(jump_not(operands, *place)),
-        Op::JumpUnlessNull(place) => Ok(jump_set(operands, *place)),
+        Op::Jump(index) => Ok(Next::Jump(*index)),
+        Op::JumpUnlessTrue(index) => Ok(jump_not(operands, *index)),
+        Op::JumpUnlessNull(index) => Ok(jump_set(operands, *index)),
     }
 }

@@ -96,8 +96,8 @@ fn allows(kinds: Kinds<'_>, op: &Op, kind: Letter) -> bool
     match kinds {
         Kinds::Any => true,
         Kinds::Of { columns, variables } => match op {
-            Op::Variable(place) => is_known(kind, variables, *place as usize),
-            Op::Column(place) => is_known(kind, columns, *place as usize),
+            Op::Variable(index) => is_known(kind, variables, *index as usize),
+            Op::Column(index) => is_known(kind, columns, *index as usize),
             _ => true,
         },
     }
@@ -157,7 +157,7 @@ fn branches(
     ensures { result ≡ letters_go_branch end at (option_map jump_of jump) (stack_at after.now.stacks.now rest) (lines_in after.now) }
 {
     match jump {
-        Some((place, puts)) => jumps(end, at, place, puts, rest, after),
+        Some((index, puts)) => jumps(end, at, index, puts, rest, after),
         None => true,
     }
 }
@@ -166,16 +166,16 @@ fn branches(
 fn jumps(
     end: Letter,
     at: usize,
-    place: u32,
+    index: u32,
     puts: Letters,
     rest: usize,
     after: &NumberedLines<'_>,
 ) -> bool
     requires { rest < length after.now.stacks.now }
-    ensures { result ≡ (nat_lt at place && letters_land end (lines_in after.now) (place - suc at) (letters_of puts ++ stack_at after.now.stacks.now rest)) }
+    ensures { result ≡ (nat_lt at index && letters_land end (lines_in after.now) (index - suc at) (letters_of puts ++ stack_at after.now.stacks.now rest)) }
 {
-    let place = place as usize;
-    at < place && lands(end, after, place - at - 1, puts, rest)
+    let index = index as usize;
+    at < index && lands(end, after, index - at - 1, puts, rest)
 }
 
 // Whether the letters are those that a line states, n below the first, or the one at the end.

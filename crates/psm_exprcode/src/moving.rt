@@ -35,12 +35,12 @@ pub(crate) fn put_named(
     alloc: Global,
     operands: &mut Vec<Operand>,
     values: &[Datum],
-    place: u32,
+    index: u32,
 ) -> Result<Next, ValueFault>
-    requires { place < length values.now }
-    ensures { Carries 0 (λ os. with_named os (slice_get values.now place)) operands.old result operands.new }
+    requires { index < length values.now }
+    ensures { Carries 0 (λ os. with_named os (slice_get values.now index)) operands.old result operands.new }
 {
-    put_copy(alloc, operands, &values[place as usize])
+    put_copy(alloc, operands, &values[index as usize])
 }
 
 pub(crate) fn duplicate(alloc: Global, operands: &mut Vec<Operand>) -> Result<Next, ValueFault>
@@ -71,26 +71,26 @@ pub(crate) fn nip(operands: &mut Vec<Operand>) -> Result<Next, ValueFault>
     Ok(Next::Ahead)
 }
 
-pub(crate) fn jump_not(operands: &mut Vec<Operand>, place: u32) -> Next
+pub(crate) fn jump_not(operands: &mut Vec<Operand>, index: u32) -> Next
     requires { IsTrue (are_truths 1 (reverse operands.old.items)) }
-    ensures { on_truth (unless_true place) (reverse operands.old.items) ≡ Went result (reverse operands.new.items) }
+    ensures { on_truth (unless_true index) (reverse operands.old.items) ≡ Went result (reverse operands.new.items) }
 {
     if pop_truth(operands).is_true() {
         Next::Ahead
     } else {
-        Next::Jump(place)
+        Next::Jump(index)
     }
 }
 
-pub(crate) fn jump_set(operands: &mut Vec<Operand>, place: u32) -> Next
+pub(crate) fn jump_set(operands: &mut Vec<Operand>, index: u32) -> Next
     requires { IsTrue (are_values 1 (reverse operands.old.items)) }
-    ensures { on_value (set_at place) (reverse operands.old.items) ≡ Went result (reverse operands.new.items) }
+    ensures { on_value (set_at index) (reverse operands.old.items) ≡ Went result (reverse operands.new.items) }
 {
     if is_last_null(operands.as_slice()) {
         let _ = pop_value(operands);
         Next::Ahead
     } else {
-        Next::Jump(place)
+        Next::Jump(index)
     }
 }
 

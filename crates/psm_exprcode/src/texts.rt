@@ -6,7 +6,7 @@ ghost use Rattle.psm_text.specs.Parts.{upper_of, lower_of, substring_of};
 ghost use Rattle.psm_value.specs.Answer.{Gives};
 ghost use Rattle.psm_exprcode.specs.Applied.{value_of_one, value_of_two, on_two, on_three, with_value, with_truth};
 ghost use Rattle.psm_exprcode.specs.Fits.{are_values, Carries};
-ghost use Rattle.psm_exprcode.specs.Texts.{place_of, trim_of, like_of};
+ghost use Rattle.psm_exprcode.specs.Texts.{first_position, trim_of, like_of};
 ghost use Rattle.psm_exprcode.specs.Values.{as_truth, whole, concatenated, length_of, position_of, cut_of, part_from, part_of, on_text, like, like_escaped};
 
 use crate::comparing::decided;
@@ -81,14 +81,14 @@ fn find(part: &Datum, text: &Datum) -> Datum
     ensures { result ≡ position_of part.now text.now }
 {
     match (part, text) {
-        (Datum::Text(part), Datum::Text(text)) => whole_number(place(part, text)),
+        (Datum::Text(part), Datum::Text(text)) => whole_number(position(part, text)),
         _ => Datum::Null,
     }
 }
 
 #[tactic(auto, using(crate::proofs::Positions::position_is))]
-fn place(part: &Text, text: &Text) -> u32
-    ensures { result ≡ place_of part.now text.now }
+fn position(part: &Text, text: &Text) -> u32
+    ensures { result ≡ first_position part.now text.now }
 {
     text.position(part)
 }
@@ -99,11 +99,11 @@ pub(crate) fn part_two(alloc: Global, operands: &mut Vec<Operand>) -> Result<Nex
     ensures { Carries 2 (value_of_two part_from) operands.old result operands.new }
 {
     let (text, from) = pop_two(operands);
-    put_value(operands, part_from_place(alloc, &text, &from)?)?;
+    put_value(operands, part_from_position(alloc, &text, &from)?)?;
     Ok(Next::Ahead)
 }
 
-fn part_from_place(alloc: Global, text: &Datum, from: &Datum) -> Result<Datum, ValueFault>
+fn part_from_position(alloc: Global, text: &Datum, from: &Datum) -> Result<Datum, ValueFault>
     ensures { Gives (part_from text.now from.now) result }
 {
     match (text, from) {
@@ -125,7 +125,7 @@ fn cut(number: Dec) -> i64
 #[inline(never)]
 pub(crate) fn part_three(alloc: Global, operands: &mut Vec<Operand>) -> Result<Next, ValueFault>
     requires { IsTrue (are_values 3 (reverse operands.old.items)) }
-    ensures { Carries 3 (on_three (λ t place count below. with_value below (part_of t place count))) operands.old result operands.new }
+    ensures { Carries 3 (on_three (λ t position count below. with_value below (part_of t position count))) operands.old result operands.new }
 {
     let (text, from, count) = pop_three(operands);
     put_value(operands, part_between(alloc, &text, &from, &count)?)?;

@@ -56,23 +56,23 @@ pub none_left : (vs : List Datum) → length vs ≡ 0 → vs ≡ []
 none_left [] e = refl
 none_left (v ∷ vs) e = absurd (omega (arith, e))
 
-module _ (ts : List Tally) (vs left : List Datum) (v : Datum) (at : ℕ) (place : at ≡ length vs) (is : left ≡ vs ++ v ∷ []) where
+module _ (ts : List Tally) (vs left : List Datum) (v : Datum) (at : ℕ) (position : at ≡ length vs) (is : left ≡ vs ++ v ∷ []) where
   one_less : length left ≡ length vs + 1
   one_less = ap length is ∙ length-append vs (v ∷ [])
 
   pub put_last : (t d : Tally) → at < length ts → d ≡ get_or ts at d → t ≡ with_value d v → added (slice_set ts at t) vs ≡ added ts left
   put_last t d inside read put =
-      let here : length vs < length ts = omega (arith, inside, place) in
-      ap (λ s. added (slice_set ts at s) vs) (put ∙ ap (λ s. with_value s v) read) ∙ ap (λ i. added (slice_set ts i (with_value (get_or ts i d) v)) vs) place
+      let here : length vs < length ts = omega (arith, inside, position) in
+      ap (λ s. added (slice_set ts at s) vs) (put ∙ ap (λ s. with_value s v) read) ∙ ap (λ i. added (slice_set ts i (with_value (get_or ts i d) v)) vs) position
       ∙ added_last ts vs v d here ∙ ap (added ts) (sym is)
 
   pub put_room : (t : Tally) → HaveRoom (length left) ts → HaveRoom (length vs) (slice_set ts at t)
   put_room t h =
       let some : HaveRoom (length vs + 1) ts = subst (λ n. HaveRoom n ts) one_less h in
-      subst (λ i. HaveRoom (length vs) (slice_set ts i t)) (sym place) (room_set (length vs) ts t some)
+      subst (λ i. HaveRoom (length vs) (slice_set ts i t)) (sym position) (room_set (length vs) ts t some)
 
   pub pass_last : length ts ≤ at → added ts vs ≡ added ts left
-  pass_last past = added_past ts vs v (omega (arith, past, place)) ∙ ap (added ts) (sym is)
+  pass_last past = added_past ts vs v (omega (arith, past, position)) ∙ ap (added ts) (sym is)
 
   pub pass_room : HaveRoom (length left) ts → HaveRoom (length vs) ts
   pass_room h = room_fewer (length vs) ts (subst (λ n. HaveRoom n ts) one_less h)

@@ -18,7 +18,7 @@ use Rattle.psm_value.specs.declared.truth.Truth as truth_value
 use Rattle.psm_value.specs.declared.truth.Truth.TheVariants.{True, False, Unknown}
 use Rattle.psm_exprcode.specs.Applied.{applied, with_named, Applied, Went, Raised, Stuck}
 use Rattle.psm_exprcode.specs.Comparison.{truth_of}
-use Rattle.psm_exprcode.specs.Evaluated.{goes_on, place_after, ran}
+use Rattle.psm_exprcode.specs.Evaluated.{goes_on, line_after, ran}
 use Rattle.psm_exprcode.specs.declared.op.Line.{Line}
 use Rattle.psm_exprcode.specs.declared.op.Op.{Op}
 use Rattle.psm_exprcode.specs.declared.op.Op.TheVariants as op
@@ -190,8 +190,8 @@ Tested judge row b = (u : truth_value.Truth) × (judge row ≡ Ok u) × (is_met 
 module _ (row vars : List Datum) where
   run_step : (n : ℕ) (l : Line) (lines : List Line) (os new : List Operand) → applied l.op os row vars ≡ Went Ahead new → run row vars n (l ∷ lines) os ≡ run row vars (suc n) lines new
   run_step n l lines os new e =
-      ap (λ (b : Bool). if b then goes_on (applied l.op os row vars) (λ next. ran row vars (suc n) (place_after n next) lines) else ran row vars (suc n) n lines os) (eq-eqb n n refl)
-      ∙ ap (λ (a : Applied). goes_on a (λ next. ran row vars (suc n) (place_after n next) lines)) e
+      ap (λ (b : Bool). if b then goes_on (applied l.op os row vars) (λ next. ran row vars (suc n) (line_after n next) lines) else ran row vars (suc n) n lines os) (eq-eqb n n refl)
+      ∙ ap (λ (a : Applied). goes_on a (λ next. ran row vars (suc n) (line_after n next) lines)) e
 
   column_put : (c : ℕ) (w : Datum) (o : Op) (os : List Operand) → slice_get row c ≡ Some w → is_column c o ≡ true → applied o os row vars ≡ Went Ahead (Value w ∷ os)
   column_put c w o os s i = ap (λ (q : Op). applied q os row vars) ((says row vars o).column c i) ∙ ap (with_named os) s

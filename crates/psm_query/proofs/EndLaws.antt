@@ -25,7 +25,7 @@ use Rattle.psm_exprcode.specs.declared.op.Op.{Op}
 use Rattle.psm_exprcode.specs.declared.operand.Next.{Next}
 use Rattle.psm_exprcode.specs.declared.operand.Operand.{Operand}
 use Rattle.psm_exprcode.specs.Applied.{applied, with_named}
-use Rattle.psm_exprcode.specs.Evaluated.{evaluated, goes_on, place_after, ran, Outcome}
+use Rattle.psm_exprcode.specs.Evaluated.{evaluated, goes_on, line_after, ran, Outcome}
 use Rattle.psm_table.specs.Cuts.{is_past, rows_between}
 use Rattle.psm_table.specs.declared.cut.Cut.{Cut}
 use Rattle.psm_table.specs.Table.{Contents, IsTable}
@@ -70,7 +70,7 @@ module _ (c : ℕ) where
 
   module _ (vars : List Datum) (all : Bool) where
     abbrev after : List Datum → Next → List Operand → Outcome
-    after row next = ran row vars 1 (place_after 0 next) []
+    after row next = ran row vars 1 (line_after 0 next) []
 
     named : (row : List Datum) (o : Option Datum) → slice_get row c ≡ o → value_in (goes_on (with_named [] o) (after row)) ≡ Ok (at row)
     named row None e = ap (λ (o : Option Datum). Ok (unwrap_or o Null)) (sym e) ∙ ap Ok (unwrap_or-slice_get row c Null)

@@ -19,7 +19,7 @@ use Rattle.psm_exprcode.specs.Applied.{applied, combines, on_many, on_three, on_
 use Rattle.psm_exprcode.specs.Comparison as comparison
 use Rattle.psm_exprcode.specs.Comparison.{among, between}
 use Rattle.psm_exprcode.specs.Values.{as_truth, like}
-use Rattle.psm_exprcode.specs.Evaluated.{goes_on, place_after, ran, Outcome}
+use Rattle.psm_exprcode.specs.Evaluated.{goes_on, line_after, ran, Outcome}
 use Rattle.psm_tablecode.specs.Tests.{are_quiet, fixed, free, free_before, is_and, is_column, is_equality, is_quiet, takes}
 
 -- whether the truth values among operands are true
@@ -246,14 +246,14 @@ module _ (row vars : List Datum) where
   abbrev pub run : ℕ → List Line → List Operand → Outcome
   run n lines os = ran row vars n n lines os
 
-  pub run_first : (n : ℕ) (l : Line) (lines : List Line) (os : List Operand) → run n (l ∷ lines) os ≡ goes_on (applied l.op os row vars) (λ next. ran row vars (suc n) (place_after n next) lines)
+  pub run_first : (n : ℕ) (l : Line) (lines : List Line) (os : List Operand) → run n (l ∷ lines) os ≡ goes_on (applied l.op os row vars) (λ next. ran row vars (suc n) (line_after n next) lines)
   run_first n l lines os =
-      ap (λ (b : Bool). if b then goes_on (applied l.op os row vars) (λ next. ran row vars (suc n) (place_after n next) lines) else ran row vars (suc n) n lines os) (eq-eqb n n refl)
+      ap (λ (b : Bool). if b then goes_on (applied l.op os row vars) (λ next. ran row vars (suc n) (line_after n next) lines) else ran row vars (suc n) n lines os) (eq-eqb n n refl)
 
   -- ---- nothing is raised
 
   quiet_on : (n : ℕ) (lines : List Line) (os : List Operand) (s : List ℕ) (o : Op) (a : Applied) → Goes o os a → ((new : List Operand) → run (suc n) lines new ≡ Some (Err s) → ⊥)
-      → goes_on a (λ next. ran row vars (suc n) (place_after n next) lines) ≡ Some (Err s) → ⊥
+      → goes_on a (λ next. ran row vars (suc n) (line_after n next) lines) ≡ Some (Err s) → ⊥
   quiet_on n lines os s o (Went Ahead new) g rest e = rest new e
   quiet_on n lines os s o (Went (Jump p) new) g rest e = g
   quiet_on n lines os s o (Raised state) g rest e = g
@@ -273,7 +273,7 @@ module _ (row vars : List Datum) where
   abbrev pub Meets : ℕ → List Line → List Operand → Type 0
   Meets n lines os = run n lines os ≡ Some (Ok (Truth True))
 
-  meets_on : (n : ℕ) (lines : List Line) (os : List Operand) (o : Op) (a : Applied) → Goes o os a → goes_on a (λ next. ran row vars (suc n) (place_after n next) lines) ≡ Some (Ok (Truth True))
+  meets_on : (n : ℕ) (lines : List Line) (os : List Operand) (o : Op) (a : Applied) → Goes o os a → goes_on a (λ next. ran row vars (suc n) (line_after n next) lines) ≡ Some (Ok (Truth True))
       → (new : List Operand) × (a ≡ Went Ahead new) × Meets (suc n) lines new
   meets_on n lines os o (Went Ahead new) g e = (new, refl, e)
   meets_on n lines os o (Went (Jump p) new) g e = absurd g

@@ -17,7 +17,7 @@ use Rattle.psm_exprcode.specs.Applied.{applied, on_three, on_two, on_value, with
 use Rattle.psm_exprcode.specs.Comparison.{unless_equal}
 use Rattle.psm_exprcode.specs.Texts.{trim_of}
 use Rattle.psm_exprcode.specs.Values.{concatenated, length_of, on_text, part_from, part_of, position_of, rescaled}
-use Rattle.psm_exprcode.specs.Evaluated.{ended, evaluated, goes_on, place_after, ran, Outcome}
+use Rattle.psm_exprcode.specs.Evaluated.{ended, evaluated, goes_on, line_after, ran, Outcome}
 use Rattle.psm_exprcode.specs.Fits.{are_values, finds, Fits, IsNamed, IsWithin}
 use Rattle.psm_exprcode.specs.WellFormed.{is_type}
 use Rattle.psm_exprcode.proofs.Types.{type_within}
@@ -247,7 +247,7 @@ module _ (row vars : List Datum) where
   AllGoOn (o ∷ ops) = GoesOn o × AllGoOn ops
 
   ran_on : (n : ℕ) (lines : List Line) (a : Applied) → Straight a → ((os : List Operand) → run row vars (suc n) lines os ≡ straight_on (ops_of lines) os)
-      → goes_on a (λ next. ran row vars (suc n) (place_after n next) lines) ≡ goes_on a (λ next. straight_on (ops_of lines))
+      → goes_on a (λ next. ran row vars (suc n) (line_after n next) lines) ≡ goes_on a (λ next. straight_on (ops_of lines))
   ran_on n lines (Went Ahead os) s h = h os
   ran_on n lines (Went (Jump p) os) s h = absurd s
   ran_on n lines (Raised state) s h = refl
