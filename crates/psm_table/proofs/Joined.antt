@@ -10,7 +10,7 @@ use Rattle.std.specs.Ordering.{is_lt, is_gt, is_eq}
 use Rattle.psm_value.specs.declared.datum.Datum.{Datum}
 use Rattle.psm_table.specs.declared.map.Pair.{Pair}
 use Rattle.psm_table.specs.declared.map.Position.{Position}
-use Rattle.psm_table.specs.Place.{IsAt, StandsAt}
+use Rattle.psm_table.specs.PairPosition.{IsAt, StandsAt}
 use Rattle.psm_table.specs.Runs.{joined, AreRunsBut, IsIn, IsRun, IsTurn}
 use Rattle.psm_table.specs.Key.{key_order}
 use Rattle.psm_table.specs.Map.{AreAscending, exchanged, pair_with, pairs_above, pairs_below, value_of, with_pair, with_value}

@@ -11,7 +11,7 @@ use Rattle.psm_table.specs.declared.map.Pair.{Pair}
 use Rattle.psm_table.specs.Held.{live_rows, row_of, the_row, HasItsKey}
 use Rattle.psm_table.specs.Key.{key_order, row_order, values_at}
 use Rattle.psm_table.specs.Map.{AreAscending, exchanged, pair_with, pairs_above, pairs_below, with_pair, with_value}
-use Rattle.psm_table.specs.Place.{ahead}
+use Rattle.psm_table.specs.PairPosition.{ahead}
 use Rattle.psm_table.specs.Rows.{put, row_with, rows_above, rows_below, without}
 use Rattle.psm_table.proofs.KeyLaws.{key_order-refl, key_order-total}
 use Rattle.psm_table.proofs.Filters.{equal_is, none_some, filter-whole, filter-empty, AllPairs-rest}

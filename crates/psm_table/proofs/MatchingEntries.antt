@@ -20,7 +20,7 @@ use Rattle.psm_table.specs.declared.unique.Found.{Found}
 use Rattle.psm_table.specs.Keyed.{has_values}
 use Rattle.psm_table.specs.Map.{keys_of, pairs_above, pairs_from, prefix_order, AreAscending}
 use Rattle.psm_table.specs.Matching.{at_most_one, rows_with}
-use Rattle.psm_table.specs.Place.{ahead}
+use Rattle.psm_table.specs.PairPosition.{ahead}
 use Rattle.psm_table.specs.Rows.{row_with, IsAscending}
 use Rattle.psm_table.specs.State.{entry_of, HasEntry}
 use Rattle.psm_table.specs.MatchingEntries.{row_having, is_matching, matching_entries, IsFirst}

@@ -10,9 +10,9 @@ use Rattle.psm_value.specs.declared.datum.Datum.{Datum}
 use Rattle.psm_table.specs.declared.map.Pair.{Pair}
 use Rattle.psm_table.specs.Key.{key_order}
 use Rattle.psm_table.specs.Map.{AreAscending}
-use Rattle.psm_table.specs.Place.{IsAt, IsGap}
+use Rattle.psm_table.specs.PairPosition.{IsAt, IsGap}
 use Rattle.psm_table.proofs.KeyLaws.{key_order-total}
-use Rattle.psm_table.proofs.Places.{Between, at_place, at_gap}
+use Rattle.psm_table.proofs.PairPositions.{Between, at_place, at_gap}
 
 -- a smaller key than one that is less or equal
 pub less_before_less : (a b k : List Datum) → key_order a b ≡ Less → key_order b k ≡ Less → key_order a k ≡ Less

@@ -7,7 +7,7 @@ ghost use Rattle.psm_table.specs.Held.{entries_of, live_rows, row_of, HasItsKey,
 ghost use Rattle.psm_table.specs.Index.{is_current, is_entry, rival_at, AreEntered, AreHarmless, ArePrepared, ArePut, Grow, GrowByOne, HasRoom, HaveKeys, HaveRoom, IsPrepared, IsPut};
 ghost use Rattle.psm_table.specs.Key.{values_at, AreColumnsOf};
 ghost use Rattle.psm_table.specs.Map.{AreAscending};
-ghost use Rattle.psm_table.specs.Place.{probe_key, FitsProbe};
+ghost use Rattle.psm_table.specs.PairPosition.{probe_key, FitsProbe};
 ghost use Rattle.psm_table.specs.Rows.{IsAscending};
 ghost use Rattle.psm_table.specs.Unique.{agree, clashes, conflict, equal_value, has_null, is_null, is_rival};
 

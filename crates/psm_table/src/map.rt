@@ -4,7 +4,7 @@ ghost use Rattle.std.specs.Option.{option_copied, ForSome};
 ghost use Rattle.psm_table.specs.Held.{live_rows, row_of};
 ghost use Rattle.psm_table.specs.Key.{values_at, AreColumnsOf};
 ghost use Rattle.psm_table.specs.Map.{value_of, AreAscending, pairs_from, pairs_above, with_pair, with_value};
-ghost use Rattle.psm_table.specs.Place.{ahead, pairs_past, probe_key, FitsProbe, StandsAt};
+ghost use Rattle.psm_table.specs.PairPosition.{ahead, pairs_past, probe_key, FitsProbe, StandsAt};
 ghost use Rattle.psm_value.specs.declared.datum.Datum.{Datum};
 ghost use Rattle.psm_table.specs.declared.map.Pair.{Pair};
 ghost use Rattle.psm_table.specs.Runs.{joined, IsRun};

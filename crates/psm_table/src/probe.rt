@@ -5,7 +5,7 @@ ghost use Rattle.psm_num.specs.Order.{order};
 ghost use Rattle.psm_value.specs.Order.{data_order};
 ghost use Rattle.psm_table.specs.Key.{key_order};
 ghost use Rattle.psm_table.specs.Leading.{leading_of, number_at, number_of};
-ghost use Rattle.psm_table.specs.Place.{probe_key, FitsProbe};
+ghost use Rattle.psm_table.specs.PairPosition.{probe_key, FitsProbe};
 ghost use Rattle.psm_table.specs.Side.{side_value};
 
 use crate::leading::Leading;

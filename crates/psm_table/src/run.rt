@@ -9,7 +9,7 @@ ghost use Rattle.psm_table.specs.Held.{row_of};
 ghost use Rattle.psm_table.specs.Key.{key_order, values_at, AreColumnsOf};
 ghost use Rattle.psm_table.specs.Leading.{leading_of};
 ghost use Rattle.psm_table.specs.Map.{value_of, pairs_from, pairs_above, with_pair, with_value, AreAscending};
-ghost use Rattle.psm_table.specs.Place.{probe_key, FitsProbe, IsAt, IsGap};
+ghost use Rattle.psm_table.specs.PairPosition.{probe_key, FitsProbe, IsAt, IsGap};
 ghost use Rattle.psm_value.specs.declared.datum.Datum.{Datum};
 ghost use Rattle.psm_table.specs.declared.map.Pair.{Pair};
 ghost use Rattle.psm_table.specs.Runs.{begins, head_of, most_pairs, IsRun};

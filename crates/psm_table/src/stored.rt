@@ -5,7 +5,7 @@ ghost use Rattle.psm_table.specs.Cuts.{is_past};
 ghost use Rattle.psm_table.specs.Key.{key_order, values_at, AreColumnsOf};
 ghost use Rattle.psm_table.specs.Leading.{leading_of};
 ghost use Rattle.psm_table.specs.Map.{prefix_order};
-ghost use Rattle.psm_table.specs.Place.{probe_key, FitsProbe};
+ghost use Rattle.psm_table.specs.PairPosition.{probe_key, FitsProbe};
 
 use crate::leading::Leading;
 use crate::probe::{Probe, order_of, order_of_numbers};

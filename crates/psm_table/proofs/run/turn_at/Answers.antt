@@ -1,7 +1,7 @@
 use Rattle.std.proofs.Common.{ap, sym, ◌∙◌, arith, ◌+◌, ◌-◌, ◌/◌}
 use Rattle.psm_table.specs.Cuts.{is_past}
 use Rattle.psm_table.specs.declared.map.Pair.{Pair}
-use Rattle.psm_table.specs.Place.{probe_key}
+use Rattle.psm_table.specs.PairPosition.{probe_key}
 use Rattle.psm_table.proofs.Halves.{parted_fail, parted_pass, parted_drop, parted_inside, parted_take}
 use Rattle.psm_table.proofs.Walks.{up-past}
 use Rattle.psm_table.proofs.run.turn_at.Goals as goal

@@ -1,7 +1,7 @@
 use Rattle.std.proofs.Common.{◌≡◌, [], get_or, ap, sym, subst, ◌∙◌, arith, ◌+◌, ◌-◌, ◌/◌, true, false}
 use Rattle.std.proofs.lemmas.List.{get_or_default}
 use Rattle.psm_table.specs.Cuts.{is_past}
-use Rattle.psm_table.specs.Place.{probe_key}
+use Rattle.psm_table.specs.PairPosition.{probe_key}
 use Rattle.psm_table.specs.Runs.{begins, IsTurn}
 use Rattle.psm_table.proofs.Turns.{cut_fail, cut_pass, turn_end}
 use Rattle.psm_table.proofs.Walks.{up-past}

@@ -1,6 +1,6 @@
 use Rattle.std.proofs.Common.{◌-◌}
 use Rattle.psm_table.specs.Cuts.{is_past}
-use Rattle.psm_table.specs.Place.{probe_key}
+use Rattle.psm_table.specs.PairPosition.{probe_key}
 use Rattle.psm_table.specs.Runs.{IsCut}
 use Rattle.psm_table.proofs.runs.locate_past.Given as goal
 

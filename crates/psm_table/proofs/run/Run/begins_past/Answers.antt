@@ -1,6 +1,6 @@
 use Rattle.std.proofs.Common.{ap, ◌∙◌}
 use Rattle.psm_table.specs.Leading.{leading_order}
-use Rattle.psm_table.specs.Place.{probe_key}
+use Rattle.psm_table.specs.PairPosition.{probe_key}
 use Rattle.psm_table.specs.Runs.{head_of}
 use Rattle.psm_table.proofs.Heads.{head_short, head_past}
 use Rattle.psm_table.proofs.run.Run.begins_past.Goals as goal

@@ -5,7 +5,7 @@ use Rattle.psm_table.specs.Definition.{IsRow}
 use Rattle.psm_table.specs.Held.{entries_of, row_of, state_of, IsEntered}
 use Rattle.psm_table.specs.Key.{values_at}
 use Rattle.psm_table.specs.Map.{value_of, with_value}
-use Rattle.psm_table.specs.Place.{StandsAt}
+use Rattle.psm_table.specs.PairPosition.{StandsAt}
 use Rattle.psm_table.specs.declared.map.Pair.{Pair}
 use Rattle.psm_table.specs.declared.map.Position.{Position}
 use Rattle.psm_table.specs.State.{State, StillKeeps}
