@@ -198,9 +198,9 @@ impl Condition {
             return Ok(item.of(alloc, 1, &self.first)?);
         }
         for (at, entry) in self.others.items().iter().enumerate() {
-            let place = at as u32 + 2;
-            if is_number(number, place) {
-                return Ok(item.of(alloc, place, entry)?);
+            let position = at as u32 + 2;
+            if is_number(number, position) {
+                return Ok(item.of(alloc, position, entry)?);
             }
         }
         Err(AreaFault::Number)

@@ -174,7 +174,7 @@ fn pops(alloc: Global, run: &mut Run, count: u128) -> Result<List<Datum>, Stop>
     ensures same { SameFrames run.old run.new }
 {
     let mut values = Vec::new(alloc);
-    for place in 0..count {
+    for index in 0..count {
         values.push(pop(run)?)?;
     }
     values.reverse();
@@ -193,7 +193,7 @@ fn in_rows(
     let mut rest = values.into_vec();
     rest.reverse();
     let mut made = Vec::new(alloc);
-    for place in 0..rows {
+    for index in 0..rows {
         made.push(first_values(alloc, width, &mut rest)?)?;
     }
     Ok(List::of(made))
@@ -205,7 +205,7 @@ fn first_values(alloc: Global, width: usize, rest: &mut Vec<Datum>) -> Result<Ro
     ensures left { IfOk result (λ row. reverse rest.new.items ≡ drop width (reverse rest.old.items)) }
 {
     let mut row = Vec::new(alloc);
-    for place in 0..width {
+    for index in 0..width {
         let Some(value) = rest.pop() else {
             return Ok(Row::of(row));
         };
@@ -240,8 +240,8 @@ fn new_row(
 {
     let all = def.columns.items();
     let mut row = Vec::new(alloc);
-    for place in 0..all.len() {
-        let value = value_for(place, columns, values, &all[place].default);
+    for index in 0..all.len() {
+        let value = value_for(index, columns, values, &all[index].default);
         row.push(value.copy(alloc)?)?;
     }
     Ok(Row::of(row))
@@ -249,18 +249,18 @@ fn new_row(
 
 // The value for the column at a place, or its DEFAULT.
 fn value_for<'a>(
-    place: usize,
+    index: usize,
     columns: &[u32],
     values: &'a [Datum],
     default: &'a Datum,
 ) -> &'a Datum
-    ensures { result.now ≡ value_for place columns.now values.now default.now }
+    ensures { result.now ≡ value_for index columns.now values.now default.now }
 {
     for at in 0..columns.len() {
         if at >= values.len() {
             return default;
         }
-        if columns[at] as usize == place {
+        if columns[at] as usize == index {
             return &values[at];
         }
     }

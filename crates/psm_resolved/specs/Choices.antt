@@ -61,9 +61,9 @@ branched is_compared whens h row vars os = chosen_move is_compared (map (when_va
 
 -- the lines of WHENs, with jumps to the end at those places
 abbrev pub WritesWhens : List Letter → List Letter → Letter → Bool → List ResolvedWhen → List ℕ → Written → Written → Type 0
-WritesWhens columns variables letter is_compared whens places old new =
+WritesWhens columns variables letter is_compared whens indexes old new =
     list_all (λ s. fits_test is_compared old.stack s.0) (map (when_row_type columns variables) whens) ≡ true → list_all (λ s. goes_as letter s.1) (map (when_row_type columns variables) whens) ≡ true
-    → Pends (is_of_kind columns variables) (letter ∷ old.stack) op.Jump (branched is_compared whens) places old new
+    → Pends (is_of_kind columns variables) (letter ∷ old.stack) op.Jump (branched is_compared whens) indexes old new
 
 -- ---- ELSE
 

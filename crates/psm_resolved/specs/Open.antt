@@ -27,11 +27,11 @@ pub record Open (may : Op → Letter → Bool) (s t : List Letter) (pc next : �
 
 -- Lines are written that leave the operands as they are, with jumps at those places. Once their place e is filled in they are
 -- an open block.
-pub record Pends (may : Op → Letter → Bool) (t : List Letter) (jump : ℕ → Op) (move : Move → Move) (places : List ℕ) (old new : Written) : Type 0 where
+pub record Pends (may : Op → Letter → Bool) (t : List Letter) (jump : ℕ → Op) (move : Move → Move) (indexes : List ℕ) (old new : Written) : Type 0 where
   pub lines : List Line
   pub filled : ℕ → List Line
   pub added : new.lines ≡ old.lines ++ lines
   pub letters : new.stack ≡ old.stack
   pub as_many : (e : ℕ) → length (filled e) ≡ length lines
-  pub fills : (e : ℕ) (before more : List Line) → length before ≡ length old.lines → patched (jump e) places (before ++ (lines ++ more)) ≡ before ++ (filled e ++ more)
+  pub fills : (e : ℕ) (before more : List Line) → length before ≡ length old.lines → patched (jump e) indexes (before ++ (lines ++ more)) ≡ before ++ (filled e ++ more)
   pub opens : Open may old.stack t (length old.lines) (length new.lines) filled move

@@ -86,8 +86,8 @@ likened a pattern None = of_two (λ t p. decided (like t p)) a pattern
 likened a pattern (Some escape) = of_three (λ t p e. decided (like_escaped t p e)) a pattern escape
 
 abbrev pub part : Outcome → Outcome → Option Outcome → Outcome
-part a place None = of_two (λ t p. valued (part_from t p)) a place
-part a place (Some count) = of_three (λ t p c. valued (part_of t p c)) a place count
+part a index None = of_two (λ t p. valued (part_from t p)) a index
+part a index (Some count) = of_three (λ t p c. valued (part_of t p c)) a index count
 
 -- ---- CASE
 

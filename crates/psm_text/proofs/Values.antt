@@ -28,16 +28,16 @@ stands_past part other = past (other - 1)
     past (suc n) = refl
 
 -- the part stands at once
-at_once : (part t : List ℕ) (place : ℕ) → starts_with nat_eq t part ≡ true → IsPosition part t place → place ≡ 1
+at_once : (part t : List ℕ) (position : ℕ) → starts_with nat_eq t part ≡ true → IsPosition part t position → position ≡ 1
 at_once part t zero h p = absurd (true≢false (sym h ∙ p.none refl 1 (omega arith)))
 at_once part t (suc zero) h p = refl
-at_once part t (suc (suc place)) h p = absurd (true≢false (sym h ∙ p.first 1 (omega arith) (omega arith)))
+at_once part t (suc (suc position)) h p = absurd (true≢false (sym h ∙ p.first 1 (omega arith) (omega arith)))
 
-never : (part : List ℕ) (place : ℕ) → starts_with nat_eq [] part ≡ false → IsPosition part [] place → place ≡ 0
+never : (part : List ℕ) (position : ℕ) → starts_with nat_eq [] part ≡ false → IsPosition part [] position → position ≡ 0
 never part zero h p = refl
-never part (suc place) h p = absurd (true≢false (sym (p.found (omega arith)) ∙ stands_past part (suc place) ∙ h))
+never part (suc position) h p = absurd (true≢false (sym (p.found (omega arith)) ∙ stands_past part (suc position) ∙ h))
 
-later : (part t : List ℕ) (c place : ℕ) → starts_with nat_eq (c ∷ t) part ≡ false → IsPosition part (c ∷ t) place → (other : ℕ) × IsPosition part t other × (place ≡ one_on other)
+later : (part t : List ℕ) (c position : ℕ) → starts_with nat_eq (c ∷ t) part ≡ false → IsPosition part (c ∷ t) position → (other : ℕ) × IsPosition part t other × (position ≡ one_on other)
 later part t c zero h p = (
   0,
   record {
@@ -48,25 +48,25 @@ later part t c zero h p = (
   refl,
 )
 later part t c (suc zero) h p = absurd (true≢false (sym (p.found (omega arith)) ∙ h))
-later part t c (suc (suc place)) h p = (
-  suc place,
+later part t c (suc (suc position)) h p = (
+  suc position,
   record {
-    found = λ l. sym (stands_on part t c (suc place) l) ∙ p.found (omega arith);
+    found = λ l. sym (stands_on part t c (suc position) l) ∙ p.found (omega arith);
     first = λ k l m. sym (stands_on part t c k l) ∙ p.first (suc k) (omega arith) (omega (arith, m));
     none = λ z. absurd (omega (arith, z));
   },
   refl,
 )
 
-pub position_is : (part t : List ℕ) (place : ℕ) → IsPosition part t place → place ≡ position_of part t
-position_is part [] place p = elim (cases_Bool (starts_with nat_eq [] part)) as (λ _. place ≡ position_of part []) [
-  | inl h ↦ at_once part [] place h p ∙ sym (ap (λ b. cond b 1 0) h)
-  | inr h ↦ never part place h p ∙ sym (ap (λ b. cond b 1 0) h)
+pub position_is : (part t : List ℕ) (position : ℕ) → IsPosition part t position → position ≡ position_of part t
+position_is part [] position p = elim (cases_Bool (starts_with nat_eq [] part)) as (λ _. position ≡ position_of part []) [
+  | inl h ↦ at_once part [] position h p ∙ sym (ap (λ b. cond b 1 0) h)
+  | inr h ↦ never part position h p ∙ sym (ap (λ b. cond b 1 0) h)
 ]
-position_is part (c ∷ t) place p = elim (cases_Bool (starts_with nat_eq (c ∷ t) part)) as (λ _. place ≡ position_of part (c ∷ t)) [
-  | inl h ↦ at_once part (c ∷ t) place h p ∙ sym (ap (λ b. cond b 1 (one_on (position_of part t))) h)
+position_is part (c ∷ t) position p = elim (cases_Bool (starts_with nat_eq (c ∷ t) part)) as (λ _. position ≡ position_of part (c ∷ t)) [
+  | inl h ↦ at_once part (c ∷ t) position h p ∙ sym (ap (λ b. cond b 1 (one_on (position_of part t))) h)
   | inr h ↦
-      let o = later part t c place h p in
+      let o = later part t c position h p in
       o.2 ∙ ap one_on (position_is part t o.0 o.1) ∙ sym (ap (λ b. cond b 1 (one_on (position_of part t))) h)
 ]
 

@@ -61,13 +61,13 @@ impl<'a> Placed<'a> {
         &self,
         alloc: Global,
         end: Option<Letter>,
-        place: usize,
+        index: usize,
         puts: Letters,
         rest: &[Letter],
     ) -> Result<bool, AllocError>
-        ensures { IfOk result (λ b. b ≡ rules.are_stated_at end (slice_get self.now.lines.now place) (letters_of puts ++ rest.now)) }
+        ensures { IfOk result (λ b. b ≡ rules.are_stated_at end (slice_get self.now.lines.now index) (letters_of puts ++ rest.now)) }
     {
-        match stated_at(alloc, self.lines, place)? {
+        match stated_at(alloc, self.lines, index)? {
             Some(stated) => Ok(are_stated(puts, rest, stated.as_slice())),
             None => Ok(is_asked(end, puts, rest)),
         }
@@ -101,7 +101,7 @@ impl<'a> Placed<'a> {
         ensures { IfOk result (λ b. b ≡ rules.jumps_on end self.now.lines.now (option_map jump_of jump) rest.now) }
     {
         match jump {
-            Some((place, puts)) => self.lands(alloc, end, place as usize, puts, rest),
+            Some((index, puts)) => self.lands(alloc, end, index as usize, puts, rest),
             None => Ok(true),
         }
     }
@@ -189,8 +189,8 @@ impl<'a> Placed<'a> {
         ensures { result ≡ is_of_known self.now.columns.now self.now.variables.now op.now kind }
     {
         match op {
-            Op::Variable(place) => is_known(kind, self.variables, *place as usize),
-            Op::Column(place) => is_known(kind, self.columns, *place as usize),
+            Op::Variable(index) => is_known(kind, self.variables, *index as usize),
+            Op::Column(index) => is_known(kind, self.columns, *index as usize),
             _ => true,
         }
     }
@@ -264,8 +264,8 @@ impl<'a> Placed<'a> {
         ensures { result ≡ rules.names_there self.now.columns.now self.now.variables.now op.now }
     {
         match op {
-            Op::Variable(place) => (*place as usize) < self.variables.len(),
-            Op::Column(place) => (*place as usize) < self.columns.len(),
+            Op::Variable(index) => (*index as usize) < self.variables.len(),
+            Op::Column(index) => (*index as usize) < self.columns.len(),
             _ => true,
         }
     }
@@ -395,7 +395,7 @@ fn target_of(op: &Op) -> Option<u32>
     ensures { result ≡ rules.target_of op.now }
 {
     match op {
-        Op::Jump(place) | Op::JumpUnlessTrue(place) | Op::JumpUnlessNull(place) => Some(*place),
+        Op::Jump(index) | Op::JumpUnlessTrue(index) | Op::JumpUnlessNull(index) => Some(*index),
         _ => None,
     }
 }
@@ -404,7 +404,7 @@ fn is_within(target: Option<u32>, count: usize) -> bool
     ensures { result ≡ where_there target (λ p. nat_le p count) }
 {
     match target {
-        Some(place) => place as usize <= count,
+        Some(index) => index as usize <= count,
         None => true,
     }
 }
@@ -413,7 +413,7 @@ fn is_ahead(at: usize, target: Option<u32>) -> bool
     ensures { result ≡ where_there target (nat_lt at) }
 {
     match target {
-        Some(place) => at < place as usize,
+        Some(index) => at < index as usize,
         None => true,
     }
 }
@@ -443,7 +443,7 @@ fn is_at(count: usize, target: Option<u32>) -> bool
     ensures { result ≡ rules.is_at count target }
 {
     match target {
-        Some(place) => place as usize == count,
+        Some(index) => index as usize == count,
         None => false,
     }
 }

@@ -125,7 +125,7 @@ linked-loop-chain_link-preserved t c = linked_next_drafted (take c.loop-chain_li
 pub arguments-loop-item-preserved : goal.arguments-loop-item-preserved
 arguments-loop-item-preserved t c =
     let many : length (take c.loop-item.item-index c.items-item-items.result.now) ≡ c.loop-item.item-index = omega (arith, length-take c.loop-item.item-index c.items-item-items.result.now, c.loop-item-test.true) in
-    (omega (arith, c.loop-item.invariant.0), two c.loop-item.invariant.1 c.in_ok-expr.ensures (λ σ x y. argument_next c.args.letters.now (take c.loop-item.item-index c.items-item-items.result.now) (take (c.loop-item.item-index + 1) c.items-item-items.result.now) c.get.result.now c.loop-item.place c.letter_at-letter.result (next_item c.items-item-items.result.now c.loop-item.item-index c.item-item.result c.get.result.now c.loop-item-test.true c.item-item.is c.get.ensures) (c.loop-item.invariant.0 ∙ sym many) c.letter_at-letter.ensures x y))
+    (omega (arith, c.loop-item.invariant.0), two c.loop-item.invariant.1 c.in_ok-expr.ensures (λ σ x y. argument_next c.args.letters.now (take c.loop-item.item-index c.items-item-items.result.now) (take (c.loop-item.item-index + 1) c.items-item-items.result.now) c.get.result.now c.loop-item.index c.letter_at-letter.result (next_item c.items-item-items.result.now c.loop-item.item-index c.item-item.result c.get.result.now c.loop-item-test.true c.item-item.is c.get.ensures) (c.loop-item.invariant.0 ∙ sym many) c.letter_at-letter.ensures x y))
 
 pub several-loop-item-init : goal.several-loop-item-init
 several-loop-item-init t c = subst (λ x. Drafted (λ σ. WritesAll c.args.emit_context.known.now c.args.emit_context.context (σ c.args.emit_context.resume) (x ∷ [])) c.args.out.now c.expr.new.out) (first_same c.list.view_is c.get.ensures) (more_drafted c.in_ok-expr.ensures none_drafted)

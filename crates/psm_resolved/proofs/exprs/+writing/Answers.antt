@@ -20,7 +20,7 @@ pub expr-returns-in_ok-copy-in-Text : goal.expr-returns-in_ok-copy-in-Text
 expr-returns-in_ok-copy-in-Text t c = text_written c.args.expr_context.columns.now c.args.expr_context.variables.now c.args.e.now c.in_ok-copy-in-Text.field-0 c.args.out.now c.apply-in-Text.new.self c.apply-in-Text.result (c.in-Text.is ∙ ap exprs.Text (sym c.in_ok-copy-in-Text.ensures)) c.apply-in-Text.ensures
 
 pub expr-returns-in-Column : goal.expr-returns-in-Column
-expr-returns-in-Column t c = column_written c.args.expr_context.columns.now c.args.expr_context.variables.now c.args.e.now c.in-Column.place c.letter_at-letter.result c.args.out.now c.apply-in-Column.new.self c.apply-in-Column.result c.in-Column.is c.letter_at-letter.ensures c.apply-in-Column.ensures
+expr-returns-in-Column t c = column_written c.args.expr_context.columns.now c.args.expr_context.variables.now c.args.e.now c.in-Column.index c.letter_at-letter.result c.args.out.now c.apply-in-Column.new.self c.apply-in-Column.result c.in-Column.is c.letter_at-letter.ensures c.apply-in-Column.ensures
 
 pub expr-returns-in-Variable : goal.expr-returns-in-Variable
 expr-returns-in-Variable t c = variable_written c.args.expr_context.columns.now c.args.expr_context.variables.now c.args.e.now c.in-Variable.slot c.letter_at-letter-in-Variable.result c.args.out.now c.apply-in-Variable.new.self c.apply-in-Variable.result c.in-Variable.is c.letter_at-letter-in-Variable.ensures c.apply-in-Variable.ensures

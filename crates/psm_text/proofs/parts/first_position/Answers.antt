@@ -1,6 +1,6 @@
 use Rattle.std.proofs.Common.{refl}
-use Rattle.psm_text.proofs.Places.{searching_on}
-use Rattle.psm_text.proofs.parts.first_place.Goals as goal
+use Rattle.psm_text.proofs.Positions.{searching_on}
+use Rattle.psm_text.proofs.parts.first_position.Goals as goal
 
 pub loop-left-preserved : goal.loop-left-preserved
 loop-left-preserved c =

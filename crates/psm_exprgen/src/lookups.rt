@@ -6,30 +6,30 @@ use psm_exprcode::Letter;
 use psm_list::List;
 
 /// The letter at a place; that of a number where there is none.
-pub fn letter_at(letters: &[Letter], place: usize) -> Letter
-    ensures { result ≡ letter_there letters.now place }
+pub fn letter_at(letters: &[Letter], index: usize) -> Letter
+    ensures { result ≡ letter_there letters.now index }
 {
-    match letters.get(place) {
+    match letters.get(index) {
         Some(letter) => *letter,
         None => Letter::N,
     }
 }
 
 /// The letters at a place; none where there are none.
-pub fn letters_at(lists: &[List<Letter>], place: u32) -> &[Letter]
-    ensures { result.now ≡ letters_there lists.now place }
+pub fn letters_at(lists: &[List<Letter>], index: u32) -> &[Letter]
+    ensures { result.now ≡ letters_there lists.now index }
 {
-    match lists.get(place as usize) {
+    match lists.get(index as usize) {
         Some(letters) => letters.items(),
         None => &[],
     }
 }
 
 /// The number at a place, or 0.
-pub fn number_at(numbers: &[u32], place: u32) -> u32
-    ensures { result ≡ number_there (slice_get numbers.now place) }
+pub fn number_at(numbers: &[u32], index: u32) -> u32
+    ensures { result ≡ number_there (slice_get numbers.now index) }
 {
-    match numbers.get(place as usize) {
+    match numbers.get(index as usize) {
         Some(number) => *number,
         None => 0,
     }
