@@ -71,7 +71,7 @@ names_are_there c v (op.Variable i) t h = named_in (slice_get v i) t h
 names_are_there c v (op.Column i) t h = named_in (slice_get c i) t h
 names_are_there c v o t h = refl
 
--- ---- the lines from a place on
+-- ---- the lines from an index on
 
 pub record Tail (lines : List Line) (at : ℕ) (rest : List Line) : Type 0 where
   pub same : (d p : ℕ) → p ≡ at + d → slice_get lines p ≡ slice_get rest d

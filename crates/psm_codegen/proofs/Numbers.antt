@@ -19,7 +19,7 @@ AreFunctions file known = (function : ℕ) (routine : ResolvedRoutine) → funct
 abbrev pub AreProcedures : ResolvedFile → Known → Type 0
 AreProcedures file known = (procedure : ℕ) (routine : ResolvedRoutine) → procedure_at file procedure ≡ Some routine → slice_get file.routines (procedure_number known procedure) ≡ Some routine
 
--- the number at that place is that of this routine, where the first of the routines has the number n
+-- the number at that index is that of this routine, where the first of the routines has the number n
 abbrev Numbered : List ℕ → List ResolvedRoutine → ℕ → ℕ → ResolvedRoutine → Type 0
 Numbered numbers routines n index routine = (i : ℕ) × (slice_get numbers index ≡ Some (n + i)) × (slice_get routines i ≡ Some routine)
 

@@ -29,7 +29,7 @@ pub(crate) fn call_arguments(
     Ok(())
 }
 
-/// Writes an argument for the parameter at a place among those that take one, and gives back the place of the next one.
+/// Writes an argument for the parameter at an index among those that take one, and gives back the index of the next one.
 fn call_argument(
     out: &mut Writer,
     emit_context: EmitContext<'_>,

@@ -299,7 +299,7 @@ fn patched(code: Writer, contexts: Vec<Context>) -> (Lines, List<Query>, Vec<Con
     (lines, queries, contexts)
 }
 
-/// A place in a list as a number. More than fit in 32 bits count as out of memory.
+/// An index in a list as a number. More than fit in 32 bits count as out of memory.
 pub(crate) fn numbered(index: usize) -> Result<u32, AllocError>
     ensures { IfOk result (λ number. number ≡ index) }
 {
@@ -309,7 +309,7 @@ pub(crate) fn numbered(index: usize) -> Result<u32, AllocError>
     }
 }
 
-/// The number after a place in a list.
+/// The number after an index in a list.
 pub(crate) fn following(index: usize) -> Result<u32, AllocError>
     ensures { IfOk result (λ number. number ≡ suc index) }
 {

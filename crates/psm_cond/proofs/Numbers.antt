@@ -9,7 +9,7 @@ use Rattle.psm_cond.specs.declared.fault.AreaFault.TheVariants as fault
 use Rattle.psm_cond.specs.declared.item.ConditionItem.{ConditionItem}
 use Rattle.psm_cond.specs.Item.{IsNumber, GivesItem, entry_item}
 
--- no entry whose number is the value stands before a place
+-- no entry whose number is the value stands before an index
 abbrev pub None_before : Datum → ℕ → Type 0
 None_before value position = (n : ℕ) → n < position → IsNumber value (suc n) → ⊥
 

@@ -28,7 +28,7 @@ abbrev pub IsWithin : ℕ → Verdict → Type 0
 IsWithin n (Kept b) = Unit {0}
 IsWithin n (Raised index state) = index < n
 
--- with the row at a place more: of two rows that raise a condition the first by its key counts
+-- with the row at an index more: of two rows that raise a condition the first by its key counts
 abbrev pub verdict_with : List ℕ → List (List Datum) → Verdict → ℕ → Result Bool SqlState → Verdict
 verdict_with key rows (Kept b) at (Ok holds) = Kept (b && holds)
 verdict_with key rows (Kept b) at (Err state) = Raised at state

@@ -21,7 +21,7 @@ use std::cmp::Ordering;
 pub(crate) enum Verdict {
     /// No CHECK raised a condition, and whether each held.
     Kept(bool),
-    /// The place of the row whose condition counts, and the condition.
+    /// The index of the row whose condition counts, and the condition.
     Raised(usize, SqlState),
 }
 

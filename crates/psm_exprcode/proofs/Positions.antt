@@ -1,4 +1,4 @@
--- The place of a part is the one that the search from place to place finds.
+-- The position of a part is the one that the search from position to position finds.
 use Rattle.std.proofs.Common.{◌≡◌, ℕ, zero, suc, ◌+◌, ◌-◌, ◌<◌, ◌≤◌, Bool, true, false, List, [], ◌∷◌, drop, nat_eq, refl, ap, sym, ◌∙◌, arith}
 use Rattle.std.specs.Prelude.{if◌then◌else◌}
 use Rattle.std.specs.List.{starts_with}
@@ -6,7 +6,7 @@ use Rattle.std.proofs.Math.Seq.{drop-nil}
 use Rattle.psm_text.specs.Parts.{IsPosition}
 use Rattle.psm_exprcode.specs.Texts.{first_position, first_position_from}
 
--- the place, if it isn't 0, is the first from k on at which the part stands, where the text begins at k
+-- the position, if it isn't 0, is the first from k on at which the part stands, where the text begins at k
 record FirstFrom (k : ℕ) (part t : List ℕ) (position : ℕ) : Type 0 where
   pub low : 0 < position → k ≤ position
   pub found : (j : ℕ) → 0 < position → position ≡ k + j → starts_with nat_eq (drop j t) part ≡ true

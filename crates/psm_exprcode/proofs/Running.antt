@@ -27,7 +27,7 @@ use Rattle.psm_exprcode.proofs.Standing.{Leads}
 use Rattle.psm_exprcode.proofs.Stepping.{names, of_kind-names, op_leads, op_fits}
 use Rattle.psm_exprcode.proofs.Stripping.{is_letter-same, left_of-some}
 
--- ---- places
+-- ---- indexes
 
 -- whether the operands are those that a line states, or one of the letter at the end
 abbrev pub landed : Letter → Option Line → Bool → List Operand → Bool
@@ -52,7 +52,7 @@ stated_landed end None false s os h d = absurd (cc)
 lands_stands : (end : Letter) (lines : List Line) (distance : ℕ) (s : List Letter) (os : List Operand) → lands end lines distance s ≡ true → have s os ≡ true → stands end lines distance os ≡ true
 lands_stands end lines distance s os h d = stated_landed end (slice_get lines distance) (nat_eq distance (length lines)) s os h d
 
--- the operands are those of the place to which an operation at a place goes on
+-- the operands are those of the index to which an operation at an index goes on
 abbrev pub Lands : Letter → ℕ → List Line → Next → List Operand → Type 0
 Lands end at after next os = (suc at ≤ line_after at next) × (stands end after (line_after at next - suc at) os ≡ true)
 
@@ -137,7 +137,7 @@ leads_goes end at puts branching rest after Stuck h g d = absurd d
 
 -- ---- lines
 
--- from the place of a line on, lines that are right, and operands of the place pc
+-- from the index of a line on, lines that are right, and operands of the index pc
 pub record Runs (row vars : List Datum) (end : Letter) (at pc : ℕ) (lines : List Line) (os : List Operand) : Type 0 where
   pub may : Op → Letter → Bool
   pub known : (o : Op) (k : Letter) → may o k ≡ true → names row vars o k ≡ true
@@ -166,7 +166,7 @@ line_fits row vars end at pc l after os h e =
     let w = line_successor row vars end at pc l after os h in
     op_fits l.op w.kind w.other w.rest os row vars w.is_kind w.bounds (h.known l.op w.kind w.allowed) (ap (λ s. have s os) (sym w.below) ∙ line_here row vars end at pc l after os h e)
 
--- the operands of the place to which the line goes on
+-- the operands of the index to which the line goes on
 line_next : (row vars : List Datum) (end : Letter) (at pc : ℕ) (l : Line) (after : List Line) (os us : List Operand) (next : Next) → Runs row vars end at pc (l ∷ after) os → Lands end at after next us
     → Runs row vars end (suc at) (line_after at next) after us
 line_next row vars end at pc l after os us next h g = record {
@@ -329,7 +329,7 @@ going_past row vars lines at pc l os h e g q = next_index row vars lines at pc o
   runs = line_passed row vars g.end at pc l (drop (suc at) lines) os (runs_first row vars lines at pc l os h e g) q;
 })
 
--- ---- the operation of a line, found by its place
+-- ---- the operation of a line, found by its index
 
 none_past : (lines : List Line) (at : ℕ) → slice_get lines at ≡ None → length lines ≤ at
 none_past [] at h = omega arith
@@ -353,7 +353,7 @@ op_none lines at e = by (slice_get lines at) refl e where
   by None g h = g
   by (Some l) g h = absurd (cc)
 
--- a place after a line's is that of a line, or the end
+-- an index after a line's is that of a line, or the end
 reaches : (end : Letter) (lines : List Line) (d : ℕ) (os : List Operand) → stands end lines (suc d) os ≡ true → 0 < length lines
 reaches end [] d os h =
     let far : nat_eq (suc d) 0 ≡ false = ne_eqb (suc d) 0 (λ q. omega (arith, q)) in

@@ -16,7 +16,7 @@ use Rattle.psm_exprcode.specs.WellFormed.{does_fit}
 abbrev pub Outcome : Type 0
 Outcome = Option (Result Operand (List ℕ))
 
--- the place after a line's
+-- the index after a line's
 abbrev pub line_after : ℕ → Next → ℕ
 line_after at Ahead = suc at
 line_after at (Jump p) = p
@@ -32,7 +32,7 @@ ended [] = None
 ended (o ∷ []) = Some (Ok o)
 ended (o ∷ p ∷ os) = None
 
--- the lines from a place on, where the one at pc is the next: those before it are passed over
+-- the lines from an index on, where the one at pc is the next: those before it are passed over
 abbrev pub ran : List Datum → List Datum → ℕ → ℕ → List Line → List Operand → Outcome
 ran row vars at pc [] os = ended os
 ran row vars at pc (l ∷ after) os =

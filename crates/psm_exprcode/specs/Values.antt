@@ -39,7 +39,7 @@ length_of Null = Null
 length_of (Num n) = Null
 length_of (Text t) = whole (length t)
 
--- the place of the part in the text
+-- the position of the part in the text
 abbrev pub position_of : Datum → Datum → Datum
 position_of (Text part) (Text t) = whole (first_position part t)
 position_of (Text part) Null = Null
@@ -51,7 +51,7 @@ position_of (Num n) t = Null
 abbrev pub cut_of : num.Num → ℤ
 cut_of n = (at_scale n 0).coef
 
--- SUBSTRING (text FROM place)
+-- SUBSTRING (text FROM position)
 abbrev pub part_from : Datum → Datum → Result Datum (List ℕ)
 part_from (Text t) (Num position) = as_text (substring_of (cut_of position) None t)
 part_from (Text t) Null = Ok Null
@@ -59,7 +59,7 @@ part_from (Text t) (Text u) = Ok Null
 part_from Null position = Ok Null
 part_from (Num n) position = Ok Null
 
--- SUBSTRING (text FROM place FOR count): both numbers are cut before the count is tested
+-- SUBSTRING (text FROM position FOR count): both numbers are cut before the count is tested
 abbrev pub part_of_text : List ℕ → Datum → Datum → Result Datum (List ℕ)
 part_of_text t (Num position) (Num count) = as_text (substring_of (cut_of position) (Some (cut_of count)) t)
 part_of_text t (Num position) Null = Ok Null

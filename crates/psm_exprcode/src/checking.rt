@@ -54,7 +54,7 @@ fn are_right(kinds: Kinds<'_>, end: Letter, lines: &NumberedLines<'_>) -> bool
     true
 }
 
-// Whether a line at a place is right, with the lines after it.
+// Whether a line at an index is right, with the lines after it.
 fn is_right(
     kinds: Kinds<'_>,
     end: Letter,
@@ -122,7 +122,7 @@ fn is_type(to: SqlType) -> bool
     to.is_within_bounds()
 }
 
-// Whether an operation at a place finds what it takes, and brings what is stated wherever it goes on.
+// Whether an operation at an index finds what it takes, and brings what is stated wherever it goes on.
 fn leads(end: Letter, at: usize, entry: Entry, stack: usize, after: &NumberedLines<'_>) -> bool
     requires { stack < length after.now.stacks.now }
     ensures { result ≡ letters_lead end at (effect_of entry) (stack_at after.now.stacks.now stack) (lines_in after.now) }
@@ -162,7 +162,7 @@ fn branches(
     }
 }
 
-// Whether a place follows, and the letters are those that are stated there.
+// Whether an index follows, and the letters are those that are stated there.
 fn jumps(
     end: Letter,
     at: usize,

@@ -137,7 +137,7 @@ fn index_below(operands: &[Operand], count: u32) -> usize
     operands.len() - 1 - count as usize
 }
 
-// Whether the value at the place is among the others that stand on it.
+// Whether the value at the index is among the others that stand on it.
 fn judge_among(operands: &[Operand], count: u32, index: usize) -> Truth
     requires values { IsTrue (are_values (suc count) (reverse operands.now)) }
     requires index { index + suc count ≡ length operands.now }

@@ -74,7 +74,7 @@ fn run(
     Ok(pop(operands))
 }
 
-// The place after that of a line.
+// The index after that of a line.
 fn line_after(at: usize, next: Next) -> usize
     requires { at < usize.MAX }
     ensures { result ≡ line_that_follows at next }

@@ -29,7 +29,7 @@ pub(crate) fn put_copy(
     Ok(Next::Ahead)
 }
 
-// The value at a place of a row, or of the variables.
+// The value at an index of a row, or of the variables.
 #[inline(always)]
 pub(crate) fn put_named(
     alloc: Global,

@@ -152,7 +152,7 @@ fn among(kind: Letter, count: u32) -> Entry
     plain_entry("IN", many_on(kind, kind, count), many(Letter::B, 1))
 }
 
-// One that may go on at a place.
+// One that may go on at an index.
 fn jump_entry(
     mnemonic: &'static str,
     takes: Letters,

@@ -1,11 +1,11 @@
-//! What stands at places of what is known.
+//! What stands at indexes of what is known.
 ghost use Rattle.std.specs.Prelude.{◌≡◌, slice_get};
 ghost use Rattle.psm_exprgen.specs.Written.{letter_at as letter_there, letters_at as letters_there, number_at as number_there};
 
 use psm_exprcode::Letter;
 use psm_list::List;
 
-/// The letter at a place; that of a number where there is none.
+/// The letter at an index; that of a number where there is none.
 pub fn letter_at(letters: &[Letter], index: usize) -> Letter
     ensures { result ≡ letter_there letters.now index }
 {
@@ -15,7 +15,7 @@ pub fn letter_at(letters: &[Letter], index: usize) -> Letter
     }
 }
 
-/// The letters at a place; none where there are none.
+/// The letters at an index; none where there are none.
 pub fn letters_at(lists: &[List<Letter>], index: u32) -> &[Letter]
     ensures { result.now ≡ letters_there lists.now index }
 {
@@ -25,7 +25,7 @@ pub fn letters_at(lists: &[List<Letter>], index: u32) -> &[Letter]
     }
 }
 
-/// The number at a place, or 0.
+/// The number at an index, or 0.
 pub fn number_at(numbers: &[u32], index: u32) -> u32
     ensures { result ≡ number_there (slice_get numbers.now index) }
 {

@@ -104,7 +104,7 @@ fn where_true(test: bool, letter: Letter) -> RowType
 
 // ---- operations
 
-// Of the column or the variable at a place, if it is there.
+// Of the column or the variable at an index, if it is there.
 fn named(letters: &[Letter], index: u32) -> RowType
     ensures { seen result ≡ named (slice_get letters.now index) }
 {

@@ -247,7 +247,7 @@ fn new_row(
     Ok(Row::of(row))
 }
 
-// The value for the column at a place, or its DEFAULT.
+// The value for the column at an index, or its DEFAULT.
 fn value_for<'a>(
     index: usize,
     columns: &[u32],

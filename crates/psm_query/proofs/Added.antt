@@ -10,7 +10,7 @@ pub added_none : (ts : List Tally) → added ts [] ≡ ts
 added_none [] = refl
 added_none (t ∷ ts) = refl
 
--- the last value goes to the tally of its place
+-- the last value goes to the tally of its index
 pub added_last : (ts : List Tally) (vs : List Datum) (v : Datum) (d : Tally) → length vs < length ts
     → added (slice_set ts (length vs) (with_value (get_or ts (length vs) d) v)) vs ≡ added ts (vs ++ v ∷ [])
 added_last [] vs v d l = absurd (omega (arith, l))
@@ -23,7 +23,7 @@ added_past [] vs v l = refl
 added_past (t ∷ ts) [] v l = absurd (omega (arith, l))
 added_past (t ∷ ts) (w ∷ vs) v l = ap (λ l. with_value t w ∷ l) (added_past ts vs v (omega (arith, l)))
 
--- the tallies of n first places have room for one value more
+-- the tallies of n first indexes have room for one value more
 abbrev pub HaveRoom : ℕ → List Tally → Type 0
 HaveRoom n ts = (k : ℕ) (d : Tally) → k < n → k < length ts → count_of (get_or ts k d) < most_rows
 

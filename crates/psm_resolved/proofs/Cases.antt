@@ -57,7 +57,7 @@ pub letter_value : (scale : Option ℕ) → is_value (letter_at scale) ≡ true
 letter_value None = refl
 letter_value (Some s) = refl
 
--- the place of the jump, and the operands that there are after it
+-- the index of the jump, and the operands that there are after it
 pub value_pends : (columns variables : List Letter) (k : Letter) (v : Meaning) (index : ℕ) (old between new : Written) → is_value k ≡ true → Adds (is_of_kind columns variables) (k ∷ []) (puts v) old between
     → Jumps (op.JumpUnlessNull 0) 1 index between new
     → Pends (is_of_kind columns variables) (k ∷ old.stack) op.JumpUnlessNull (λ h row vars os. then_move (put (v row vars) os) (set_move (h row vars))) (index ∷ []) old new

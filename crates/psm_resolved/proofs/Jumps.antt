@@ -1,4 +1,4 @@
--- Lines with jumps whose place isn't known yet: open blocks, which a block after them closes.
+-- Lines with jumps whose target isn't known yet: open blocks, which a block after them closes.
 use Rattle.std.proofs.Common.{◌≡◌, ℕ, suc, ◌+◌, ◌-◌, ◌<◌, ◌≤◌, Bool, true, false, ◌&&◌, List, [], ◌∷◌, ◌++◌, length, nat_eq, nat_lt, refl, ap, sym, subst, ◌∙◌, arith, Some, None, Ok, append_assoc, length-append, eq-eqb, eqb-true}
 use Rattle.std.specs.Prelude.{reverse, slice_get, if◌then◌else◌}
 use Rattle.std.proofs.lemmas.Bool.{ne_eqb, lt-ltb}
@@ -33,7 +33,7 @@ lands_past end [] more s = refl
 lands_past end (l ∷ ls) more s =
     ap (λ b. are_stated end (slice_get (ls ++ more) (length ls)) b s) (eq_suc (length ls) (length (ls ++ more)) (nat_eq (length ls) (length (ls ++ more))) refl) ∙ lands_past end ls more s
 
--- the place that stands n lines after
+-- the index that stands n lines after
 pub lands_at : (end : Letter) (ls more : List Line) (n : ℕ) (s : List Letter) → n ≡ length ls → lands end more 0 s ≡ true → lands end (ls ++ more) n s ≡ true
 lands_at end ls more n s e h = ap (λ i. lands end (ls ++ more) i s) e ∙ lands_past end ls more s ∙ h
 

@@ -1,4 +1,4 @@
--- Lines that are written with jumps whose place is filled in later.
+-- Lines that are written with jumps whose target is filled in later.
 use Rattle.std.proofs.Common.{◌≡◌, ℕ, ◌+◌, ◌<◌, ◌≤◌, Bool, List, [], ◌∷◌, ◌++◌, length, refl, ap, sym, subst, ◌∙◌, append_assoc, length-append}
 use Rattle.std.proofs.lemmas.List.{append-nil}
 use Rattle.psm_exprcode.specs.declared.op.Letter.{Letter}

@@ -274,7 +274,7 @@ fn others(
 }
 
 /// Writes the WHENs: each result jumps to the end. With `is_compared` the tests are compared with the operand,
-/// which stays below the result. The answer is the places of the jumps.
+/// which stays below the result. The answer is the indexes of the jumps.
 #[cycle(writing)]
 fn cases(
     out: &mut Writer,
@@ -298,7 +298,7 @@ fn cases(
 }
 
 /// Writes a WHEN: its test, a jump over its result unless the test is true, and the result. The answer is the
-/// place of the jump.
+/// index of the jump.
 #[cycle(writing)]
 fn branch(
     out: &mut Writer,

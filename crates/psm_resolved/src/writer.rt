@@ -114,8 +114,8 @@ impl Writer {
         }
     }
 
-    /// Writes an operation that may jump to a place that isn't known yet, and takes n letters off. The
-    /// answer is its own place.
+    /// Writes an operation that may jump to a line that isn't known yet, and takes n letters off. The
+    /// answer is its own index.
     pub fn jump(&mut self, op: Op, takes: usize) -> Result<usize, AllocError>
         ensures { IfOk result (λ index. Jumps op takes index self.old self.new) }
     {
@@ -125,7 +125,7 @@ impl Writer {
         Ok(index)
     }
 
-    /// The place of the line that follows. More lines than fit in 32 bits count as out of memory.
+    /// The index of the line that follows. More lines than fit in 32 bits count as out of memory.
     pub fn here(&self) -> Result<u32, AllocError>
         ensures { IfOk result (λ index. index ≡ length self.now.lines) }
     {
@@ -142,8 +142,8 @@ impl Writer {
         self.code.set_op(index, op);
     }
 
-    /// Writes a jump to the end after a result, and lets the jump at that place pass over both. The answer is
-    /// the place of the jump to the end.
+    /// Writes a jump to the end after a result, and lets the jump at that index pass over both. The answer is
+    /// the index of the jump to the end.
     pub fn leave(&mut self, unless: usize) -> Result<usize, AllocError>
         ensures { IfOk result (λ index. Leaves unless index self.old self.new) }
     {
@@ -153,7 +153,7 @@ impl Writer {
         Ok(index)
     }
 
-    /// Lets the operations at these places jump to the line that follows.
+    /// Lets the operations at these indexes jump to the line that follows.
     pub fn close(&mut self, indexes: &[usize], kind: Exit) -> Result<(), AllocError>
         ensures { IfOk result (λ _. self.new ≡ record { lines = patched (exit_op kind (length self.old.lines)) indexes.now self.old.lines; stack = self.old.stack }) }
     {

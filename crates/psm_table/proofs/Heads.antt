@@ -127,7 +127,7 @@ module _ {V : Type 0} where
   head_alone [] k is_after l t n = cc
   head_alone (p ∷ ps) k is_after l t n = past_equal k is_after p.key (leading_alone p.key k n t l)
 
-  -- a pair is put in at a place
+  -- a pair is put in at an index
   pub head-insert : (pairs : List (Pair V)) (i : ℕ) (p : Pair V) → i ≤ length pairs → head_of (insert pairs i p) ≡ (if nat_eq i 0 then leading_of p.key else head_of pairs)
   head-insert pairs zero p l = refl
   head-insert [] (suc i) p l = absurd (omega arith)

@@ -40,13 +40,13 @@ module _ (columns : List ℕ) (p : Row → Bool) where
   any_step row y ys true e h = rw e refl
   any_step row y ys false e h = rw e (ap (λ x. p y || x) h ∙ or_crossed (p y) (p row) (list_any p ys))
 
-  any-placed : (row : Row) (rows : List Row) → list_any p (inserted_in columns row rows) ≡ (p row || list_any p rows)
-  any-placed row [] = refl
-  any-placed row (y ∷ ys) = any_step row y ys (is_before columns row y) refl (any-placed row ys)
+  any-put_in : (row : Row) (rows : List Row) → list_any p (inserted_in columns row rows) ≡ (p row || list_any p rows)
+  any-put_in row [] = refl
+  any-put_in row (y ∷ ys) = any_step row y ys (is_before columns row y) refl (any-put_in row ys)
 
   pub any-in_order : (rows : List Row) → list_any p (in_order columns rows) ≡ list_any p rows
   any-in_order [] = refl
-  any-in_order (row ∷ rows) = any-placed row (in_order columns rows) ∙ ap (λ x. p row || x) (any-in_order rows)
+  any-in_order (row ∷ rows) = any-put_in row (in_order columns rows) ∙ ap (λ x. p row || x) (any-in_order rows)
 
 -- what one of the rows passes, one of them and of others passes
 any-more : (p : Row → Bool) (columns : List ℕ) (rows new : List Row) → list_any p rows ≡ true → list_any p (in_order columns (rows ++ new)) ≡ true

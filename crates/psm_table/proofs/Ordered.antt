@@ -82,9 +82,9 @@ module _ (key : List ℕ) where
       let g = after_greater key (values_at key row) y ys up e in
       rw e (ap (λ l. l ++ row ∷ y ∷ rows_above key (values_at key row) ys) (none-below key (values_at key row) ys g) ∙ ap (λ l. row ∷ y ∷ l) (all-above key (values_at key row) ys g))
 
-  pub put-placed : (row : Row) (rows : List Row) → IsAscending key rows → row_with key (values_at key row) rows ≡ None → put key row rows ≡ placed_after row rows
-  put-placed row [] up n = refl
-  put-placed row (y ∷ ys) up n = put_step row y ys (row_order key (values_at key row) y) up refl (put-placed row ys (AllPairs-rest Rises y ys up)) n
+  pub put-put_in : (row : Row) (rows : List Row) → IsAscending key rows → row_with key (values_at key row) rows ≡ None → put key row rows ≡ placed_after row rows
+  put-put_in row [] up n = refl
+  put-put_in row (y ∷ ys) up n = put_step row y ys (row_order key (values_at key row) y) up refl (put-put_in row ys (AllPairs-rest Rises y ys up)) n
 
   -- rows that ascend are in order
   first_placed : (row : Row) (rows : List Row) → All (Rises row) rows → inserted_in key row rows ≡ row ∷ rows

@@ -35,18 +35,18 @@ module _ {R : Type 0} (c : R → Ordering) where
       let t = eq-none rows (λ k d l. g (suc k) d (omega arith)) in
       rw h t
 
-  -- the element at place i has the key
-  pub at_place : (rows : List R) (i : ℕ) (d : R) → i < length rows → ((k : ℕ) (e : R) → k < i → c (get_or rows k e) ≡ Less) → c (get_or rows i d) ≡ Equal
+  -- the element at index i has the key
+  pub at_index : (rows : List R) (i : ℕ) (d : R) → i < length rows → ((k : ℕ) (e : R) → k < i → c (get_or rows k e) ≡ Less) → c (get_or rows i d) ≡ Equal
       → ((k : ℕ) (e : R) → i < k → k < length rows → c (get_or rows k e) ≡ Greater)
       → (find (λ r. is_eq (c r)) rows ≡ slice_get rows i) × (take i rows ≡ filter (λ r. is_lt (c r)) rows) × (drop (suc i) rows ≡ filter (λ r. is_gt (c r)) rows)
-  at_place [] i d l f e g = absurd (omega arith)
-  at_place (x ∷ rows) zero d l f e g =
+  at_index [] i d l f e g = absurd (omega arith)
+  at_index (x ∷ rows) zero d l f e g =
       let h : c x ≡ Equal = e in
       let later : (k : ℕ) (y : R) → k < length rows → c (get_or rows k y) ≡ Greater = λ k y m. g (suc k) y (omega arith) (omega arith) in
       (rw h refl, rw h (lt-none rows later), rw h (gt-all rows later))
-  at_place (x ∷ rows) (suc i) d l f e g =
+  at_index (x ∷ rows) (suc i) d l f e g =
       let h : c x ≡ Less = f 0 x (omega arith) in
-      let t = at_place rows i d (omega arith) (λ k y m. f (suc k) y (omega arith)) e (λ k y m n. g (suc k) y (omega arith) (omega arith)) in
+      let t = at_index rows i d (omega arith) (λ k y m. f (suc k) y (omega arith)) e (λ k y m n. g (suc k) y (omega arith) (omega arith)) in
       (rw h t.0, rw h (ap (λ rest. x ∷ rest) t.1), rw h t.2)
 
   -- no element has the key

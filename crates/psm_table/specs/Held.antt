@@ -34,7 +34,7 @@ contents_of def rows = record { def = def; rows = live_rows rows.pairs }
 
 -- the table as its callers see it
 abbrev pub state_of : TableDef → List (List ℕ) → Mapped (Option (List Datum)) → List (Mapped (Unit {0})) → State
-state_of def lists rows indexes = record { contents = contents_of def rows; places = keys_of rows.pairs; lists = lists; entries = entries_of indexes }
+state_of def lists rows indexes = record { contents = contents_of def rows; slots = keys_of rows.pairs; lists = lists; entries = entries_of indexes }
 
 -- the row of a pair has the pair's key
 abbrev pub HasItsKey : List ℕ → Pair (Option (List Datum)) → Type 0

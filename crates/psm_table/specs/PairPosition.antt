@@ -31,14 +31,14 @@ FitsProbe (In columns row) = AreColumnsOf row.now columns.now
 FitsProbe (Both columns key row) = AreColumnsOf row.now columns.now × AreColumnsOf row.now key.now
 
 module _ {V : Type 0} where
-  -- the pair at place i has the key, those before it have smaller keys, and those after it greater ones
+  -- the pair at index i has the key, those before it have smaller keys, and those after it greater ones
   pub record IsAt (key : List Datum) (pairs : List (Pair V)) (i : ℕ) : Type 0 where
     pub inside : i < length pairs
     pub has : pair_with key pairs ≡ slice_get pairs i
     pub before : take i pairs ≡ pairs_below key pairs
     pub after : drop (i + 1) pairs ≡ pairs_above key pairs
 
-  -- no pair has the key, those before place i have smaller keys, and those from it on greater ones
+  -- no pair has the key, those before index i have smaller keys, and those from it on greater ones
   pub record IsGap (key : List Datum) (pairs : List (Pair V)) (i : ℕ) : Type 0 where
     pub inside : i ≤ length pairs
     pub has : pair_with key pairs ≡ None

@@ -41,7 +41,7 @@ pub(crate) fn enter(
     Ok(())
 }
 
-/// The entries of a row, each at the place of its set, which then has memory for it.
+/// The entries of a row, each at the index of its set, which then has memory for it.
 fn prepare_all(
     alloc: Global,
     indexes: &mut Vec<OrderedMap<()>>,
@@ -84,7 +84,7 @@ fn prepare(
     Ok(Some(entry))
 }
 
-/// Puts each entry into the set at its place. It takes no memory.
+/// Puts each entry into the set at its index. It takes no memory.
 fn put_all(indexes: &mut Vec<OrderedMap<()>>, mut entries: Vec<Option<StoredKey>>)
     requires lists { length entries.items ≡ length indexes.old.items }
     requires room { HaveRoom indexes.old.items entries.items }

@@ -266,7 +266,7 @@ impl<V: Copied + Drop> Run<V> {
 }
 
 impl Run<Option<Row>> {
-    /// Takes the row of the key out, if it has one, and keeps its place.
+    /// Takes the row of the key out, if it has one, and keeps its slot.
     pub(crate) fn take_row(&mut self, probe: Probe<'_>) -> Option<Row>
         requires { FitsProbe probe }
         ensures row { result ≡ row_of (probe_key probe.entry) self.old }
@@ -299,18 +299,18 @@ impl Run<Option<Row>> {
         mem::replace(&mut self.pairs[at].value, Some(row))
     }
 
-    /// Puts a row in whose key has a place, and gives the row that was there.
+    /// Puts a row in whose key has a slot, and gives the row that was there.
     pub(crate) fn replace_row(&mut self, columns: &[u32], row: Row) -> Option<Row>
         requires columns { AreColumnsOf row columns.now }
-        requires place { IsSome (value_of (values_at columns.now row) self.old) }
+        requires slot { IsSome (value_of (values_at columns.now row) self.old) }
         ensures row { result ≡ row_of (values_at columns.now row) self.old }
         ensures pairs { self.new ≡ with_value (values_at columns.now row) (Some row) self.old }
     {
-        let place = self.find(Probe::In {
+        let slot = self.find(Probe::In {
             columns,
             row: row.values(),
         });
-        match place {
+        match slot {
             Ok(at) => mem::replace(&mut self.pairs[at].value, Some(row)),
             Err(_) => None,
         }
@@ -359,16 +359,16 @@ fn head_of<V: Drop>(pairs: &[Pair<V>]) -> Leading
     }
 }
 
-/// The numbers with which the first pair's key begins, once a pair is put in at a place or written over.
+/// The numbers with which the first pair's key begins, once a pair is put in at an index or written over.
 fn head_with(head: &Leading, at: usize, key: &StoredKey) -> Leading
     ensures { result ≡ (if nat_eq at 0 then leading_of key.now else head.now) }
 {
     if at == 0 { key.leading() } else { *head }
 }
 
-/// Puts an item in at a place. It takes no memory.
+/// Puts an item in at an index. It takes no memory.
 pub(crate) fn insert_reserved<T: Drop>(items: &mut Vec<T>, at: usize, item: T)
-    requires place { at ≤ vec_len items.old }
+    requires within { at ≤ vec_len items.old }
     requires room { vec_len items.old < vec_capacity items.old }
     ensures items { items.new.items ≡ insert items.old.items at item }
     ensures len { length items.new.items ≡ length items.old.items + 1 }

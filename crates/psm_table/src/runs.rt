@@ -56,7 +56,7 @@ pub(crate) fn locate_past<V: Drop>(runs: &[Run<V>], probe: Probe<'_>, is_after: 
     low.saturating_sub(1)
 }
 
-/// The first pair of the runs from a place on.
+/// The first pair of the runs from an index on.
 pub(crate) fn first_from<V: Drop>(runs: &[Run<V>], at: usize) -> Option<&Pair<V>>
     requires { All IsRun runs.now }
     ensures { option_copied result ≡ slice_get (joined (drop at runs.now)) 0 }

@@ -9,7 +9,7 @@ use Rattle.psm_exprcode.specs.declared.op.Op.{Op}
 use Rattle.psm_tablecode.specs.Tests.{are_quiet, first_four, first_three, free, free_before, is_quiet, made}
 use Rattle.psm_tablecode.proofs.Collecting.{first_of}
 
--- the operation of the line at a place
+-- the operation of the line at an index
 abbrev pub op_at : List Line → ℕ → Option Op
 op_at lines at = option_map (λ l. l.op) (slice_get lines at)
 

@@ -126,7 +126,7 @@ quiet_test op.Or = Some op.Or
 quiet_test op.Not = Some op.Not
 quiet_test o = None
 
--- the lines before a place are folded into those that are done, which raise nothing
+-- the lines before an index are folded into those that are done, which raise nothing
 pub record IsDone (vars : List Datum) (lines : List Line) (at : ℕ) (done : List Op) : Type 0 where
   pub so_far : fold_ops vars done (ops_of (drop at lines)) ≡ fold_ops vars [] (ops_of lines)
   pub quiet : all_quiet done ≡ true

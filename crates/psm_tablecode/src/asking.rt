@@ -87,7 +87,7 @@ fn are_quiet(lines: &RawExpr) -> bool
     true
 }
 
-// The same of the line at a place; one that isn't there does.
+// The same of the line at an index; one that isn't there does.
 fn is_quiet_at(lines: &RawExpr, at: usize) -> bool
     ensures { asked.are_quiet (drop at lines.now) ≡ (result && asked.are_quiet (drop (at + 1) lines.now)) }
 {
@@ -447,7 +447,7 @@ fn is_of_two(aim: Aim) -> bool
     }
 }
 
-// What the lines before a place make, if they have to be true, or what was found.
+// What the lines before an index make, if they have to be true, or what was found.
 fn made_before<'a>(
     aim: Aim,
     column: u32,
@@ -469,7 +469,7 @@ fn made_before<'a>(
     }
 }
 
-// What the lines from a place on make.
+// What the lines from an index on make.
 fn made_at<'a>(
     aim: Aim,
     column: u32,
@@ -517,7 +517,7 @@ fn four_at<'a>(
     made_of_four(aim, column, left, low, high, test, vars)
 }
 
-// How many operands needn't be true before the line that ends at a place, with those before the lines after it.
+// How many operands needn't be true before the line that ends at an index, with those before the lines after it.
 fn free_after(lines: &RawExpr, at: usize, free: u128) -> u128
     requires within { 1 ≤ at }
     requires after { free ≡ asked.free (drop at lines.now) }

@@ -32,7 +32,7 @@ pub(crate) fn folded(
     Ok(Some(bare(alloc, done)?))
 }
 
-// The operation at a place is folded into those that are done, unless it stays there and could raise a condition.
+// The operation at an index is folded into those that are done, unless it stays there and could raise a condition.
 #[tactic(auto, using(crate::proofs::FoldSteps::done_next, crate::proofs::FoldSteps::done_past, crate::proofs::FoldSteps::loud_next))]
 fn fold_at(
     alloc: Global,

@@ -1,4 +1,4 @@
--- The characters at an interval of places, as a piece of the list; and the first place of a part.
+-- The characters at an interval of positions, as a piece of the list; and the first position of a part.
 use Rattle.std.proofs.Common.{◌≡◌, ℕ, zero, suc, ◌+◌, ◌-◌, ◌<◌, ◌≤◌, max, List, [], ◌∷◌, length, take, drop, map, refl, ap, sym, ◌∙◌, arith, Bool, true, false, cond, ◌&&◌, inl, inr, Option}
 use Rattle.std.specs.Prelude.{ℤ, pos, int_le, nat_lt, nat_le, nat_eq}
 use Rattle.std.specs.List.{filter, enumerate_from, starts_with}
@@ -16,7 +16,7 @@ take_nil zero (suc m) = refl
 take_nil (suc n) zero = refl
 take_nil (suc n) (suc m) = refl
 
--- the test at the first place, where it is among the places from f up to e
+-- the test at the first position, where it is among the positions from f up to e
 now_in : (f e n : ℕ) → f ≤ n → n < e → (nat_lt f (n + 1) && nat_le (n + 1) e) ≡ true
 now_in f e n h g = ap (λ b. b && nat_le (n + 1) e) (lt-ltb f (n + 1) (omega (arith, h))) ∙ le-leb (n + 1) e (omega (arith, g))
 
@@ -65,7 +65,7 @@ kept_is test f e n (x ∷ t) h =
         let q : e - max f n ≡ 0 = omega arith in
         ap (λ m. take m (drop (f - (n + 1)) t)) p ∙ ap (λ m. take m (drop (f - n) (x ∷ t))) (sym q)
 
--- the characters that are asked for, where f places come before them and e before their end
+-- the characters that are asked for, where f positions come before them and e before their end
 pub asked_is : (from wide same : ℤ) (count : Option ℤ) (t : List ℕ) (f e : ℕ) → wide ≡ from → same ≡ from
     → ((p : ℕ) → 0 < p → p ≤ length t → int_le wide (pos p) ≡ nat_lt f p)
     → ((p : ℕ) → 0 < p → p ≤ length t → is_before_end same count p ≡ nat_le p e)
@@ -76,9 +76,9 @@ asked_is from wide same count t f e w v h g =
     kept_is (is_asked from count) f e 0 t (λ p k l. ap (λ b. b && is_before_end from count p) (ap (λ z. int_le z (pos p)) (sym w) ∙ h p k (omega (arith, l))) ∙ ap (λ b. nat_lt f p && b) (ap (λ z. is_before_end z count p) (sym v) ∙ g p k (omega (arith, l))))
     ∙ ap (λ m. take (e - m) (drop (f - 0) t)) p ∙ ap (λ m. take (e - f) (drop m t)) q
 
--- ---- the first place of a part
+-- ---- the first position of a part
 
--- no place up to before has the part
+-- no position up to before has the part
 abbrev pub Passed : List ℕ → List ℕ → ℕ → Type 0
 Passed part t before = (k : ℕ) → 0 < k → k ≤ before → stands_at part t k ≡ false
 

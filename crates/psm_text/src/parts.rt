@@ -34,8 +34,8 @@ impl Text {
         Ok(Text::from_vec(items))
     }
 
-    /// The characters at the places from `from` on that exist: `count` places, or all (ISO/IEC 9075:1992,
-    /// 6.7). Places count from 1, and `from` may lie outside the text. `Substring` comes exactly where the
+    /// The characters at the positions from `from` on that exist: `count` positions, or all (ISO/IEC 9075:1992,
+    /// 6.7). Positions count from 1, and `from` may lie outside the text. `Substring` comes exactly where the
     /// count is negative.
     pub fn substring(&self, alloc: Global, from: i64, count: Option<i64>) -> Result<Text, TextFault>
         ensures { Gives (substring_of from count self.now) result }
@@ -46,7 +46,7 @@ impl Text {
         Ok(Text::of(alloc, asked_characters(self.chars(), from, count))?)
     }
 
-    /// The first place, from 1, at which the part stands, or 0 where it stands nowhere (ISO/IEC 9075:1992,
+    /// The first position, from 1, at which the part stands, or 0 where it stands nowhere (ISO/IEC 9075:1992,
     /// 6.6). The empty text stands at 1.
     #[tactic(auto, using(crate::proofs::Values::position_is))]
     pub fn position(&self, part: &Text) -> u32
@@ -109,7 +109,7 @@ fn asked_characters(characters: &[char], from: i64, count: Option<i64>) -> &[cha
     between(characters, start, end)
 }
 
-/// How many of the places from 1 to `len` lie before the place.
+/// How many of the positions from 1 to `len` lie before the position.
 fn positions_before(position: i128, len: usize) -> usize
     requires { len ≤ 4000 }
     ensures within { result ≤ len }

@@ -20,7 +20,7 @@ use Rattle.psm_undostore.proofs.Undoings.{nothing_left}
 abbrev pub undo_of : List State → List Entry → ℕ → Undo
 undo_of states entries marks = record { states = states; entries = entries; marks = marks }
 
--- the tables before a place, where the entries from a later place on were undone
+-- the tables before a position, where the entries from a later position on were undone
 pub before-before : (states new : List State) (entries left : List Entry) (position q : ℕ) → contents_of new ≡ before position entries states → left ≡ take position entries →
     position ≤ length entries → q ≤ position → before q left new ≡ before q entries states
 before-before states new entries left position q e f h k =

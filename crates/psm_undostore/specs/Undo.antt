@@ -29,7 +29,7 @@ pub record IsUndo (s : Undo) : Type 0 where
 abbrev pub tables_of : Undo → List Contents
 tables_of s = contents_of s.states
 
--- an open mark: its place is that of the first change since
+-- an open mark: its position is that of the first change since
 pub record IsHeld (s : Undo) (m : Mark) : Type 0 where
   pub depth : m.depth < s.marks
   pub position : m.position ≤ length s.entries

@@ -49,7 +49,7 @@ impl Journal {
         }
     }
 
-    /// The number of changes, which is the place of the next one.
+    /// The number of changes, which is the position of the next one.
     pub fn len(&self) -> u64
         ensures { result ≡ length self.now }
     {
@@ -134,7 +134,7 @@ impl Journal {
         )
     }
 
-    /// Undoes the changes from a place on, the last first, and forgets them. It takes no memory, and at most two
+    /// Undoes the changes from a position on, the last first, and forgets them. It takes no memory, and at most two
     /// row steps for each.
     pub fn undo<L: Ledger>(&mut self, tables: &mut [Table], position: u64, steps: &mut Steps<L>)
         requires undoable { AreUndoable tables.old self.old }

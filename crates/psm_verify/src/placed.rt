@@ -29,7 +29,7 @@ pub(crate) enum EndTest {
     Brings(Letter),
 }
 
-/// The operands that the line at a place states, the last one first.
+/// The operands that the line at an index states, the last one first.
 pub(crate) fn stated_at(
     alloc: Global,
     lines: &RawExpr,
@@ -56,7 +56,7 @@ pub(crate) struct Placed<'a> {
 }
 
 impl<'a> Placed<'a> {
-    // Whether the letters are those that the line at a place states, or at the end the one that is asked for.
+    // Whether the letters are those that the line at an index states, or at the end the one that is asked for.
     fn lands(
         &self,
         alloc: Global,
@@ -106,7 +106,7 @@ impl<'a> Placed<'a> {
         }
     }
 
-    // Whether an operation at a place finds what it takes, and brings what is stated wherever it goes on.
+    // Whether an operation at an index finds what it takes, and brings what is stated wherever it goes on.
     fn leads(
         &self,
         alloc: Global,
@@ -195,7 +195,7 @@ impl<'a> Placed<'a> {
         }
     }
 
-    // Whether the operands of an operation at a place follow.
+    // Whether the operands of an operation at an index follow.
     fn follow(
         &self,
         alloc: Global,
@@ -216,7 +216,7 @@ impl<'a> Placed<'a> {
         self.follows_for(alloc, end, at, op, Letter::T, stack)
     }
 
-    // The rule that the operation breaks at a place over these operands, whatever it brings at the end.
+    // The rule that the operation breaks at an index over these operands, whatever it brings at the end.
     fn op_fault(
         &self,
         alloc: Global,
@@ -270,7 +270,7 @@ impl<'a> Placed<'a> {
         }
     }
 
-    // The rule that the line at a place breaks by itself, if any.
+    // The rule that the line at an index breaks by itself, if any.
     fn fault(&self, alloc: Global, at: usize) -> Result<Option<CodeRule>, AllocError>
         requires { at < length self.now.lines.now }
         ensures { IfOk result (λ fault. fault ≡ fault_at self.now.columns.now self.now.variables.now self.now.lines.now at) }
@@ -293,7 +293,7 @@ impl<'a> Placed<'a> {
         Ok(line)
     }
 
-    // Whether the test holds of an operation at a place over these operands.
+    // Whether the test holds of an operation at an index over these operands.
     fn passes(
         &self,
         alloc: Global,
@@ -334,7 +334,7 @@ impl<'a> Placed<'a> {
         }
     }
 
-    // The same of the line at a place.
+    // The same of the line at an index.
     fn passes_at(&self, alloc: Global, test: EndTest, at: usize) -> Result<bool, AllocError>
         requires { at < length self.now.lines.now }
         ensures { IfOk result (λ b. b ≡ end_at self.now.columns.now self.now.variables.now self.now.lines.now test at) }
@@ -425,7 +425,7 @@ fn is_bare_first(at: usize, stack: &[Letter]) -> bool
     at != 0 || are_same(&[], stack)
 }
 
-// Whether an operation at a place of n lines goes on at their end.
+// Whether an operation at an index of n lines goes on at their end.
 fn reaches_end(count: usize, at: usize, op: &Op) -> bool
     requires { at < count }
     ensures { result ≡ rules.reaches_end count at op.now }

@@ -158,7 +158,7 @@ fn pairs_up(from: &TableDef, to: &TableDef, column: u32, index: u32) -> bool
     }
 }
 
-// Whether the places are those of the key, or of a UNIQUE list, in order.
+// Whether the indexes are those of the key, or of a UNIQUE list, in order.
 fn is_one_of_keys(def: &TableDef, indexes: &[u32]) -> bool
     ensures { result ≡ rules.is_one_of_keys def.now indexes.now }
 {
