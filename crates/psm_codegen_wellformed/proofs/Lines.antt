@@ -111,19 +111,19 @@ pub record Does (code : RawCode) (r : RawRoutine) (i : Instruction) (e : Effect)
   pub effect : instruction_effect code r i value other ≡ Some e
 
 -- it goes on at the line that follows as it says, in that context
-pub record Ahead (r : RawRoutine) (at context : ℕ) (i : Instruction) (puts : Option (List Letter)) (rest : List Letter) : Type 0 where
+pub record FallsThrough (r : RawRoutine) (at context : ℕ) (i : Instruction) (puts : Option (List Letter)) (rest : List Letter) : Type 0 where
   pub target : (not (falls_through i) || is_there r.lines (suc at)) ≡ true
   pub inside : (not (falls_through i) || is_in context (line_at r (suc at))) ≡ true
   pub stated : stated_fall_through r at puts rest ≡ true
 
-pub goes-fall_through : {r : RawRoutine} {at context : ℕ} {puts rest : List Letter} (i : Instruction) → Follows r (suc at) context (puts ++ rest) → Ahead r at context i (Some puts) rest
+pub goes-fall_through : {r : RawRoutine} {at context : ℕ} {puts rest : List Letter} (i : Instruction) → Follows r (suc at) context (puts ++ rest) → FallsThrough r at context i (Some puts) rest
 goes-fall_through {r} {at} {context} i f = record {
   target = or_second (not (falls_through i)) (is_there r.lines (suc at)) (follows-there f);
   inside = or_second (not (falls_through i)) (is_in context (line_at r (suc at))) (follows-inside f);
   stated = follows-stated f;
 }
 
-pub never-fall_through : {r : RawRoutine} {at context : ℕ} {rest : List Letter} (i : Instruction) → falls_through i ≡ false → Ahead r at context i None rest
+pub never-fall_through : {r : RawRoutine} {at context : ℕ} {rest : List Letter} (i : Instruction) → falls_through i ≡ false → FallsThrough r at context i None rest
 never-fall_through {r} {at} {context} i h = record {
   target = ap (λ b. not b || is_there r.lines (suc at)) h;
   inside = ap (λ b. not b || is_in context (line_at r (suc at))) h;
@@ -195,7 +195,7 @@ stack-follows {code} {r} at l e rest d s a b =
 -- a line is free of faults
 pub line-well_formed : {code : RawCode} {r : RawRoutine} {at following : ℕ} (l : CodeLine) (e : Effect) (rest : List Letter) → line_at r at ≡ Some l → Follows r 0 0 [] → context_there r l.context ≡ true
     → Does code r l.instruction e → is_bare l ≡ true → stands_well_formed r l l.instruction ≡ true → context_after r l l.instruction ≡ following → reverse l.stack ≡ e.takes ++ rest
-    → Resumes r at l → Ahead r at following l.instruction e.fall_through rest → Away r at l.context l.instruction e.branching rest → line_fault code r at l ≡ None
+    → Resumes r at l → FallsThrough r at following l.instruction e.fall_through rest → Away r at l.context l.instruction e.branching rest → line_fault code r at l ≡ None
 line-well_formed {code} {r} {at} {following} l e rest q first known d bare stands goes s resumes fall_through branching = rules_hold _ _ _ _ _ _ _
     (both known d.names)
     (both resumes.target (both branching.target fall_through.target))

@@ -16,7 +16,7 @@ use Rattle.psm_exprcode.specs.declared.op.Line.{Line}
 use Rattle.psm_exprcode.specs.declared.op.Op.{Op}
 use Rattle.psm_exprcode.specs.declared.operand.Operand.{Operand}
 use Rattle.psm_exprcode.specs.declared.operand.Next.{Next}
-use Rattle.psm_exprcode.specs.declared.operand.Next.TheVariants.{Ahead, Jump}
+use Rattle.psm_exprcode.specs.declared.operand.Next.TheVariants.{FallThrough, Jump}
 use Rattle.psm_exprcode.specs.Applied.{Applied, Went, Raised, Stuck, applied}
 use Rattle.psm_exprcode.specs.Evaluated.{Outcome, line_after, goes_on, ended, ran, evaluated, TypeChecks, Evaluates}
 use Rattle.psm_exprcode.specs.Fits.{Fits, Refuses}
@@ -109,7 +109,7 @@ successor_of may end at l after h =
     }
 
 lands_fall_through : (end : Letter) (at : ℕ) (puts : Option (List Letter)) (branching : Option (ℕ × List Letter)) (rest : List Letter) (after : List Line) (os : List Operand) → falls_through end puts rest after ≡ true
-    → Leads puts branching rest (Went Ahead os) → Lands end at after Ahead os
+    → Leads puts branching rest (Went FallThrough os) → Lands end at after FallThrough os
 lands_fall_through end at None branching rest after os h d = absurd d
 lands_fall_through end at (Some puts) branching rest after os h d =
     let z : 0 ≡ suc at - suc at = omega arith in
@@ -130,7 +130,7 @@ Goes P Stuck = ⊥
 
 leads_goes : (end : Letter) (at : ℕ) (puts : Option (List Letter)) (branching : Option (ℕ × List Letter)) (rest : List Letter) (after : List Line) (a : Applied) → falls_through end puts rest after ≡ true
     → branches end at branching rest after ≡ true → Leads puts branching rest a → Goes (Lands end at after) a
-leads_goes end at puts branching rest after (Went Ahead os) h g d = lands_fall_through end at puts branching rest after os h d
+leads_goes end at puts branching rest after (Went FallThrough os) h g d = lands_fall_through end at puts branching rest after os h d
 leads_goes end at puts branching rest after (Went (Jump p) os) h g d = lands_branch end at p puts branching rest after os g d
 leads_goes end at puts branching rest after (Raised state) h g d = tt
 leads_goes end at puts branching rest after Stuck h g d = absurd d

@@ -7,7 +7,7 @@ use Rattle.psm_exprcode.specs.declared.op.Line.{Line}
 use Rattle.psm_exprcode.specs.declared.op.Letter.{Letter}
 use Rattle.psm_exprcode.specs.declared.operand.Operand.{Operand}
 use Rattle.psm_exprcode.specs.declared.operand.Next.{Next}
-use Rattle.psm_exprcode.specs.declared.operand.Next.TheVariants.{Ahead, Jump}
+use Rattle.psm_exprcode.specs.declared.operand.Next.TheVariants.{FallThrough, Jump}
 use Rattle.psm_exprcode.specs.Applied.{Applied, Went, Raised, Stuck, applied}
 use Rattle.psm_exprcode.specs.Kinds.{are_of}
 use Rattle.psm_exprcode.specs.WellFormed.{does_fit}
@@ -18,7 +18,7 @@ Outcome = Option (Result Operand (List ℕ))
 
 -- the index after a line's
 abbrev pub line_after : ℕ → Next → ℕ
-line_after at Ahead = suc at
+line_after at FallThrough = suc at
 line_after at (Jump p) = p
 
 abbrev pub goes_on : Applied → (Next → List Operand → Outcome) → Outcome

@@ -59,7 +59,7 @@ pub(crate) fn compare_two(operands: &mut Vec<Operand>, test: Test) -> Result<Nex
     let (first, second) = last_two(operands.as_slice());
     let truth = test.judge(first, second);
     put_for_two(operands, Operand::Truth(truth));
-    Ok(Next::Ahead)
+    Ok(Next::FallThrough)
 }
 
 #[inline(never)]
@@ -70,7 +70,7 @@ pub(crate) fn test_between(operands: &mut Vec<Operand>) -> Result<Next, ValueFau
     let (value, low, high) = pop_three(operands);
     let truth = is_between(&value, &low, &high);
     put_truth(operands, truth)?;
-    Ok(Next::Ahead)
+    Ok(Next::FallThrough)
 }
 
 fn is_between(value: &Datum, low: &Datum, high: &Datum) -> Truth
@@ -87,7 +87,7 @@ pub(crate) fn null_if(operands: &mut Vec<Operand>) -> Result<Next, ValueFault>
 {
     let (value, other) = pop_two(operands);
     put_value(operands, without_equal(value, &other))?;
-    Ok(Next::Ahead)
+    Ok(Next::FallThrough)
 }
 
 fn without_equal(value: Datum, other: &Datum) -> Datum
@@ -106,7 +106,7 @@ pub(crate) fn test_null(operands: &mut Vec<Operand>) -> Result<Next, ValueFault>
 {
     let value = pop_value(operands);
     put_truth(operands, decided(is_null_value(&value)))?;
-    Ok(Next::Ahead)
+    Ok(Next::FallThrough)
 }
 
 pub(crate) fn is_null_value(value: &Datum) -> bool
@@ -124,7 +124,7 @@ pub(crate) fn test_among(operands: &mut Vec<Operand>, count: u32) -> Result<Next
     let truth = judge_among(operands.as_slice(), count, index);
     operands.truncate(index);
     put_truth(operands, truth)?;
-    Ok(Next::Ahead)
+    Ok(Next::FallThrough)
 }
 
 // How many operands stand below a value with n others on it.

@@ -13,7 +13,7 @@ use psm_value::{Datum, ValueFault};
 use std::alloc::Global;
 
 /// The value of an expression: its operations one after another from the first line, and the one operand
-/// that stands at the end, or the first condition that an operation raises. No operation lacks an operand.
+/// that stands at the end, or the first condition that an operation raises. No operation is stuck.
 /// The operand is of the letter with which the code ends: a truth value for B, a number or null for N, a
 /// text or null for T.
 ///
@@ -80,7 +80,7 @@ fn line_after(at: usize, next: Next) -> usize
     ensures { result ≡ line_that_follows at next }
 {
     match next {
-        Next::Ahead => at + 1,
+        Next::FallThrough => at + 1,
         Next::Jump(index) => index as usize,
     }
 }

@@ -17,7 +17,7 @@ pub(crate) fn negate(operands: &mut Vec<Operand>) -> Result<Next, ValueFault>
 {
     let number = pop_value(operands);
     put_value(operands, neg(&number))?;
-    Ok(Next::Ahead)
+    Ok(Next::FallThrough)
 }
 
 pub(crate) fn add_two(operands: &mut Vec<Operand>) -> Result<Next, ValueFault>
@@ -67,7 +67,7 @@ fn give(operands: &mut Vec<Operand>, due: Result<Datum, SqlState>) -> Result<Nex
     match due {
         Ok(value) => {
             put_for_two(operands, Operand::Value(value));
-            Ok(Next::Ahead)
+            Ok(Next::FallThrough)
         }
         Err(state) => {
             drop_two(operands);
@@ -84,7 +84,7 @@ pub(crate) fn rescale(operands: &mut Vec<Operand>, scale: u8) -> Result<Next, Va
 {
     let number = pop_value(operands);
     put_value(operands, at_scale(&number, scale)?)?;
-    Ok(Next::Ahead)
+    Ok(Next::FallThrough)
 }
 
 // The number with n digits after the point; digits that don't fit there are cut off.

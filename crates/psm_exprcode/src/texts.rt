@@ -27,7 +27,7 @@ pub(crate) fn concatenate_two(
 {
     let (first, second) = pop_two(operands);
     put_value(operands, concatenate(alloc, &first, &second)?)?;
-    Ok(Next::Ahead)
+    Ok(Next::FallThrough)
 }
 
 fn concatenate(alloc: Global, first: &Datum, second: &Datum) -> Result<Datum, ValueFault>
@@ -48,7 +48,7 @@ pub(crate) fn count_one(operands: &mut Vec<Operand>) -> Result<Next, ValueFault>
 {
     let text = pop_value(operands);
     put_value(operands, count(&text))?;
-    Ok(Next::Ahead)
+    Ok(Next::FallThrough)
 }
 
 fn count(text: &Datum) -> Datum
@@ -74,7 +74,7 @@ pub(crate) fn find_two(operands: &mut Vec<Operand>) -> Result<Next, ValueFault>
 {
     let (part, text) = pop_two(operands);
     put_value(operands, find(&part, &text))?;
-    Ok(Next::Ahead)
+    Ok(Next::FallThrough)
 }
 
 fn find(part: &Datum, text: &Datum) -> Datum
@@ -100,7 +100,7 @@ pub(crate) fn part_two(alloc: Global, operands: &mut Vec<Operand>) -> Result<Nex
 {
     let (text, from) = pop_two(operands);
     put_value(operands, part_from_position(alloc, &text, &from)?)?;
-    Ok(Next::Ahead)
+    Ok(Next::FallThrough)
 }
 
 fn part_from_position(alloc: Global, text: &Datum, from: &Datum) -> Result<Datum, ValueFault>
@@ -129,7 +129,7 @@ pub(crate) fn part_three(alloc: Global, operands: &mut Vec<Operand>) -> Result<N
 {
     let (text, from, count) = pop_three(operands);
     put_value(operands, part_between(alloc, &text, &from, &count)?)?;
-    Ok(Next::Ahead)
+    Ok(Next::FallThrough)
 }
 
 fn part_between(
@@ -159,7 +159,7 @@ pub(crate) fn trim_one(
 {
     let text = pop_value(operands);
     put_value(operands, trim(alloc, &text, side)?)?;
-    Ok(Next::Ahead)
+    Ok(Next::FallThrough)
 }
 
 fn trim(alloc: Global, text: &Datum, side: Side) -> Result<Datum, AllocError>
@@ -185,7 +185,7 @@ pub(crate) fn upper_one(alloc: Global, operands: &mut Vec<Operand>) -> Result<Ne
 {
     let text = pop_value(operands);
     put_value(operands, upper(alloc, &text)?)?;
-    Ok(Next::Ahead)
+    Ok(Next::FallThrough)
 }
 
 fn upper(alloc: Global, text: &Datum) -> Result<Datum, AllocError>
@@ -204,7 +204,7 @@ pub(crate) fn lower_one(alloc: Global, operands: &mut Vec<Operand>) -> Result<Ne
 {
     let text = pop_value(operands);
     put_value(operands, lower(alloc, &text)?)?;
-    Ok(Next::Ahead)
+    Ok(Next::FallThrough)
 }
 
 fn lower(alloc: Global, text: &Datum) -> Result<Datum, AllocError>
@@ -223,7 +223,7 @@ pub(crate) fn like_two(operands: &mut Vec<Operand>) -> Result<Next, ValueFault>
 {
     let (text, pattern) = pop_two(operands);
     put_truth(operands, liken(&text, &pattern)?)?;
-    Ok(Next::Ahead)
+    Ok(Next::FallThrough)
 }
 
 fn liken(text: &Datum, pattern: &Datum) -> Result<Truth, ValueFault>
@@ -242,7 +242,7 @@ pub(crate) fn like_three(operands: &mut Vec<Operand>) -> Result<Next, ValueFault
 {
     let (text, pattern, escape) = pop_three(operands);
     put_truth(operands, liken_escaped(&text, &pattern, &escape)?)?;
-    Ok(Next::Ahead)
+    Ok(Next::FallThrough)
 }
 
 fn liken_escaped(text: &Datum, pattern: &Datum, escape: &Datum) -> Result<Truth, ValueFault>

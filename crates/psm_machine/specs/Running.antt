@@ -17,7 +17,7 @@ use Rattle.psm_unwind.specs.declared.ending.Ending.TheVariants as ending
 use Rattle.psm_unwind.specs.declared.ending.Outcome.{Outcome}
 use Rattle.psm_unwind.specs.declared.ending.Outcome.TheVariants as outcome
 use Rattle.psm_unwind.specs.declared.run.Run.{Run}
-use Rattle.psm_unwind.specs.Marks.{Around, Stays, open_marks}
+use Rattle.psm_unwind.specs.Marks.{Encloses, Stays, open_marks}
 use Rattle.psm_unwind.specs.View.{LeadsTo, end_of, machine_of}
 use Rattle.psm_machine.specs.declared.running.Beginning.{Beginning}
 use Rattle.psm_machine.specs.declared.running.Beginning.TheVariants.{Runs, Over}
@@ -107,4 +107,4 @@ leaves_tables (Err e) = false
 
 -- marks outside all that a run has open stay
 abbrev pub StayAround : (Mark → Type 0) → (Mark → List Contents) → Run → (Mark → Type 0) → (Mark → List Contents) → Type 0
-StayAround holds at r holds_new at_new = (m : Mark) → holds m → Around (open_marks r) m → Stays at holds_new at_new m
+StayAround holds at r holds_new at_new = (m : Mark) → holds m → Encloses (open_marks r) m → Stays at holds_new at_new m

@@ -28,7 +28,7 @@ use Rattle.psm_unwind.specs.declared.ending.Outcome.{Outcome}
 use Rattle.psm_unwind.specs.declared.ending.Outcome.TheVariants as outcome
 use Rattle.psm_unwind.specs.declared.run.Run.{Run}
 use Rattle.psm_unwind.specs.Actions.{item_of}
-use Rattle.psm_unwind.specs.Marks.{Around, MarksStand, Stays, open_marks}
+use Rattle.psm_unwind.specs.Marks.{Encloses, MarksStand, Stays, open_marks}
 use Rattle.psm_unwind.specs.View.{LeadsTo, machine_of}
 use Rattle.psm_machine.specs.declared.stop.Stop.{Stop}
 use Rattle.psm_machine.specs.declared.stop.Stop.TheVariants as stop
@@ -191,4 +191,4 @@ pub record SameMarks (r new : Run) : Type 0 where
 -- outside all of them still. So who holds such a mark can put the tables back, whatever an instruction ends in.
 pub record StandStill (holds : Mark → Type 0) (at : Mark → List Contents) (count : ℕ) (r : Run) (holds_new : Mark → Type 0) (at_new : Mark → List Contents) (count_new : ℕ) (new : Run) : Type 0 where
   pub stand : MarksStand holds count r → MarksStand holds_new count_new new
-  pub outer : (m : Mark) → holds m → Around (open_marks r) m → Stays at holds_new at_new m × Around (open_marks new) m
+  pub outer : (m : Mark) → holds m → Encloses (open_marks r) m → Stays at holds_new at_new m × Encloses (open_marks new) m

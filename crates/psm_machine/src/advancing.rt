@@ -125,15 +125,15 @@ fn follow(
         }
         Instruction::Clear => {
             clear(run);
-            go_to(run, Next::Ahead)
+            go_to(run, Next::FallThrough)
         }
         Instruction::Store(slot) => {
             store_in(alloc, routine, run, *slot)?;
-            go_to(run, Next::Ahead)
+            go_to(run, Next::FallThrough)
         }
         Instruction::Turn => {
             turn(run)?;
-            go_to(run, Next::Ahead)
+            go_to(run, Next::FallThrough)
         }
         _ => Err(Stop::Stuck),
     }

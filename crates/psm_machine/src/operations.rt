@@ -24,7 +24,7 @@ pub fn operation(alloc: Global, run: &mut Run, op: &Op) -> Result<Next, Stop>
     let variables = run.running.variables.as_slice();
     match run.operands.apply(alloc, op, &[], variables) {
         // Each by itself, so that the answer isn't copied.
-        Ok(Next::Ahead) => Ok(Next::Ahead),
+        Ok(Next::FallThrough) => Ok(Next::FallThrough),
         Ok(Next::Jump(line)) => Ok(Next::Jump(line)),
         Err(fault) => Err(failed(alloc, fault)),
     }

@@ -21,7 +21,7 @@ pub(crate) fn go_to(run: &mut Run, next: Next) -> Result<(), Stop>
     ensures routine { run.new.running.routine ≡ run.old.running.routine }
 {
     match next {
-        Next::Ahead => {
+        Next::FallThrough => {
             let Some(line) = run.running.line.checked_add(1) else {
                 return Err(Stop::Memory);
             };
@@ -46,7 +46,7 @@ pub fn fall_through(run: &mut Run) -> Result<Outcome, Stop>
     ensures due { LeadsOn is_fall_through run.old result run.new }
     ensures same { SameFrames run.old run.new }
 {
-    go(run, Next::Ahead)
+    go(run, Next::FallThrough)
 }
 
 /// Goes on after a part of an instruction, if that wasn't stopped.

@@ -13,7 +13,7 @@ use Rattle.psm_exprcode.specs.declared.op.Op.TheVariants as op
 use Rattle.psm_exprcode.specs.declared.operand.Operand.{Operand}
 use Rattle.psm_exprcode.specs.declared.operand.Operand.TheVariants.{Value, Truth}
 use Rattle.psm_exprcode.specs.declared.operand.Next.{Next}
-use Rattle.psm_exprcode.specs.declared.operand.Next.TheVariants.{Ahead, Jump}
+use Rattle.psm_exprcode.specs.declared.operand.Next.TheVariants.{FallThrough, Jump}
 use Rattle.psm_exprcode.specs.Applied.{Applied, Went, Raised, Stuck, applied, nipped, on_many, on_truth, on_value, set_at, unless_true, with_named, with_truth, with_value}
 use Rattle.psm_exprcode.specs.Comparison.{is_null}
 use Rattle.psm_exprcode.specs.Fits.{Applies, Fits, Refuses, are_truths, are_values, finds, is_over_value}
@@ -113,25 +113,25 @@ module _ (low : List Operand) where
 
   by_nip : (os : List Operand) → IsTrue (is_over_value os) → nipped (os ++ low) ≡ on_those low (nipped os)
   by_nip [] h = absurd cc
-  by_nip (x ∷ os) h = by_value 0 (λ a rest. Went Ahead (x ∷ rest)) (λ a rest k. refl) os h
+  by_nip (x ∷ os) h = by_value 0 (λ a rest. Went FallThrough (x ∷ rest)) (λ a rest k. refl) os h
 
   -- ---- jumps
 
   set_on : (p : ℕ) (a : Datum) (os : List Operand) (b : Bool) → is_null a ≡ b → set_at p a (os ++ low) ≡ on_those low (set_at p a os)
-  set_on p a os true e = ap (λ c. if c then Went Ahead (os ++ low) else Went (Jump p) (Value a ∷ os ++ low)) e ∙ ap (on_those low) (ap (λ c. if c then Went Ahead os else Went (Jump p) (Value a ∷ os)) (sym e))
-  set_on p a os false e = ap (λ c. if c then Went Ahead (os ++ low) else Went (Jump p) (Value a ∷ os ++ low)) e ∙ ap (on_those low) (ap (λ c. if c then Went Ahead os else Went (Jump p) (Value a ∷ os)) (sym e))
+  set_on p a os true e = ap (λ c. if c then Went FallThrough (os ++ low) else Went (Jump p) (Value a ∷ os ++ low)) e ∙ ap (on_those low) (ap (λ c. if c then Went FallThrough os else Went (Jump p) (Value a ∷ os)) (sym e))
+  set_on p a os false e = ap (λ c. if c then Went FallThrough (os ++ low) else Went (Jump p) (Value a ∷ os ++ low)) e ∙ ap (on_those low) (ap (λ c. if c then Went FallThrough os else Went (Jump p) (Value a ∷ os)) (sym e))
 
   unless_on : (p : ℕ) (t : Answer) (os : List Operand) (b : Bool) → is_certain t ≡ b → unless_true p t (os ++ low) ≡ on_those low (unless_true p t os)
-  unless_on p t os true e = ap (λ c. if c then Went Ahead (os ++ low) else Went (Jump p) (os ++ low)) e ∙ ap (on_those low) (ap (λ c. if c then Went Ahead os else Went (Jump p) os) (sym e))
-  unless_on p t os false e = ap (λ c. if c then Went Ahead (os ++ low) else Went (Jump p) (os ++ low)) e ∙ ap (on_those low) (ap (λ c. if c then Went Ahead os else Went (Jump p) os) (sym e))
+  unless_on p t os true e = ap (λ c. if c then Went FallThrough (os ++ low) else Went (Jump p) (os ++ low)) e ∙ ap (on_those low) (ap (λ c. if c then Went FallThrough os else Went (Jump p) os) (sym e))
+  unless_on p t os false e = ap (λ c. if c then Went FallThrough (os ++ low) else Went (Jump p) (os ++ low)) e ∙ ap (on_those low) (ap (λ c. if c then Went FallThrough os else Went (Jump p) os) (sym e))
 
   module _ (row vars : List Datum) where
     pub framed : (o : Op) (os : List Operand) → IsTrue (finds o os) → Framed o os low row vars
     framed (op.Constant k d) os h = record { there = h; due = refl; gone = refl }
     framed (op.Variable i) os h = record { there = h; due = named_on os (slice_get vars i); gone = refl }
     framed (op.Column i) os h = record { there = h; due = named_on os (slice_get row i); gone = refl }
-    framed op.Duplicate os h = record { there = values_there 1 os h; due = by_value 0 (λ a rest. Went Ahead (Value a ∷ Value a ∷ rest)) (λ a rest k. refl) os h; gone = refl }
-    framed op.Drop os h = record { there = values_there 1 os h; due = by_value 0 (λ a rest. Went Ahead rest) (λ a rest k. refl) os h; gone = values_gone 1 os h }
+    framed op.Duplicate os h = record { there = values_there 1 os h; due = by_value 0 (λ a rest. Went FallThrough (Value a ∷ Value a ∷ rest)) (λ a rest k. refl) os h; gone = refl }
+    framed op.Drop os h = record { there = values_there 1 os h; due = by_value 0 (λ a rest. Went FallThrough rest) (λ a rest k. refl) os h; gone = values_gone 1 os h }
     framed op.DropBelow os h = record { there = over_there os h; due = by_nip os h; gone = over_gone os h }
     framed op.Negate os h = record { there = values_there 1 os h; due = by_value 0 _ (λ a rest k. refl) os h; gone = values_gone 1 os h }
     framed op.Add os h = record { there = values_there 2 os h; due = by_two _ (λ a b rest. value_on rest _) os h; gone = values_gone 2 os h }

@@ -15,7 +15,7 @@ use Rattle.psm_tree.specs.declared.statement.HandlerKind.{HandlerKind}
 use Rattle.psm_print.specs.Spelling.{Spelling, word, sign, perhaps, each, ended}
 use Rattle.psm_print.specs.ExprTokens.{name_tokens, type_tokens, expr_tokens}
 use Rattle.psm_print.specs.StatementTokens.{state_tokens, ordered_query_tokens, declaration_tokens, insensitive_tokens, updatability_tokens, cursor_tokens, handler_kind_tokens, handled_tokens, statement_tokens, handler_tokens}
-use Rattle.psm_print.proofs.PartTokens.{handler_parts_tokens, body_tokens, named_rest_tokens, declared_tokens, part_tokens, Late, Comes, Ordered}
+use Rattle.psm_print.proofs.PartTokens.{handler_parts_tokens, body_tokens, named_rest_tokens, declared_tokens, part_tokens, Late, MayPrecede, Ordered}
 use Rattle.psm_print.proofs.Regrouped.{before2, before3}
 use Rattle.psm_print.proofs.Equations.{handler_rolled}
 use Rattle.psm_print.proofs.Into.{PrintContext, Into, into_equal_if, into_seq, into_or, into_image, into_perhaps}
@@ -25,7 +25,7 @@ use Rattle.psm_print.proofs.TypesInto.{next_names_into, data_type_into}
 use Rattle.psm_print.proofs.ExprInto.{source_into}
 use Rattle.psm_print.proofs.PartsInto.{ordered_into, for_state_into, insensitive_into, updatability_into, atomic_into}
 use Rattle.psm_print.proofs.StatementInto.{ended_statements_into}
-use Rattle.psm_print.proofs.Phases.{only_comes}
+use Rattle.psm_print.proofs.Phases.{only_precedes}
 
 -- ---- after the name
 
@@ -119,7 +119,7 @@ handler_first place kind p b h =
     (handler_left _ (handler_kind_tokens kind.value) (handled_tokens p.values) (statement_tokens p.action) (ended (map handler_tokens b.handlers)) (ended (map statement_tokens b.statements))
     (handler_rolled (record { place = place; «at» = kind.place; kind = kind.value; values = p.values; action = p.action }))))
 
-named_first : (place : Place) (name : Identifier) (x : NamedRest) (b : Body) → Comes x b → word w.Declare ++ declare_tokens (Named name x, b) ≡ body_tokens (with_named place name x b)
+named_first : (place : Place) (name : Identifier) (x : NamedRest) (b : Body) → MayPrecede x b → word w.Declare ++ declare_tokens (Named name x, b) ≡ body_tokens (with_named place name x b)
 named_first place name (Variables others kind default) b h = variables_left (name_tokens name) (each (sign s.Comma) (map name_tokens others)) (type_tokens kind) (perhaps (word w.Default) (option_map expr_tokens default))
     (ended (map declaration_tokens b.declarations)) (ended (map cursor_tokens b.cursors)) (ended (map handler_tokens b.handlers)) (ended (map statement_tokens b.statements))
 named_first place name (Condition state) b h = condition_left (name_tokens name) (perhaps (word w.For) (option_map state_tokens state)) (ended (map declaration_tokens b.declarations)) (ended (map cursor_tokens b.cursors)) (ended (map handler_tokens b.handlers)) (ended (map statement_tokens b.statements))
@@ -130,7 +130,7 @@ declared_equal Declarations place (Handled kind p) b h = handler_first place kin
 declared_equal Cursors place (Handled kind p) b h = handler_first place kind p b h
 declared_equal Handlers place (Handled kind p) b h = handler_first place kind p b h
 declared_equal Declarations place (Named name x) b h = named_first place name x b h
-declared_equal Cursors place (Named name x) b h = named_first place name x b (only_comes x b h)
+declared_equal Cursors place (Named name x) b h = named_first place name x b (only_precedes x b h)
 declared_equal Handlers place (Named name x) b h = absurd h
 
 pub body_into : {z : PrintContext} (phase : Phase) → Into z (body_rest phase) (body_rest phase) body_tokens

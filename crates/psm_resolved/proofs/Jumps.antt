@@ -11,7 +11,7 @@ use Rattle.psm_exprcode.specs.declared.op.Op.{Op}
 use Rattle.psm_exprcode.specs.declared.op.Op.TheVariants as op
 use Rattle.psm_exprcode.specs.declared.operand.Operand.{Operand}
 use Rattle.psm_exprcode.specs.declared.operand.Operand.TheVariants.{Value, Truth}
-use Rattle.psm_exprcode.specs.declared.operand.Next.TheVariants.{Ahead, Jump}
+use Rattle.psm_exprcode.specs.declared.operand.Next.TheVariants.{FallThrough, Jump}
 use Rattle.psm_exprcode.specs.Applied.{Went, applied}
 use Rattle.psm_exprcode.specs.Comparison.{is_null}
 use Rattle.psm_exprcode.specs.Evaluated.{Outcome, line_after, goes_on, ran}
@@ -76,7 +76,7 @@ forked_ran : (row vars : List Datum) (p1 p4 : ℕ) (l : Line) (more : List Line)
 forked_ran row vars p1 p4 l more [] found unless v h end y n = refl
 forked_ran row vars p1 p4 l more (Value a ∷ os) found unless v h end y n = refl
 forked_ran row vars p1 p4 l more (Truth t ∷ os) found unless v h end y n = by (is_certain t) where
-  by : (b : Bool) → goes_on (if b then Went Ahead os else Went (Jump p4) os) (λ next. ran row vars (suc p1) (line_after p1 next) more) ≡ after (if b then v os else h os) end
+  by : (b : Bool) → goes_on (if b then Went FallThrough os else Went (Jump p4) os) (λ next. ran row vars (suc p1) (line_after p1 next) more) ≡ after (if b then v os else h os) end
   by true = y os
   by false = n os
 
@@ -133,7 +133,7 @@ set_ran : (row vars : List Datum) (p e : ℕ) (more : List Line) (os : List Oper
 set_ran row vars p e more [] h end y n = refl
 set_ran row vars p e more (Truth t ∷ os) h end y n = refl
 set_ran row vars p e more (Value a ∷ os) h end y n = by (is_null a) where
-  by : (b : Bool) → goes_on (if b then Went Ahead os else Went (Jump e) (Value a ∷ os)) (λ next. ran row vars (suc p) (line_after p next) more) ≡ after (if b then h os else Some (Ok (Value a ∷ os))) end
+  by : (b : Bool) → goes_on (if b then Went FallThrough os else Went (Jump e) (Value a ∷ os)) (λ next. ran row vars (suc p) (line_after p next) more) ≡ after (if b then h os else Some (Ok (Value a ∷ os))) end
   by true = y os
   by false = n (Value a ∷ os)
 

@@ -8,7 +8,7 @@ use Rattle.psm_exprcode.specs.declared.op.Line.{Line}
 use Rattle.psm_exprcode.specs.declared.op.Op.{Op}
 use Rattle.psm_exprcode.specs.declared.operand.Operand.{Operand}
 use Rattle.psm_exprcode.specs.declared.operand.Next.{Next}
-use Rattle.psm_exprcode.specs.declared.operand.Next.TheVariants.{Ahead}
+use Rattle.psm_exprcode.specs.declared.operand.Next.TheVariants.{FallThrough}
 use Rattle.psm_exprcode.specs.Applied.{Applied, Went, Raised, Stuck, applied}
 use Rattle.psm_exprcode.specs.Evaluated.{Outcome, line_after, goes_on, ran}
 use Rattle.psm_exprcode.specs.Kinds.{is_letter, is_value, some_value, some_letter}
@@ -25,7 +25,7 @@ use Rattle.psm_resolved.specs.Open.{then_move}
 abbrev pub fall_through : Moved → Applied
 fall_through None = Stuck
 fall_through (Some (Err state)) = Raised state
-fall_through (Some (Ok os)) = Went Ahead os
+fall_through (Some (Ok os)) = Went FallThrough os
 
 pub after_same : (m : Moved) (p q : List Operand → Outcome) → ((os : List Operand) → p os ≡ q os) → after m p ≡ after m q
 after_same None p q h = refl
@@ -37,7 +37,7 @@ after_then None g q = refl
 after_then (Some (Err state)) g q = refl
 after_then (Some (Ok os)) g q = refl
 
-goes_fall_through_after : (m : Moved) (go : Next → List Operand → Outcome) → goes_on (fall_through m) go ≡ after m (go Ahead)
+goes_fall_through_after : (m : Moved) (go : Next → List Operand → Outcome) → goes_on (fall_through m) go ≡ after m (go FallThrough)
 goes_fall_through_after None go = refl
 goes_fall_through_after (Some (Err state)) go = refl
 goes_fall_through_after (Some (Ok os)) go = refl

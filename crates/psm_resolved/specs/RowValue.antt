@@ -1,6 +1,6 @@
 -- What a row expression evaluates to over a row and variables (ISO/IEC 9075:1992, clauses 6 and 8): a value or a truth value, or
 -- the SQLSTATE of the first condition. A call and a subquery are no row expressions, and come to nothing; so does an operation
--- that finds a value in place of a truth value, or lacks a column or a variable.
+-- that finds a value in place of a truth value, or is stuck without a column or a variable.
 use Rattle.std.specs.Prelude.{ℕ, Bool, List, [], ◌∷◌, map, slice_get, Option, Some, None, Result, Ok}
 use Rattle.std.specs.Ordering.{is_eq, is_ne, is_lt, is_le, is_gt, is_ge}
 use Rattle.std.specs.declared.cmp.Ordering.{Ordering}

@@ -14,7 +14,7 @@ use Rattle.psm_meaning.specs.Session.{Standing, Went}
 use Rattle.psm_session.specs.CommandSteps.{Executes, commit, rollback, select, selected}
 use Rattle.psm_session.specs.Pieces.{selected_lines}
 use Rattle.psm_session.specs.Put.{Sunk}
-use Rattle.psm_session.specs.Steps.{Closes, Comes, Does, EndsIn, GoesOn, IsPut, IsTorn, Makes, Puts, Settled, Settles, settled, standing, step_after, tables_after}
+use Rattle.psm_session.specs.Steps.{Closes, ResultsIn, Does, EndsIn, GoesOn, IsPut, IsTorn, Makes, Puts, Settled, Settles, settled, standing, step_after, tables_after}
 use Rattle.psm_session.specs.declared.command.ScriptCommand.{ScriptCommand}
 use Rattle.psm_session.specs.declared.command.ScriptCommand.TheVariants as commands
 use Rattle.psm_session.specs.declared.step.CommandEnd.{CommandEnd}
@@ -134,7 +134,7 @@ module _ (code : RawCode) (k : ℕ) (s : Standing) (c : ScriptCommand) (t u : St
     ends steps.WriteFault turns h e = record { goes = h.goes; piece = h.piece; due = h.due; makes = h.makes; put = h.put; same = e ∙ h.same }
     ends steps.Memory turns h e = record { put = h.put; same = e ∙ h.same }
 
-    pub settles_comes : (step : Step) (result : Result Step AllocError) → u.turns ≡ t.turns → Closes code k s c sunk t step → Settles step c t u result → Comes code k s c sunk u result
+    pub settles_comes : (step : Step) (result : Result Step AllocError) → u.turns ≡ t.turns → Closes code k s c sunk t step → Settles step c t u result → ResultsIn code k s c sunk u result
     settles_comes step (Ok x) turns h e = subst (EndsIn code k s c sunk u) (sym e.0) (ends step turns h e.1)
     settles_comes step (Err x) turns h e = record { due = settled c t; is_put = subst (Closes code k s c sunk t) e.0 h; same = e.1 }
 

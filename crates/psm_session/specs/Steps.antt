@@ -90,9 +90,9 @@ pub record IsUnmarked (code : RawCode) (k : ℕ) (s : Standing) (c : ScriptComma
   pub same : t.tables ≡ due.tables
 
 -- the same, where the transaction may lose its mark because memory ran out
-abbrev pub Comes : RawCode → ℕ → Standing → ScriptCommand → Sunk → Standing → Result Step AllocError → Type 0
-Comes code k s c sunk t (Ok step) = EndsIn code k s c sunk t step
-Comes code k s c sunk t (Err e) = IsUnmarked code k s c sunk t
+abbrev pub ResultsIn : RawCode → ℕ → Standing → ScriptCommand → Sunk → Standing → Result Step AllocError → Type 0
+ResultsIn code k s c sunk t (Ok step) = EndsIn code k s c sunk t step
+ResultsIn code k s c sunk t (Err e) = IsUnmarked code k s c sunk t
 
 -- ---- steps of which the transaction isn't settled yet
 

@@ -12,7 +12,7 @@ use Rattle.psm_exprcode.specs.declared.op.Op.{Op}
 use Rattle.psm_exprcode.specs.declared.op.Op.TheVariants as op
 use Rattle.psm_exprcode.specs.declared.operand.Operand.{Operand}
 use Rattle.psm_exprcode.specs.declared.operand.Operand.TheVariants.{Value, Truth}
-use Rattle.psm_exprcode.specs.declared.operand.Next.TheVariants.{Ahead, Jump}
+use Rattle.psm_exprcode.specs.declared.operand.Next.TheVariants.{FallThrough, Jump}
 use Rattle.psm_exprcode.specs.Applied.{applied, on_three, on_two, on_value, with_value, Applied, Went, Raised, Stuck}
 use Rattle.psm_exprcode.specs.Comparison.{unless_equal}
 use Rattle.psm_exprcode.specs.Texts.{trim_of}
@@ -32,8 +32,8 @@ use Rattle.psm_tablecode.proofs.Conjunctions.{run, run_first, says, Goes}
 abbrev Values : List Datum → List Operand
 Values ds = map Value ds
 
-put_by : (d : Datum) (below : List Operand) (r : Result Datum (List ℕ)) → value_alone (with_value [] r) ≡ Some d → with_value below r ≡ Went Ahead (Value d ∷ below)
-put_by d below (Ok x) e = let same : x ≡ d = cc in ap (λ (y : Datum). Went Ahead (Value y ∷ below)) same
+put_by : (d : Datum) (below : List Operand) (r : Result Datum (List ℕ)) → value_alone (with_value [] r) ≡ Some d → with_value below r ≡ Went FallThrough (Value d ∷ below)
+put_by d below (Ok x) e = let same : x ≡ d = cc in ap (λ (y : Datum). Went FallThrough (Value y ∷ below)) same
 put_by d below (Err s) e = absurd cc
 
 -- one with others below it is not alone
@@ -42,20 +42,20 @@ not_alone d o os (Ok x) e = absurd cc
 not_alone d o os (Err s) e = absurd cc
 
 one_put : (f : Datum → Result Datum (List ℕ)) (d : Datum) (ds : List Datum) (os : List Operand) → value_alone (on_value (λ a below. with_value below (f a)) (Values ds)) ≡ Some d
-    → on_value (λ a below. with_value below (f a)) (Values ds ++ os) ≡ Went Ahead (Value d ∷ os)
+    → on_value (λ a below. with_value below (f a)) (Values ds ++ os) ≡ Went FallThrough (Value d ∷ os)
 one_put f d [] os e = absurd cc
 one_put f d (a ∷ []) os e = put_by d os (f a) e
 one_put f d (a ∷ b ∷ ds) os e = absurd (not_alone d (Value b) (Values ds) (f a) e)
 
 two_put : (f : Datum → Datum → Result Datum (List ℕ)) (d : Datum) (ds : List Datum) (os : List Operand) → value_alone (on_two (λ a b below. with_value below (f a b)) (Values ds)) ≡ Some d
-    → on_two (λ a b below. with_value below (f a b)) (Values ds ++ os) ≡ Went Ahead (Value d ∷ os)
+    → on_two (λ a b below. with_value below (f a b)) (Values ds ++ os) ≡ Went FallThrough (Value d ∷ os)
 two_put f d [] os e = absurd cc
 two_put f d (b ∷ []) os e = absurd cc
 two_put f d (b ∷ a ∷ []) os e = put_by d os (f a b) e
 two_put f d (b ∷ a ∷ c ∷ ds) os e = absurd (not_alone d (Value c) (Values ds) (f a b) e)
 
 three_put : (f : Datum → Datum → Datum → Result Datum (List ℕ)) (d : Datum) (ds : List Datum) (os : List Operand) → value_alone (on_three (λ a b c below. with_value below (f a b c)) (Values ds)) ≡ Some d
-    → on_three (λ a b c below. with_value below (f a b c)) (Values ds ++ os) ≡ Went Ahead (Value d ∷ os)
+    → on_three (λ a b c below. with_value below (f a b c)) (Values ds ++ os) ≡ Went FallThrough (Value d ∷ os)
 three_put f d [] os e = absurd cc
 three_put f d (c ∷ []) os e = absurd cc
 three_put f d (c ∷ b ∷ []) os e = absurd cc
@@ -66,7 +66,7 @@ three_put f d (c ∷ b ∷ a ∷ x ∷ ds) os e = absurd (not_alone d (Value x) 
 
 -- the operation goes on at the line that follows, if it goes on
 abbrev pub Straight : Applied → Type 0
-Straight (Went Ahead new) = Unit {0}
+Straight (Went FallThrough new) = Unit {0}
 Straight (Went (Jump p) new) = ⊥
 Straight (Raised state) = Unit {0}
 Straight Stuck = Unit {0}
@@ -107,7 +107,7 @@ module _ (row vars : List Datum) where
   -- what is known of an operation that folds values
   pub record Folds (n : ℕ) (o : Op) : Type 0 where
     pub fits : (os : List Operand) → are_values (suc n) os ≡ true → Fits o os row vars
-    pub puts : (d : Datum) (ds : List Datum) (os : List Operand) → value_put o ds ≡ Some d → applied o (Values ds ++ os) row vars ≡ Went Ahead (Value d ∷ os)
+    pub puts : (d : Datum) (ds : List Datum) (os : List Operand) → value_put o ds ≡ Some d → applied o (Values ds ++ os) row vars ≡ Went FallThrough (Value d ∷ os)
     pub straight : (os : List Operand) → Straight (applied o os row vars)
 
   one_says : (n : ℕ) (o : Op) (f : Datum → Result Datum (List ℕ)) → ((os : List Operand) (r v : List Datum) → applied o os r v ≡ on_value (λ a below. with_value below (f a)) os) → 1 ≡ suc n → ((os : List Operand) → finds o os ≡ are_values 1 os)
@@ -248,7 +248,7 @@ module _ (row vars : List Datum) where
 
   ran_on : (n : ℕ) (lines : List Line) (a : Applied) → Straight a → ((os : List Operand) → run row vars (suc n) lines os ≡ straight_on (ops_of lines) os)
       → goes_on a (λ next. ran row vars (suc n) (line_after n next) lines) ≡ goes_on a (λ next. straight_on (ops_of lines))
-  ran_on n lines (Went Ahead os) s h = h os
+  ran_on n lines (Went FallThrough os) s h = h os
   ran_on n lines (Went (Jump p) os) s h = absurd s
   ran_on n lines (Raised state) s h = refl
   ran_on n lines Stuck s h = refl
@@ -259,7 +259,7 @@ module _ (row vars : List Datum) where
       run_first row vars n l lines os ∙ ran_on n lines (applied l.op os row vars) (s.0 os) (λ new. ran_straight (suc n) lines s.1 new)
 
   goes_straight : (o : Op) (os : List Operand) (a : Applied) → Goes o os a → Straight a
-  goes_straight o os (Went Ahead new) g = tt
+  goes_straight o os (Went FallThrough new) g = tt
   goes_straight o os (Went (Jump p) new) g = g
   goes_straight o os (Raised state) g = tt
   goes_straight o os Stuck g = tt

@@ -21,7 +21,7 @@ use Rattle.psm_exprcode.specs.declared.op.Op.{Op}
 use Rattle.psm_exprcode.specs.declared.op.Op.TheVariants as op
 use Rattle.psm_exprcode.specs.declared.operand.Operand.{Operand}
 use Rattle.psm_exprcode.specs.declared.operand.Operand.TheVariants.{Value, Truth}
-use Rattle.psm_exprcode.specs.declared.operand.Next.TheVariants.{Ahead}
+use Rattle.psm_exprcode.specs.declared.operand.Next.TheVariants.{FallThrough}
 use Rattle.psm_exprcode.specs.Applied.{applied, Went}
 use Rattle.psm_exprcode.specs.Comparison.{truth_of}
 use Rattle.psm_exprcode.specs.Evaluated.{evaluated}
@@ -71,7 +71,7 @@ judged_by f (Text a) (Text b) = truth_of (f (data_order (Text a) (Text b)))
 
 -- the operation puts that on two values
 abbrev Judges : (Ordering → Bool) → Op → Type 0
-Judges f o = (a b : Datum) (os : List Operand) (row vars : List Datum) → applied o (Value b ∷ Value a ∷ os) row vars ≡ Went Ahead (Truth (judged_by f a b) ∷ os)
+Judges f o = (a b : Datum) (os : List Operand) (row vars : List Datum) → applied o (Value b ∷ Value a ∷ os) row vars ≡ Went FallThrough (Truth (judged_by f a b) ∷ os)
 
 judges_greater : Judges is_gt op.Greater
 judges_greater Null b os row vars = refl
@@ -224,19 +224,19 @@ ends (Some i) (Some v) d h =
 -- ---- three operations on end
 
 module _ (row vars : List Datum) (c : ℕ) (a b e : Op) (os first second third : List Operand)
-    (puts_a : applied a os row vars ≡ Went Ahead first) (puts_b : applied b first row vars ≡ Went Ahead second) (puts_e : applied e second row vars ≡ Went Ahead third) (t : all_true third ≡ true) where
+    (puts_a : applied a os row vars ≡ Went FallThrough first) (puts_b : applied b first row vars ≡ Went FallThrough second) (puts_e : applied e second row vars ≡ Went FallThrough third) (t : all_true third ≡ true) where
   abbrev here : Datum
   here = slice_index_or row c Null
 
-  column_of : (o : Op) (under over : List Operand) → is_column c o ≡ true → applied o under row vars ≡ Went Ahead over → (x : Datum) × (here ≡ x) × (over ≡ Value x ∷ under)
+  column_of : (o : Op) (under over : List Operand) → is_column c o ≡ true → applied o under row vars ≡ Went FallThrough over → (x : Datum) × (here ≡ x) × (over ≡ Value x ∷ under)
   column_of o under over i p = column_put row c under over (slice_get row c) refl (sym (ap (λ (q : Op). applied q under row vars) ((says row vars o).column c i)) ∙ p)
 
-  value_of : (d : Datum) (o : Op) (under over : List Operand) → fixed vars o ≡ Some d → applied o under row vars ≡ Went Ahead over → over ≡ Value d ∷ under
-  value_of d o under over f p = let went : Went Ahead (Value d ∷ under) ≡ Went Ahead over = sym ((says row vars o).puts d f under) ∙ p in let same : over ≡ Value d ∷ under = cc in same
+  value_of : (d : Datum) (o : Op) (under over : List Operand) → fixed vars o ≡ Some d → applied o under row vars ≡ Went FallThrough over → over ≡ Value d ∷ under
+  value_of d o under over f p = let went : Went FallThrough (Value d ∷ under) ≡ Went FallThrough over = sym ((says row vars o).puts d f under) ∙ p in let same : over ≡ Value d ∷ under = cc in same
 
   judged_at : (f : Ordering → Bool) → Judges f e → (x y : Datum) → second ≡ Value y ∷ Value x ∷ os → f (data_order x y) ≡ true
   judged_at f j x y u =
-      let went : Went Ahead (Truth (judged_by f x y) ∷ os) ≡ Went Ahead third = sym (ap (λ l. applied e l row vars) u ∙ j x y os row vars) ∙ puts_e in
+      let went : Went FallThrough (Truth (judged_by f x y) ∷ os) ≡ Went FallThrough third = sym (ap (λ l. applied e l row vars) u ∙ j x y os row vars) ∙ puts_e in
       let same : Truth (judged_by f x y) ∷ os ≡ third = cc in
       certain_judged f x y (and_first (is_certain (judged_by f x y)) (all_true os) (ap all_true same ∙ t))
 
@@ -288,7 +288,7 @@ module _ (row vars : List Datum) (c : ℕ) (a b e : Op) (os first second third :
 
 -- ---- BETWEEN
 
-range_put : (x l h : Datum) (os : List Operand) (row vars : List Datum) → applied op.Between (Value h ∷ Value l ∷ Value x ∷ os) row vars ≡ Went Ahead (Truth (both (judged_by is_ge x l) (judged_by is_le x h)) ∷ os)
+range_put : (x l h : Datum) (os : List Operand) (row vars : List Datum) → applied op.Between (Value h ∷ Value l ∷ Value x ∷ os) row vars ≡ Went FallThrough (Truth (both (judged_by is_ge x l) (judged_by is_le x h)) ∷ os)
 range_put Null l h os row vars = refl
 range_put (Num x) Null Null os row vars = refl
 range_put (Num x) Null (Num h) os row vars = refl
@@ -358,13 +358,13 @@ is_range_op (op.JumpUnlessTrue p) h = cc
 is_range_op (op.JumpUnlessNull p) h = cc
 
 module _ (row vars : List Datum) (c : ℕ) (o a b e : Op) (os first second third fourth : List Operand)
-    (puts_o : applied o os row vars ≡ Went Ahead first) (puts_a : applied a first row vars ≡ Went Ahead second) (puts_b : applied b second row vars ≡ Went Ahead third)
-    (puts_e : applied e third row vars ≡ Went Ahead fourth) (t : all_true fourth ≡ true) where
+    (puts_o : applied o os row vars ≡ Went FallThrough first) (puts_a : applied a first row vars ≡ Went FallThrough second) (puts_b : applied b second row vars ≡ Went FallThrough third)
+    (puts_e : applied e third row vars ≡ Went FallThrough fourth) (t : all_true fourth ≡ true) where
   abbrev there : Datum
   there = slice_index_or row c Null
 
-  put_value : (d : Datum) (p : Op) (under over : List Operand) → fixed vars p ≡ Some d → applied p under row vars ≡ Went Ahead over → over ≡ Value d ∷ under
-  put_value d p under over f q = let went : Went Ahead (Value d ∷ under) ≡ Went Ahead over = sym ((says row vars p).puts d f under) ∙ q in let same : over ≡ Value d ∷ under = cc in same
+  put_value : (d : Datum) (p : Op) (under over : List Operand) → fixed vars p ≡ Some d → applied p under row vars ≡ Went FallThrough over → over ≡ Value d ∷ under
+  put_value d p under over f q = let went : Went FallThrough (Value d ∷ under) ≡ Went FallThrough over = sym ((says row vars p).puts d f under) ∙ q in let same : over ≡ Value d ∷ under = cc in same
 
   -- the value of the column is from the one on and up to the other
   in_range : (l h : Datum) → e ≡ op.Between → is_column c o ≡ true → fixed vars a ≡ Some l → fixed vars b ≡ Some h → (is_ge (data_order there l) ≡ true) × (is_le (data_order there h) ≡ true)
@@ -374,7 +374,7 @@ module _ (row vars : List Datum) (c : ℕ) (o a b e : Op) (os first second third
       let z : third ≡ Value h ∷ Value l ∷ Value x.0 ∷ os = put_value h b second third w puts_b ∙ ap (λ z. Value h ∷ z) y in
       let low : truth_value.Truth = judged_by is_ge x.0 l in
       let high : truth_value.Truth = judged_by is_le x.0 h in
-      let went : Went Ahead (Truth (both low high) ∷ os) ≡ Went Ahead fourth = sym (ap (λ (q : Op). applied q third row vars) k ∙ ap (λ q. applied op.Between q row vars) z ∙ range_put x.0 l h os row vars) ∙ puts_e in
+      let went : Went FallThrough (Truth (both low high) ∷ os) ≡ Went FallThrough fourth = sym (ap (λ (q : Op). applied q third row vars) k ∙ ap (λ q. applied op.Between q row vars) z ∙ range_put x.0 l h os row vars) ∙ puts_e in
       let same : Truth (both low high) ∷ os ≡ fourth = cc in
       let certain : (is_certain high && (is_certain low && all_true os)) ≡ true = both_certain low high (all_true os) (ap all_true same ∙ t) in (
         ap (λ q. is_ge (data_order q l)) x.1 ∙ certain_judged is_ge x.0 l (and_first (is_certain low) (all_true os) (and_second (is_certain high) (is_certain low && all_true os) certain)),

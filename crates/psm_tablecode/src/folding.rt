@@ -1,7 +1,7 @@
 //! Constant folding: operations on constants and variables alone are replaced by their values (ISO/IEC 9075:1992, clause 6).
 ghost use Rattle.std.specs.Prelude.{◌≡◌, ◌+◌, ◌∷◌, ◌≤◌, [], drop, length, map, reverse, true, false, IfOk, IsTrue, MatchOption, Some, None, if◌then◌else◌};
 ghost use Rattle.std.specs.Option.{option_map};
-ghost use Rattle.psm_exprcode.specs.declared.operand.Next.TheVariants.{Ahead};
+ghost use Rattle.psm_exprcode.specs.declared.operand.Next.TheVariants.{FallThrough};
 ghost use Rattle.psm_exprcode.specs.declared.operand.Operand.TheVariants.{Value};
 ghost use Rattle.psm_exprcode.specs.Applied.{applied, Went};
 ghost use Rattle.psm_exprcode.specs.Fits.{Fits};
@@ -212,7 +212,7 @@ fn put(alloc: Global, op: &Op, operands: Vec<Operand>) -> Result<Option<Datum>, 
 {
     let mut operands = operands;
     match apply(alloc, op, &mut operands, &[], &[]) {
-        Ok(Next::Ahead) => Ok(alone(operands)),
+        Ok(Next::FallThrough) => Ok(alone(operands)),
         Ok(Next::Jump(_)) | Err(ValueFault::Condition(_)) => Ok(None),
         Err(ValueFault::Memory) => Err(AllocError),
     }
@@ -220,7 +220,7 @@ fn put(alloc: Global, op: &Op, operands: Vec<Operand>) -> Result<Option<Datum>, 
 
 // The value of operands that are no more than it.
 fn alone(operands: Vec<Operand>) -> Option<Datum>
-    ensures { result ≡ folding.value_alone (Went Ahead (reverse operands.items)) }
+    ensures { result ≡ folding.value_alone (Went FallThrough (reverse operands.items)) }
 {
     let mut operands = operands;
     match operands.pop() {

@@ -1,6 +1,6 @@
 use Rattle.std.proofs.Common.{List, sym, subst}
 use Rattle.psm_store.specs.declared.store.Mark.{Mark}
-use Rattle.psm_unwind.specs.Marks.{Around}
+use Rattle.psm_unwind.specs.Marks.{Encloses}
 use Rattle.psm_machine.proofs.CodeGuarantees.{may_ask, may_do, may_move, may_open}
 use Rattle.psm_machine.proofs.Standing.{marks_same, still_same}
 use Rattle.psm_machine.proofs.stepping.on_tables.Goals as goal
@@ -65,5 +65,5 @@ returns-in-Data-clause-due g c = rw c.in-Data.is c.change.ensures.due
 pub returns-in-Data-clause-still : goal.returns-in-Data-clause-still
 returns-in-Data-clause-still g c = record {
   stand = λ s. c.change.ensures.stand;
-  outer = λ m h a. (c.change.ensures.keeps m h tt, subst (λ (x : List Mark). Around x m) (sym (marks_same c.args.run.now c.change.new.run c.change.ensures.same).marks) a);
+  outer = λ m h a. (c.change.ensures.keeps m h tt, subst (λ (x : List Mark). Encloses x m) (sym (marks_same c.args.run.now c.change.new.run c.change.ensures.same).marks) a);
 }
