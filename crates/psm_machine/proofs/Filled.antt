@@ -41,11 +41,11 @@ pub pops_end : (count index : ℕ) (ds : List Datum) (m : Machine) → index ≡
 pops_end count index ds m e = let none : count - index ≡ 0 = omega (arith, e) in ap (λ k. pops k ds m) none
 
 -- there are fewer operands
-pub pops_lack : (os : List Operand) (n : ℕ) (ds : List Datum) (m : Machine) → m.running.operands ≡ os → length os < n → ((pops n ds m).given ≡ Ends Stuck) × (at_end (pops n ds m).machine ≡ at_end m)
-pops_lack os zero ds m e h = absurd (omega (arith, h))
-pops_lack [] (suc n) ds m e h = rw e (refl, refl)
-pops_lack (Value d ∷ os) (suc n) ds m e h = rw e (pops_lack os n (d ∷ ds) (with_running (λ a. record a { operands = os }) m) refl (omega (arith, h)))
-pops_lack (Truth t ∷ os) (suc n) ds m e h = rw e (refl, refl)
+pub pops_stuck : (os : List Operand) (n : ℕ) (ds : List Datum) (m : Machine) → m.running.operands ≡ os → length os < n → ((pops n ds m).given ≡ Ends Stuck) × (at_end (pops n ds m).machine ≡ at_end m)
+pops_stuck os zero ds m e h = absurd (omega (arith, h))
+pops_stuck [] (suc n) ds m e h = rw e (refl, refl)
+pops_stuck (Value d ∷ os) (suc n) ds m e h = rw e (pops_stuck os n (d ∷ ds) (with_running (λ a. record a { operands = os }) m) refl (omega (arith, h)))
+pops_stuck (Truth t ∷ os) (suc n) ds m e h = rw e (refl, refl)
 
 -- ---- rows of one width
 

@@ -1,4 +1,4 @@
-//! The value that a function returns (ISO/IEC 9075-4:1996, return statement), and ends that lack a statement.
+//! The value that a function returns (ISO/IEC 9075-4:1996, return statement), and ends without a statement.
 ghost use Rattle.std.specs.Prelude.{All, IfSome, codes};
 ghost use Rattle.psm_value.specs.SqlType.{IsType};
 ghost use Rattle.psm_code.specs.Calling.{result as result_of};

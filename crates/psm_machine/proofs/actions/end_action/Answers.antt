@@ -2,14 +2,14 @@ use Rattle.std.proofs.Common.{reverse, ap, sym, ◌∙◌}
 use Rattle.std.specs.Option.{option_copied}
 use Rattle.psm_unwind.specs.View.{at_end, frames_of, machine_of}
 use Rattle.psm_machine.specs.Successors.{resume_of}
-use Rattle.psm_machine.proofs.ActionEnds.{act_is, acting, lacks_action, stopped_goes}
+use Rattle.psm_machine.proofs.ActionEnds.{act_is, acting, stuck_at_action, stopped_goes}
 use Rattle.psm_machine.proofs.actions.end_action.Goals as goal
 
 pub returns-in_default-clause-due : goal.returns-in_default-clause-due
 returns-in_default-clause-due c = λ tables at.
-    let lacks = lacks_action c.args.routine.now c.args.number (machine_of tables at c.args.run.now)
+    let is_stuck = stuck_at_action c.args.routine.now c.args.number (machine_of tables at c.args.run.now)
     (sym c.in_default.is ∙ c.innermost_resume.ensures at ∙ ap (λ fs. resume_of c.args.number (frames_of at (reverse fs))) c.as_slice.ensures.value) in
-    (ap (λ x. x.given) lacks, ap (λ x. at_end x.machine) lacks)
+    (ap (λ x. x.given) is_stuck, ap (λ x. at_end x.machine) is_stuck)
 
 pub returns-in_err-line-clause-due : goal.returns-in_err-line-clause-due
 returns-in_err-line-clause-due c = λ tables at.

@@ -6,7 +6,7 @@ use Rattle.psm_unwind.proofs.Leavings.{frame_nested, leaves_next, reverse_pop}
 use Rattle.psm_unwind.proofs.Nestings.{leaves_none}
 use Rattle.psm_unwind.proofs.Unwinding.{outer_stay, running_nested, unwinds_frames, unwinds_none}
 use Rattle.psm_unwind.proofs.Views.{callers_stay, frames_stay}
-use Rattle.psm_machine.proofs.Exiting.{exit_came, exit_lacks}
+use Rattle.psm_machine.proofs.Exiting.{exit_came, exit_stuck}
 use Rattle.psm_machine.proofs.Standing.{still_unwound}
 use Rattle.psm_machine.proofs.blocks.exit.Goals as goal
 
@@ -15,8 +15,8 @@ leave_frame-requires g c = frame_nested (g.S.Store.holds c.args.store.now) (g.S.
 
 pub returns-in-None-clause-due : goal.returns-in-None-clause-due
 returns-in-None-clause-due g c =
-    let lacks = exit_lacks c.args.routine.now c.args.context (machine_of (g.S.Store.tables c.args.store.now) (g.S.Store.at c.args.store.now) c.args.run.now) (c.in-None.ensures.other (g.S.Store.at c.args.store.now)) in
-    (ap (λ x. x.given) lacks, ap (λ x. at_end x.machine) lacks)
+    let is_stuck = exit_stuck c.args.routine.now c.args.context (machine_of (g.S.Store.tables c.args.store.now) (g.S.Store.at c.args.store.now) c.args.run.now) (c.in-None.ensures.other (g.S.Store.at c.args.store.now)) in
+    (ap (λ x. x.given) is_stuck, ap (λ x. at_end x.machine) is_stuck)
 
 pub returns-in-None-clause-unwinds : goal.returns-in-None-clause-unwinds
 returns-in-None-clause-unwinds g c =

@@ -4,13 +4,13 @@ use Rattle.psm_unwind.specs.Actions.{activating_of, stacked_in}
 use Rattle.psm_unwind.specs.View.{machine_of}
 use Rattle.psm_machine.proofs.ActSequences.{stopped}
 use Rattle.psm_machine.proofs.Numbering.{item_in, item_next}
-use Rattle.psm_machine.proofs.StackedArea.{condition_of, lacks_area, none_there, some_there}
+use Rattle.psm_machine.proofs.StackedArea.{condition_of, stuck_at_area, none_there, some_there}
 use Rattle.psm_machine.proofs.entries.stacked_item.Goals as goal
 
 pub returns-then-not-runs_action-clause-due : goal.returns-then-not-runs_action-clause-due
 returns-then-not-runs_action-clause-due c = λ tables at.
     let none : there (stacked_in c.args.run.now) ≡ false = grind (arith, c.runs_action.ensures, c.if-not-runs_action.true) in
-    lacks_area tables at c.args.run.now (Unit {0}) (λ a. item_in a c.args.item) c.stop_at.result (none_there (stacked_in c.args.run.now) none) c.stop_at.ensures
+    stuck_at_area tables at c.args.run.now (Unit {0}) (λ a. item_in a c.args.item) c.stop_at.result (none_there (stacked_in c.args.run.now) none) c.stop_at.ensures
 
 pub returns-in_err-number-clause-due : goal.returns-in_err-number-clause-due
 returns-in_err-number-clause-due c = λ tables at.
