@@ -14,7 +14,9 @@ use crate::parts::{FunctionBuilder, numbered};
 use crate::storing::{gives, retrieves};
 use psm_code::{Instruction, Plan};
 use psm_exprcode::{Letter, Op};
-use psm_exprgen::{EmitContext, Known, expr, item_letters, letter_at, letters_at, number_at, query_code};
+use psm_exprgen::{
+    EmitContext, Known, expr, item_letters, letter_at, letters_at, number_at, query_code,
+};
 use psm_list::{Boxed, List};
 use psm_resolved::{
     ResolvedArgument, ResolvedDiagnostics, ResolvedExpr, ResolvedNumber, ResolvedQuery,

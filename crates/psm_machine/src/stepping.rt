@@ -117,7 +117,11 @@ fn take_next<S: Store>(
 fn next_of(there: bool, end: u32) -> Next
     ensures { successor_of result ≡ successor_for end there }
 {
-    if there { Next::FallThrough } else { Next::Jump(end) }
+    if there {
+        Next::FallThrough
+    } else {
+        Next::Jump(end)
+    }
 }
 
 fn is_of_data(instruction: &Instruction) -> bool

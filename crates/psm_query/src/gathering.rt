@@ -14,7 +14,7 @@ ghost use Rattle.psm_tablecode.specs.TypeChecks.{TypeChecksTable};
 ghost use Rattle.psm_query.specs.Tallies.{added, count_of, empty, finish as finish_of};
 
 use crate::answer::Answer;
-use crate::ends::{Beginning, tallies_from_ends, beginning_for_ends};
+use crate::ends::{Beginning, beginning_for_ends, tallies_from_ends};
 use crate::tally::{Tally, is_null};
 use psm_exprcode::{Aggregate, Items, Query};
 use psm_table::{Row, Table};

@@ -144,8 +144,8 @@ fn order(args: &[ArgKind], kinds: &[ArgKind], others: &[ArgKind]) -> Ordering
     requires others { length others.now ≡ length args.now }
     ensures { result ≡ order 0 args.now kinds.now others.now }
 {
-    for (place, arg) in args.iter().enumerate() {
-        match order_in(*arg, kinds[place], others[place]) {
+    for (index, arg) in args.iter().enumerate() {
+        match order_in(*arg, kinds[index], others[index]) {
             Ordering::Equal => {}
             decided => return decided,
         }

@@ -1,4 +1,4 @@
--- A block: the loops over its places, and the first of a set.
+-- A block: the loops over its indexes, and the first of a set.
 use Rattle.std.proofs.Common.{◌≡◌, ◌<◌, ◌≤◌, ◌≢◌, ◌^◌, ℕ, suc, zero, ◌+◌, ◌*◌, ◌%◌, Bool, true, false, nat_lt, ◌⊎◌, length, map, drop, List, [], ◌∷◌, ◌++◌, refl, ap, sym, ◌∙◌, subst, arith, append_assoc, inl, inr, drop-cons}
 use Rattle.std.specs.Prelude.{Option, Some, None, Result, Ok, Err, OnOk, OnErr, slice_index_or, slice_set}
 use Rattle.std.specs.Int.{trailing_zeros, w64}
@@ -10,7 +10,7 @@ use Rattle.std.proofs.lemmas.List.{get_or-set_other, get_or-set_same}
 use Rattle.std.proofs.lemmas.Nat.{one_shl}
 use Rattle.std.proofs.lemmas.Nat.Bits.{bit_at-trailing_zeros}
 use Rattle.psm_scope.specs.declared.blocks.Block.{Block}
-use Rattle.psm_scope.specs.declared.blocks.PlaceSets.{PlaceSets}
+use Rattle.psm_scope.specs.declared.blocks.ParameterSets.{ParameterSets}
 use Rattle.psm_scope.specs.declared.index.Exact.{Exact}
 use Rattle.psm_scope.specs.declared.kinds.ArgKind.{ArgKind}
 use Rattle.psm_scope.specs.Choice.{Candidate, goes_to, narrowed, narrowed_by}
@@ -34,38 +34,38 @@ same_default [] i d e lt = absurd (omega (arith, lt))
 same_default (x ∷ xs) zero d e lt = refl
 same_default (x ∷ xs) (suc i) d e lt = same_default xs i d e (omega (arith, lt))
 
--- ---- the next place
+-- ---- the next index
 
-pub next_going : (args : List ArgKind) (place : ℕ) (d : ArgKind) (xs ys zs : List Candidate) → place < length args
-    → ys ≡ filter (λ c. goes_to (slice_index_or args place d) (parameter place c)) xs → going place (drop place args) xs ≡ zs → going (place + 1) (drop (place + 1) args) ys ≡ zs
-next_going args place d xs ys zs lt made at =
-    let next : suc place ≡ place + 1 = omega arith in
+pub next_going : (args : List ArgKind) (index : ℕ) (d : ArgKind) (xs ys zs : List Candidate) → index < length args
+    → ys ≡ filter (λ c. goes_to (slice_index_or args index d) (parameter index c)) xs → going index (drop index args) xs ≡ zs → going (index + 1) (drop (index + 1) args) ys ≡ zs
+next_going args index d xs ys zs lt made at =
+    let next : suc index ≡ index + 1 = omega arith in
     subst (λ n. going n (drop n args) ys ≡ zs) next
-    (ap (going (suc place) (drop (suc place) args)) made ∙ sym (ap (λ l. going place l xs) (drop-cons args place d lt)) ∙ at)
+    (ap (going (suc index) (drop (suc index) args)) made ∙ sym (ap (λ l. going index l xs) (drop-cons args index d lt)) ∙ at)
 
-pub last_going : (args : List ArgKind) (place : ℕ) (xs zs : List Candidate) → length args ≤ place → going place (drop place args) xs ≡ zs → xs ≡ zs
-last_going args place xs zs le at = sym (ap (λ l. going place l xs) (dropped_all args place le)) ∙ at
+pub last_going : (args : List ArgKind) (index : ℕ) (xs zs : List Candidate) → length args ≤ index → going index (drop index args) xs ≡ zs → xs ≡ zs
+last_going args index xs zs le at = sym (ap (λ l. going index l xs) (dropped_all args index le)) ∙ at
 
-pub next_narrowed : (args : List ArgKind) (place : ℕ) (d : ArgKind) (xs ys zs : List Candidate) → place < length args
-    → ys ≡ narrowed_by (slice_index_or args place d) place xs → narrowed place (drop place args) xs ≡ zs → narrowed (place + 1) (drop (place + 1) args) ys ≡ zs
-next_narrowed args place d xs ys zs lt made at =
-    let next : suc place ≡ place + 1 = omega arith in
+pub next_narrowed : (args : List ArgKind) (index : ℕ) (d : ArgKind) (xs ys zs : List Candidate) → index < length args
+    → ys ≡ narrowed_by (slice_index_or args index d) index xs → narrowed index (drop index args) xs ≡ zs → narrowed (index + 1) (drop (index + 1) args) ys ≡ zs
+next_narrowed args index d xs ys zs lt made at =
+    let next : suc index ≡ index + 1 = omega arith in
     subst (λ n. narrowed n (drop n args) ys ≡ zs) next
-    (ap (narrowed (suc place) (drop (suc place) args)) made ∙ sym (ap (λ l. narrowed place l xs) (drop-cons args place d lt)) ∙ at)
+    (ap (narrowed (suc index) (drop (suc index) args)) made ∙ sym (ap (λ l. narrowed index l xs) (drop-cons args index d lt)) ∙ at)
 
--- what holds of the items below a place holds of those up to it once the item there is replaced by one of which it holds
-pub next_set : (P : ℕ → PlaceSets → Type 0) (items : List PlaceSets) (place p : ℕ) (new d : PlaceSets) → place < length items → (p < place → P p (slice_index_or items p d)) → P place new → p < place + 1
-    → P p (slice_index_or (slice_set items place new) p d)
-next_set P items place p new d within below here lt = by (cases_lt p place)
+-- what holds of the items below an index holds of those up to it once the item there is replaced by one of which it holds
+pub next_set : (P : ℕ → ParameterSets → Type 0) (items : List ParameterSets) (index p : ℕ) (new d : ParameterSets) → index < length items → (p < index → P p (slice_index_or items p d)) → P index new → p < index + 1
+    → P p (slice_index_or (slice_set items index new) p d)
+next_set P items index p new d within below here lt = by (cases_lt p index)
   where
-    by : (p < place) ⊎ (place ≤ p) → P p (slice_index_or (slice_set items place new) p d)
-    by (inl less) = subst (λ s. P p s) (sym (get_or-set_other items place p new d (omega (arith, less)))) (below less)
+    by : (p < index) ⊎ (index ≤ p) → P p (slice_index_or (slice_set items index new) p d)
+    by (inl less) = subst (λ s. P p s) (sym (get_or-set_other items index p new d (omega (arith, less)))) (below less)
     by (inr more) =
-        let at : place ≡ p = omega (arith, more, lt) in
-        subst (λ q. P q (slice_index_or (slice_set items place new) q d)) at (subst (λ s. P place s) (sym (get_or-set_same items place new d within)) here)
+        let at : index ≡ p = omega (arith, more, lt) in
+        subst (λ q. P q (slice_index_or (slice_set items index new) q d)) at (subst (λ s. P index s) (sym (get_or-set_same items index new d within)) here)
 
-pub left_set : (items : List PlaceSets) (place p : ℕ) (new d : PlaceSets) → place + 1 ≤ p → slice_index_or (slice_set items place new) p d ≡ slice_index_or items p d
-left_set items place p new d le = get_or-set_other items place p new d (omega (arith, le))
+pub left_set : (items : List ParameterSets) (index p : ℕ) (new d : ParameterSets) → index + 1 ≤ p → slice_index_or (slice_set items index new) p d ≡ slice_index_or items p d
+left_set items index p new d le = get_or-set_other items index p new d (omega (arith, le))
 
 -- ---- one function more
 
@@ -77,7 +77,7 @@ module _ (cs : List Candidate) (b : Block) (is : IsBlock cs b) where
   as_many = ap length is.numbers ∙ length_map (λ (c : Candidate). c.0) cs
 
   pub more_block : (new : Block) (c : Candidate) → length b.numbers.items < 64 → new.numbers.items ≡ b.numbers.items ++ c.0 ∷ [] → new.all ≡ bit_or b.all (2 ^ length cs)
-      → ((place : ℕ) (d : PlaceSets) → place < length new.places.items → HasSets place (cs ++ c ∷ []) (slice_index_or new.places.items place d)) → IsBlock (cs ++ c ∷ []) new
+      → ((index : ℕ) (d : ParameterSets) → index < length new.parameter_sets.items → HasSets index (cs ++ c ∷ []) (slice_index_or new.parameter_sets.items index d)) → IsBlock (cs ++ c ∷ []) new
   more_block new c room numbers all sets = record {
     few =
         let m : length (cs ++ c ∷ []) ≡ suc (length cs) = length_last cs c in
@@ -126,38 +126,38 @@ pub err_then : {A E : Type 0} {P Q : Type 0} (r : Result A E) → (P → Q) → 
 err_then (Ok a) f p = p
 err_then (Err e) f p = f p
 
-pub places_at : (count : ℕ) (cs : List Candidate) (bs : List Block) (k : ℕ) (d : Block) → AreBlocks count cs bs → k < length bs → length (slice_index_or bs k d).places.items ≡ count
-places_at count cs [] k d are lt = absurd (omega (arith, lt))
-places_at count cs (b ∷ bs) zero d are lt = are.3
-places_at count cs (b ∷ bs) (suc k) d are lt = places_at count are.1 bs k d are.5 (omega (arith, lt))
+pub sets_at : (count : ℕ) (cs : List Candidate) (bs : List Block) (k : ℕ) (d : Block) → AreBlocks count cs bs → k < length bs → length (slice_index_or bs k d).parameter_sets.items ≡ count
+sets_at count cs [] k d are lt = absurd (omega (arith, lt))
+sets_at count cs (b ∷ bs) zero d are lt = are.3
+sets_at count cs (b ∷ bs) (suc k) d are lt = sets_at count are.1 bs k d are.5 (omega (arith, lt))
 
 -- the last block is replaced by one with more functions
 pub last_more : (count : ℕ) (cs more : List Candidate) (bs : List Block) (k : ℕ) (new d : Block) → AreBlocks count cs bs → suc k ≡ length bs
-    → ((ds : List Candidate) → IsBlock ds (slice_index_or bs k d) → IsBlock (ds ++ more) new) → length new.places.items ≡ count → AreBlocks count (cs ++ more) (slice_set bs k new)
-last_more count cs more [] k new d are last grows places = absurd (omega (arith, last))
-last_more count cs more (b ∷ []) zero new d are last grows places =
+    → ((ds : List Candidate) → IsBlock ds (slice_index_or bs k d) → IsBlock (ds ++ more) new) → length new.parameter_sets.items ≡ count → AreBlocks count (cs ++ more) (slice_set bs k new)
+last_more count cs more [] k new d are last grows parameter_sets = absurd (omega (arith, last))
+last_more count cs more (b ∷ []) zero new d are last grows parameter_sets =
     let none : are.1 ≡ [] = are.5 in
     let first : are.0 ≡ cs = sym (none_last are.0) ∙ sym (ap (λ l. are.0 ++ l) none) ∙ are.2 in
-    (are.0 ++ more, [], none_last (are.0 ++ more) ∙ ap (λ l. l ++ more) first, places, grows are.0 are.4, refl)
-last_more count cs more (b ∷ []) (suc k) new d are last grows places = absurd (omega (arith, last))
-last_more count cs more (b ∷ e ∷ bs) zero new d are last grows places = absurd (omega (arith, last))
-last_more count cs more (b ∷ e ∷ bs) (suc k) new d are last grows places = (
+    (are.0 ++ more, [], none_last (are.0 ++ more) ∙ ap (λ l. l ++ more) first, parameter_sets, grows are.0 are.4, refl)
+last_more count cs more (b ∷ []) (suc k) new d are last grows parameter_sets = absurd (omega (arith, last))
+last_more count cs more (b ∷ e ∷ bs) zero new d are last grows parameter_sets = absurd (omega (arith, last))
+last_more count cs more (b ∷ e ∷ bs) (suc k) new d are last grows parameter_sets = (
   are.0,
   are.1 ++ more,
   sym (append_assoc are.0 are.1 more) ∙ ap (λ l. l ++ more) are.2,
   are.3,
   are.4,
-  last_more count are.1 more (e ∷ bs) k new d are.5 (omega (arith, last)) grows places,
+  last_more count are.1 more (e ∷ bs) k new d are.5 (omega (arith, last)) grows parameter_sets,
 )
 
 pub last_same : (count : ℕ) (cs : List Candidate) (bs : List Block) (k : ℕ) (new d : Block) → AreBlocks count cs bs → suc k ≡ length bs
-    → ((ds : List Candidate) → IsBlock ds (slice_index_or bs k d) → IsBlock ds new) → length new.places.items ≡ count → AreBlocks count cs (slice_set bs k new)
-last_same count cs bs k new d are last keeps places =
+    → ((ds : List Candidate) → IsBlock ds (slice_index_or bs k d) → IsBlock ds new) → length new.parameter_sets.items ≡ count → AreBlocks count cs (slice_set bs k new)
+last_same count cs bs k new d are last keeps parameter_sets =
     subst (λ l. AreBlocks count l (slice_set bs k new)) (none_last cs)
-    (last_more count cs [] bs k new d are last (λ ds is. subst (λ l. IsBlock l new) (sym (none_last ds)) (keeps ds is)) places)
+    (last_more count cs [] bs k new d are last (λ ds is. subst (λ l. IsBlock l new) (sym (none_last ds)) (keeps ds is)) parameter_sets)
 
 -- a block comes after the others
-pub one_after : (count : ℕ) (cs ds : List Candidate) (bs : List Block) (new : Block) → AreBlocks count cs bs → IsBlock ds new → length new.places.items ≡ count → AreBlocks count (cs ++ ds) (bs ++ new ∷ [])
-one_after count cs ds [] new are is places = (ds, [], none_last ds ∙ ap (λ l. l ++ ds) (sym are), places, is, refl)
-one_after count cs ds (b ∷ bs) new are is places =
-    (are.0, are.1 ++ ds, sym (append_assoc are.0 are.1 ds) ∙ ap (λ l. l ++ ds) are.2, are.3, are.4, one_after count are.1 ds bs new are.5 is places)
+pub one_after : (count : ℕ) (cs ds : List Candidate) (bs : List Block) (new : Block) → AreBlocks count cs bs → IsBlock ds new → length new.parameter_sets.items ≡ count → AreBlocks count (cs ++ ds) (bs ++ new ∷ [])
+one_after count cs ds [] new are is parameter_sets = (ds, [], none_last ds ∙ ap (λ l. l ++ ds) (sym are), parameter_sets, is, refl)
+one_after count cs ds (b ∷ bs) new are is parameter_sets =
+    (are.0, are.1 ++ ds, sym (append_assoc are.0 are.1 ds) ∙ ap (λ l. l ++ ds) are.2, are.3, are.4, one_after count are.1 ds bs new are.5 is parameter_sets)
