@@ -57,7 +57,7 @@ fn call(
     )
 }
 
-// The same where the fetches of these numbers fail, and the puts of these numbers, which keep the numbers of bytes that stand with them.
+// The same where the fetches of these numbers fail, and the puts of these numbers, which keep as many bytes as stand with them.
 fn failing_call(
     alloc: Global,
     given: &str,
