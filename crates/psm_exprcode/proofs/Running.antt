@@ -123,13 +123,13 @@ lands_branch end at p puts (Some jump) rest after os h d =
     (omega (arith, d.0, fall_through), ap (λ q. stands end after (q - suc at) os) d.0 ∙ lands_stands end after (jump.0 - suc at) (jump.1 ++ rest) os (and_second (nat_lt at jump.0) (lands end after (jump.0 - suc at) (jump.1 ++ rest)) h) d.1)
 
 -- an operation goes on as P says, or raises a condition
-abbrev pub Goes : (Next → List Operand → Type 0) → Applied → Type 0
-Goes P (Went next os) = P next os
-Goes P (Raised state) = Unit {0}
-Goes P Stuck = ⊥
+abbrev pub StepsTo : (Next → List Operand → Type 0) → Applied → Type 0
+StepsTo P (Went next os) = P next os
+StepsTo P (Raised state) = Unit {0}
+StepsTo P Stuck = ⊥
 
 leads_goes : (end : Letter) (at : ℕ) (puts : Option (List Letter)) (branching : Option (ℕ × List Letter)) (rest : List Letter) (after : List Line) (a : Applied) → falls_through end puts rest after ≡ true
-    → branches end at branching rest after ≡ true → Leads puts branching rest a → Goes (Lands end at after) a
+    → branches end at branching rest after ≡ true → Leads puts branching rest a → StepsTo (Lands end at after) a
 leads_goes end at puts branching rest after (Went FallThrough os) h g d = lands_fall_through end at puts branching rest after os h d
 leads_goes end at puts branching rest after (Went (Jump p) os) h g d = lands_branch end at p puts branching rest after os g d
 leads_goes end at puts branching rest after (Raised state) h g d = tt
@@ -155,7 +155,7 @@ line_successor : (row vars : List Datum) (end : Letter) (at pc : ℕ) (l : Line)
 line_successor row vars end at pc l after os h = successor_of h.may end at l after (and_first (is_line h.may end at l after) (are_lines h.may end (suc at) after) h.right)
 
 line_leads : (row vars : List Datum) (end : Letter) (at pc : ℕ) (l : Line) (after : List Line) (os : List Operand) → Runs row vars end at pc (l ∷ after) os → at ≡ pc
-    → Goes (Lands end at after) (applied l.op os row vars)
+    → StepsTo (Lands end at after) (applied l.op os row vars)
 line_leads row vars end at pc l after os h e =
     let w = line_successor row vars end at pc l after os h in
     leads_goes end at (effect l.op w.kind w.other).fall_through (effect l.op w.kind w.other).branching w.rest after (applied l.op os row vars) w.fall_through w.branching
@@ -180,7 +180,7 @@ line_next row vars end at pc l after os us next h g = record {
 line_goes : (row vars : List Datum) (end : Letter) (at pc : ℕ) (l : Line) (after : List Line) (os us : List Operand) (next : Next) → Runs row vars end at pc (l ∷ after) os → at ≡ pc
     → applied l.op os row vars ≡ Went next us → Runs row vars end (suc at) (line_after at next) after us
 line_goes row vars end at pc l after os us next h e g =
-    let F : Applied → Type 0 = λ a. Goes (Lands end at after) a in
+    let F : Applied → Type 0 = λ a. StepsTo (Lands end at after) a in
     line_next row vars end at pc l after os us next h (subst F g (line_leads row vars end at pc l after os h e))
 
 eq-suc : (m n : ℕ) (b : Bool) → nat_eq m n ≡ b → nat_eq (suc m) (suc n) ≡ b
@@ -230,7 +230,7 @@ IsDue end (Some (Ok o)) = is_of end o ≡ true
 IsDue end (Some (Err state)) = Unit {0}
 
 goes_due : (row vars : List Datum) (end : Letter) (at : ℕ) (after : List Line) (a : Applied) → ((next : Next) (os : List Operand) → Lands end at after next os → IsDue end (ran row vars (suc at) (line_after at next) after os))
-    → Goes (Lands end at after) a → IsDue end (goes_on a (λ next. ran row vars (suc at) (line_after at next) after))
+    → StepsTo (Lands end at after) a → IsDue end (goes_on a (λ next. ran row vars (suc at) (line_after at next) after))
 goes_due row vars end at after (Went next os) f h = f next os h
 goes_due row vars end at after (Raised state) f h = tt
 goes_due row vars end at after Stuck f h = absurd h
