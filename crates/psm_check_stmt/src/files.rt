@@ -3,7 +3,7 @@ ghost use Rattle.std.specs.Prelude.{◌≡◌, [], map, IfOk};
 ghost use Rattle.psm_rules.specs.declared.rule.Rule.TheVariants as rules_of;
 ghost use Rattle.psm_rules.specs.Faults.{first_of};
 ghost use Rattle.psm_rules.specs.StatementFaults.{repeated};
-ghost use Rattle.psm_rules.specs.FileFaults.{file_fault, routines_fault, table_fault, with_table, symbols_of};
+ghost use Rattle.psm_rules.specs.FileFaults.{file_fault, no_symbols, routines_fault, symbols_of, table_fault, with_routines, with_table, with_tables};
 
 use crate::references::references_fault;
 use crate::repeated::Repeats;
@@ -21,11 +21,36 @@ use std::alloc::{AllocError, Global};
 pub fn file_fault(alloc: Global, file: &FileTree) -> Result<Option<Fault>, AllocError>
     ensures { IfOk result (λ f. f ≡ file_fault file.now) }
 {
+    let mut symbols = SymbolTable::new(alloc);
+    declared_fault(alloc, &mut symbols, file)
+}
+
+// The first fault of a file, which is declared in a symbol table that has nothing in it.
+fn declared_fault<'a>(
+    alloc: Global,
+    symbols: &mut SymbolTable<'a>,
+    file: &'a FileTree,
+) -> Result<Option<Fault>, AllocError>
+    requires nothing_known { symbols.old ≡ no_symbols }
+    ensures { IfOk result (λ f. f ≡ file_fault file.now) }
+{
+    declare_symbols(alloc, file, symbols)?;
+    fault_with(alloc, &*symbols, file)
+}
+
+// The first fault of a file, where what it declares is known.
+fn fault_with<'a>(
+    alloc: Global,
+    symbols: &SymbolTable<'a>,
+    file: &'a FileTree,
+) -> Result<Option<Fault>, AllocError>
+    requires known { symbols.now ≡ symbols_of file.now }
+    ensures { IfOk result (λ f. f ≡ file_fault file.now) }
+{
     let names = table_names_fault(alloc, file.tables.items())?;
     let tables = tables_fault(alloc, file.tables.items())?;
     let references = references_fault(alloc, file.tables.items())?;
-    let symbols = symbols_of(alloc, file)?;
-    let routines = routines_fault(alloc, &symbols, file.module.routines.items())?;
+    let routines = routines_fault(alloc, symbols, file.module.routines.items())?;
     Ok(earlier(earlier(earlier(names, tables), references), routines))
 }
 
@@ -67,16 +92,18 @@ fn routines_fault<'a>(
     Ok(fault)
 }
 
-// What the tables and the routines of a file declare; each routine is known in the whole module.
-fn symbols_of<'a>(alloc: Global, file: &'a FileTree) -> Result<SymbolTable<'a>, AllocError>
-    ensures { IfOk result (λ symbols. symbols ≡ symbols_of file.now) }
+// Declares the tables and the routines of a file; each routine is known in the whole module.
+fn declare_symbols<'a>(
+    alloc: Global,
+    file: &'a FileTree,
+    symbols: &mut SymbolTable<'a>,
+) -> Result<(), AllocError>
+    ensures { IfOk result (λ _. symbols.new ≡ with_routines (with_tables symbols.old file.now.tables) file.now.«module».routines) }
 {
-    let mut symbols = SymbolTable::new(alloc);
     for table in file.tables.items() {
-        declare_table(alloc, table, &mut symbols)?;
+        declare_table(alloc, table, symbols)?;
     }
-    declare_routines(alloc, file.module.routines.items(), &mut symbols)?;
-    Ok(symbols)
+    declare_routines(alloc, file.module.routines.items(), symbols)
 }
 
 fn declare_table<'a>(

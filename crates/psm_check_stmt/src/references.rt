@@ -29,10 +29,21 @@ pub(crate) fn references_fault(
     ensures { IfOk result (λ f. f ≡ first_of (references_faults [] tables.now)) }
 {
     let mut known = NamesOf::new(alloc);
+    tables_fault(alloc, &mut known, tables)
+}
+
+// The first fault of what tables refer to, where some tables stand before them.
+fn tables_fault<'a>(
+    alloc: Global,
+    known: &mut Referable<'a>,
+    tables: &'a [TableTree],
+) -> Result<Option<Fault>, AllocError>
+    ensures { IfOk result (λ f. f ≡ first_of (references_faults known.old tables.now)) }
+{
     let mut fault = None;
     for table in tables {
-        add_referred(alloc, &mut known, table)?;
-        let own = table_fault(alloc, &known, table)?;
+        add_referred(alloc, known, table)?;
+        let own = table_fault(alloc, &*known, table)?;
         fault = earlier(fault, own);
     }
     Ok(fault)

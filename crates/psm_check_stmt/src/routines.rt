@@ -6,7 +6,7 @@ ghost use Rattle.psm_rules.specs.Faults.{first_of};
 ghost use Rattle.psm_rules.specs.BlockFaults.{statement_fault};
 ghost use Rattle.psm_rules.specs.StatementFaults.{repeated, several};
 ghost use Rattle.psm_rules.specs.FileFaults.{block_returns, body_context, branch_returns, handler_returns, has_return, is_in, kind_of_routine, characteristic_number, characteristics_fault, parameter_fault, parameter_variable, result_fault, return_fault, returns, routine_fault, routine_scopes, some, with_parameter, with_routine, with_routines};
-ghost use Rattle.psm_check_stmt.specs.InRoutine.{within_of};
+ghost use Rattle.psm_check_stmt.specs.InRoutine.{context, within_of};
 
 use crate::blocks::statement_fault;
 use crate::repeated::Repeats;
@@ -272,16 +272,16 @@ fn parameter_names_fault(
     Ok(names.fault())
 }
 
-// The scope of a routine, in which its parameters are variables.
-fn routine_scopes<'a>(alloc: Global, r: &'a Routine) -> Result<Scopes<'a>, AllocError>
-    ensures { IfOk result (λ scopes. scopes ≡ routine_scopes r.now) }
+// The scope of a routine, in which its parameters are variables, where no scope stands around it.
+fn push_routine<'a>(scopes: &mut Scopes<'a>, r: &'a Routine) -> Result<(), AllocError>
+    requires nothing_around { scopes.old ≡ [] }
+    ensures { IfOk result (λ _. scopes.new ≡ routine_scopes r.now) }
 {
-    let mut scopes = Scopes::new(alloc);
     scopes.push(ScopeKind::Routine(&r.name.name))?;
     for parameter in r.parameters.items() {
-        declare_parameter(&mut scopes, parameter)?;
+        declare_parameter(scopes, parameter)?;
     }
-    Ok(scopes)
+    Ok(())
 }
 
 fn declare_parameter<'a>(
@@ -367,6 +367,19 @@ fn body_fault<'a>(
         symbols,
         within: within(&r.returns),
     };
-    let mut scopes = routine_scopes(alloc, r)?;
-    statement_fault(r.body.get(), c, &mut scopes)
+    let mut scopes = Scopes::new(alloc);
+    fault_within(c, &mut scopes, r)
+}
+
+// The first fault of a routine's body, where no scope stands around the routine.
+fn fault_within<'w, 'a>(
+    c: Context<'w, 'a>,
+    scopes: &mut Scopes<'a>,
+    r: &'a Routine,
+) -> Result<Option<Fault>, AllocError>
+    requires nothing_around { scopes.old ≡ [] }
+    ensures { IfOk result (λ f. f ≡ statement_fault r.now.body (context c.entry (routine_scopes r.now))) }
+{
+    push_routine(scopes, r)?;
+    statement_fault(r.body.get(), c, scopes)
 }

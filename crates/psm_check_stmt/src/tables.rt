@@ -175,11 +175,25 @@ fn is_stored(alloc: Global, kind: SqlType, value: &Datum) -> Result<bool, AllocE
 pub(crate) fn table_fault(alloc: Global, table: &TableTree) -> Result<Option<Fault>, AllocError>
     ensures { IfOk result (λ f. f ≡ table_fault table.now) }
 {
-    let columns = columns_of(alloc, table)?;
     let symbols = SymbolTable::new(alloc);
     let scopes = Scopes::new(alloc);
+    fault_alone(alloc, table, &symbols, &scopes)
+}
+
+// The first fault of a table, where nothing else is known.
+fn fault_alone<'a>(
+    alloc: Global,
+    table: &'a TableTree,
+    symbols: &SymbolTable<'a>,
+    scopes: &Scopes<'a>,
+) -> Result<Option<Fault>, AllocError>
+    requires nothing_known { symbols.now ≡ no_symbols }
+    requires nothing_around { scopes.now ≡ [] }
+    ensures { IfOk result (λ f. f ≡ table_fault table.now) }
+{
     let own = own_faults(alloc, table)?;
-    elements_fault(alloc, table, &columns, &symbols, &scopes, own)
+    let columns = columns_of(alloc, table)?;
+    elements_fault(alloc, table, &columns, symbols, scopes, own)
 }
 
 // A CHECK sees the columns of its table alone, of which a symbol table and scopes with nothing in them know nothing.

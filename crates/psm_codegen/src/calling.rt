@@ -50,13 +50,7 @@ fn call_argument(
         ResolvedArgument::Out { .. } => Ok(index),
         ResolvedArgument::InOut { slot } => {
             let letter = letter_at(emit_context.known.variables.items(), *slot as usize);
-            out.applied(
-                emit_context.context,
-                emit_context.resume,
-                Op::Variable(*slot),
-                0,
-                letter,
-            )?;
+            out.applied(emit_context, Op::Variable(*slot), 0, letter)?;
             Ok(index + 1)
         }
     }
@@ -114,13 +108,7 @@ fn default(
     ensures { IfOk result (λ _. Drafted (λ σ. Default emit_context.entry.known.now emit_context.entry.context (σ emit_context.entry.resume) letter value.now) out.old out.new) }
 {
     match value {
-        None => out.applied(
-            emit_context.context,
-            emit_context.resume,
-            Op::Constant(letter, Datum::Null),
-            0,
-            letter,
-        ),
+        None => out.applied(emit_context, Op::Constant(letter, Datum::Null), 0, letter),
         Some(e) => expr(out, emit_context, e.get(), letter),
     }
 }
@@ -146,10 +134,10 @@ pub(crate) fn signals(
     ensures { IfOk result (λ _. Drafted (λ σ. Signals emit_context.entry.known.now emit_context.entry.context (σ emit_context.entry.resume) (patched_instruction σ without) (patched_instruction σ with_message) message.now) out.old out.new) }
 {
     match message {
-        None => out.takes(emit_context.context, emit_context.resume, without, 0),
+        None => out.takes(emit_context, without, 0),
         Some(e) => {
             expr(out, emit_context, e.get(), Letter::T)?;
-            out.takes(emit_context.context, emit_context.resume, with_message, 1)
+            out.takes(emit_context, with_message, 1)
         }
     }
 }

@@ -80,12 +80,7 @@ fn set(
     let letter = letter_at(emit_context.known.variables.items(), slot as usize);
     parts.code.plain(emit_context.context, Instruction::Clear)?;
     expr(&mut parts.code, emit_context, source, letter)?;
-    parts.code.takes(
-        emit_context.context,
-        emit_context.resume,
-        Instruction::Store(slot),
-        1,
-    )
+    parts.code.takes(emit_context, Instruction::Store(slot), 1)
 }
 
 /// Writes CALL.
@@ -104,13 +99,9 @@ fn call(
     parts.code.plain(emit_context.context, Instruction::Clear)?;
     call_arguments(&mut parts.code, emit_context, taken, arguments)?;
     let count = parts.code.height().saturating_sub(before);
-    parts.code.puts(
-        emit_context.context,
-        emit_context.resume,
-        Instruction::Call(number),
-        count,
-        given,
-    )?;
+    parts
+        .code
+        .puts(emit_context, Instruction::Call(number), count, given)?;
     gives(&mut parts.code, emit_context, arguments)
 }
 
@@ -123,12 +114,7 @@ fn returned(
     ensures { IfOk result (λ _. DraftedParts (λ σ. WritesAnywhere emit_context.entry.known.now emit_context.entry.context (σ emit_context.entry.resume) (simples.Return e.now)) parts.old parts.new) }
 {
     expr(&mut parts.code, emit_context, e, emit_context.known.result)?;
-    parts.code.takes(
-        emit_context.context,
-        emit_context.resume,
-        Instruction::ReturnValue,
-        1,
-    )
+    parts.code.takes(emit_context, Instruction::ReturnValue, 1)
 }
 
 /// Writes SIGNAL.
@@ -161,12 +147,7 @@ fn resignal(
     match s {
         None => {
             parts.code.plain(emit_context.context, Instruction::Clear)?;
-            parts.code.takes(
-                emit_context.context,
-                emit_context.resume,
-                Instruction::Resignal,
-                0,
-            )
+            parts.code.takes(emit_context, Instruction::Resignal, 0)
         }
         Some(s) => resignal_condition(parts, emit_context, s.get()),
     }
@@ -208,13 +189,9 @@ fn diagnostics(
             number,
             items,
         } => {
-            parts.code.applied(
-                emit_context.context,
-                emit_context.resume,
-                number_op(number),
-                0,
-                Letter::N,
-            )?;
+            parts
+                .code
+                .applied(emit_context, number_op(number), 0, Letter::N)?;
             condition_items(&mut parts.code, emit_context, *area, items)
         }
     }
@@ -245,8 +222,7 @@ fn select_into(
     parts.code.plain(emit_context.context, Instruction::Clear)?;
     parts.code.with_query(code)?;
     parts.code.puts(
-        emit_context.context,
-        emit_context.resume,
+        emit_context,
         Instruction::Row(number),
         0,
         letters.as_slice(),
@@ -296,7 +272,7 @@ fn insert_rows(
     parts.code.plain(emit_context.context, Instruction::Clear)?;
     rows(&mut parts.code, emit_context, letters.as_slice(), list)?;
     let count = parts.code.height().saturating_sub(before);
-    parts.changed(emit_context.context, emit_context.resume, plan, count)
+    parts.changed(emit_context, plan, count)
 }
 
 /// Writes INSERT with a query.
@@ -317,7 +293,7 @@ fn insert_query(
     };
     parts.code.plain(emit_context.context, Instruction::Clear)?;
     parts.code.with_query(code)?;
-    parts.changed(emit_context.context, emit_context.resume, plan, 0)
+    parts.changed(emit_context, plan, 0)
 }
 
 /// The letters of columns of a table.
@@ -359,7 +335,7 @@ fn update(
 {
     let plan = updates(emit_context.alloc, emit_context.known, table, sets, which)?;
     parts.plain(emit_context.context, Instruction::Clear)?;
-    parts.changed(emit_context.context, emit_context.resume, plan, 0)
+    parts.changed(emit_context, plan, 0)
 }
 
 /// Writes DELETE.
@@ -373,7 +349,7 @@ fn delete(
 {
     let plan = deletes(emit_context.alloc, emit_context.known, table, which)?;
     parts.plain(emit_context.context, Instruction::Clear)?;
-    parts.changed(emit_context.context, emit_context.resume, plan, 0)
+    parts.changed(emit_context, plan, 0)
 }
 
 /// Writes OPEN.
@@ -385,12 +361,7 @@ fn opened(
     ensures { IfOk result (λ _. DraftedParts (λ σ. WritesAnywhere emit_context.entry.known.now emit_context.entry.context (σ emit_context.entry.resume) (simples.Open cursor)) parts.old parts.new) }
 {
     parts.code.plain(emit_context.context, Instruction::Clear)?;
-    parts.code.takes(
-        emit_context.context,
-        emit_context.resume,
-        Instruction::Open(cursor),
-        0,
-    )
+    parts.code.takes(emit_context, Instruction::Open(cursor), 0)
 }
 
 /// Writes FETCH.
@@ -403,12 +374,7 @@ fn fetch(
     ensures { IfOk result (λ _. DraftedParts (λ σ. WritesAnywhere emit_context.entry.known.now emit_context.entry.context (σ emit_context.entry.resume) (simples.Fetch cursor slots.now)) parts.old parts.new) }
 {
     parts.plain(emit_context.context, Instruction::Clear)?;
-    parts.puts_row(
-        emit_context.context,
-        emit_context.resume,
-        Instruction::Fetch(cursor),
-        cursor,
-    )?;
+    parts.puts_row(emit_context, Instruction::Fetch(cursor), cursor)?;
     retrieves(&mut parts.code, emit_context, slots)
 }
 
@@ -421,10 +387,7 @@ fn closed(
     ensures { IfOk result (λ _. DraftedParts (λ σ. WritesAnywhere emit_context.entry.known.now emit_context.entry.context (σ emit_context.entry.resume) (simples.Close cursor)) parts.old parts.new) }
 {
     parts.code.plain(emit_context.context, Instruction::Clear)?;
-    parts.code.takes(
-        emit_context.context,
-        emit_context.resume,
-        Instruction::Close(cursor),
-        0,
-    )
+    parts
+        .code
+        .takes(emit_context, Instruction::Close(cursor), 0)
 }

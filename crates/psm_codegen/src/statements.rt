@@ -63,39 +63,18 @@ fn form(
         ResolvedStatement::While {
             level,
             test,
-            statements,
-        } => whiled(
-            statements,
-            parts,
-            emit_context,
-            enclosing,
-            *level,
-            test.get(),
-        ),
+            statements: list,
+        } => whiled(list, parts, emit_context, enclosing, *level, test.get()),
         ResolvedStatement::Repeat {
             level,
-            statements,
+            statements: list,
             until,
-        } => repeated(
-            statements,
-            parts,
-            emit_context,
-            enclosing,
-            *level,
-            until.get(),
-        ),
+        } => repeated(list, parts, emit_context, enclosing, *level, until.get()),
         ResolvedStatement::For {
             level,
             head,
-            statements,
-        } => over_rows(
-            statements,
-            parts,
-            emit_context,
-            enclosing,
-            *level,
-            head.get(),
-        ),
+            statements: list,
+        } => over_rows(list, parts, emit_context, enclosing, *level, head.get()),
         ResolvedStatement::If {
             branches: list,
             otherwise,
@@ -250,7 +229,7 @@ fn over_rows(
         context: inner,
         resume: out,
     };
-    open(parts, inner, out, &head.cursor)?;
+    open(parts, within_rows, &head.cursor)?;
     let again = parts.label_here()?;
     parts.plain(inner, Instruction::Turn)?;
     fetch_row(parts, within_rows, head)?;
@@ -307,7 +286,7 @@ fn otherwise(
     ensures { IfOk result (λ _. DraftedParts (λ σ. WritesElse emit_context.entry.known.now emit_context.entry.context (map (patched_block σ) enclosing.now) list.now) parts.old parts.new) }
 {
     if list.items().is_empty() {
-        no_case(parts, emit_context.context)
+        no_case(parts, emit_context)
     } else {
         statements(list, parts, emit_context, enclosing)
     }

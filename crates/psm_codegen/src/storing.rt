@@ -22,12 +22,7 @@ pub(crate) fn stores(
     ensures { IfOk result (λ _. out.new ≡ stored emit_context.entry.context emit_context.entry.resume (λ slot. instruction.Store slot) slots.now out.old) }
 {
     for slot in slots.items() {
-        out.takes(
-            emit_context.context,
-            emit_context.resume,
-            Instruction::Store(*slot),
-            1,
-        )?;
+        out.takes(emit_context, Instruction::Store(*slot), 1)?;
     }
     Ok(())
 }
@@ -41,19 +36,9 @@ pub(crate) fn retrieves(
     ensures { IfOk result (λ _. out.new ≡ retrieved emit_context.entry.context emit_context.entry.resume slots.now out.old) }
 {
     for slot in slots.items() {
-        out.takes(
-            emit_context.context,
-            emit_context.resume,
-            Instruction::FetchStore(*slot),
-            1,
-        )?;
+        out.takes(emit_context, Instruction::FetchStore(*slot), 1)?;
     }
-    out.takes(
-        emit_context.context,
-        emit_context.resume,
-        Instruction::Warn,
-        0,
-    )
+    out.takes(emit_context, Instruction::Warn, 0)
 }
 
 /// Stores the values that a procedure gives back.
@@ -68,12 +53,7 @@ pub(crate) fn gives(
         match argument {
             ResolvedArgument::In(_) => {}
             ResolvedArgument::Out { slot } | ResolvedArgument::InOut { slot } => {
-                out.takes(
-                    emit_context.context,
-                    emit_context.resume,
-                    Instruction::Store(*slot),
-                    1,
-                )?;
+                out.takes(emit_context, Instruction::Store(*slot), 1)?;
             }
         }
     }
@@ -89,17 +69,12 @@ pub(crate) fn copies(
     ensures { IfOk result (λ _. out.new ≡ copied emit_context.entry.context emit_context.entry.resume slots.now out.old) }
 {
     match slots.items().split_last() {
-        None => out.taken(emit_context.context, emit_context.resume, Op::Drop),
+        None => out.taken(emit_context, Op::Drop),
         Some((last, others)) => {
             for slot in others {
                 copy(out, emit_context, *slot)?;
             }
-            out.takes(
-                emit_context.context,
-                emit_context.resume,
-                Instruction::Store(*last),
-                1,
-            )
+            out.takes(emit_context, Instruction::Store(*last), 1)
         }
     }
 }
@@ -109,17 +84,6 @@ fn copy(out: &mut Writer, emit_context: EmitContext<'_>, slot: u32) -> Result<()
     ensures { IfOk result (λ _. out.new ≡ takes emit_context.entry.context emit_context.entry.resume (instruction.Store slot) 1 (applied emit_context.entry.context emit_context.entry.resume op.Duplicate 0 (last_letter out.old) out.old)) }
 {
     let letter = out.last_letter();
-    out.applied(
-        emit_context.context,
-        emit_context.resume,
-        Op::Duplicate,
-        0,
-        letter,
-    )?;
-    out.takes(
-        emit_context.context,
-        emit_context.resume,
-        Instruction::Store(slot),
-        1,
-    )
+    out.applied(emit_context, Op::Duplicate, 0, letter)?;
+    out.takes(emit_context, Instruction::Store(slot), 1)
 }

@@ -35,73 +35,36 @@ pub fn expr(
 {
     match e {
         ResolvedExpr::Null => out.applied(
-            emit_context.context,
-            emit_context.resume,
+            emit_context,
             Op::Constant(letter, Datum::Null),
             0,
             letter,
         ),
         ResolvedExpr::Column(_) => {
-            out.applied(
-                emit_context.context,
-                emit_context.resume,
-                Op::Constant(letter, Datum::Null),
-                0,
-                letter,
-            )
+            out.applied(emit_context, Op::Constant(letter, Datum::Null), 0, letter)
         }
         ResolvedExpr::Scalar(query) => {
             let query = query.get();
             let number = asked(out, emit_context, query)?;
             let letter = first_letter(emit_context.known, query);
-            out.put(
-                emit_context.context,
-                emit_context.resume,
-                Instruction::Scalar(number),
-                0,
-                letter,
-            )
+            out.put(emit_context, Instruction::Scalar(number), 0, letter)
         }
         ResolvedExpr::Exists(query) => {
             let query = query.get();
             let number = asked(out, emit_context, query)?;
-            out.put(
-                emit_context.context,
-                emit_context.resume,
-                Instruction::Exists(number),
-                0,
-                Letter::B,
-            )
+            out.put(emit_context, Instruction::Exists(number), 0, Letter::B)
         }
         ResolvedExpr::Number(value) => {
             let value = Datum::Num(*value);
-            out.applied(
-                emit_context.context,
-                emit_context.resume,
-                Op::Constant(Letter::N, value),
-                0,
-                Letter::N,
-            )
+            out.applied(emit_context, Op::Constant(Letter::N, value), 0, Letter::N)
         }
         ResolvedExpr::Text(value) => {
             let value = Datum::Text(value.copy(emit_context.alloc)?);
-            out.applied(
-                emit_context.context,
-                emit_context.resume,
-                Op::Constant(Letter::T, value),
-                0,
-                Letter::T,
-            )
+            out.applied(emit_context, Op::Constant(Letter::T, value), 0, Letter::T)
         }
         ResolvedExpr::Variable(slot) => {
             let letter = letter_at(emit_context.known.variables.items(), *slot as usize);
-            out.applied(
-                emit_context.context,
-                emit_context.resume,
-                Op::Variable(*slot),
-                0,
-                letter,
-            )
+            out.applied(emit_context, Op::Variable(*slot), 0, letter)
         }
         ResolvedExpr::LogicalOperator {
             logical_operator,
@@ -112,13 +75,7 @@ pub fn expr(
         }
         ResolvedExpr::Not(condition) => {
             part(out, emit_context, condition, Letter::N)?;
-            out.applied(
-                emit_context.context,
-                emit_context.resume,
-                Op::Not,
-                1,
-                Letter::B,
-            )
+            out.applied(emit_context, Op::Not, 1, Letter::B)
         }
         ResolvedExpr::Compare {
             operator,
@@ -127,24 +84,12 @@ pub fn expr(
         } => {
             part(out, emit_context, left, Letter::N)?;
             part(out, emit_context, right, Letter::N)?;
-            out.applied(
-                emit_context.context,
-                emit_context.resume,
-                comparing(*operator),
-                2,
-                Letter::B,
-            )
+            out.applied(emit_context, comparing(*operator), 2, Letter::B)
         }
         ResolvedExpr::IsNull { negated, value } => {
             part(out, emit_context, value, Letter::N)?;
-            out.applied(
-                emit_context.context,
-                emit_context.resume,
-                Op::IsNull,
-                1,
-                Letter::B,
-            )?;
-            out.perhaps_not(emit_context.context, emit_context.resume, *negated)
+            out.applied(emit_context, Op::IsNull, 1, Letter::B)?;
+            out.perhaps_not(emit_context, *negated)
         }
         ResolvedExpr::Between {
             negated,
@@ -155,14 +100,8 @@ pub fn expr(
             part(out, emit_context, value, Letter::N)?;
             part(out, emit_context, low, Letter::N)?;
             part(out, emit_context, high, Letter::N)?;
-            out.applied(
-                emit_context.context,
-                emit_context.resume,
-                Op::Between,
-                3,
-                Letter::B,
-            )?;
-            out.perhaps_not(emit_context.context, emit_context.resume, *negated)
+            out.applied(emit_context, Op::Between, 3, Letter::B)?;
+            out.perhaps_not(emit_context, *negated)
         }
         ResolvedExpr::Like {
             negated,
@@ -174,25 +113,13 @@ pub fn expr(
             part(out, emit_context, pattern, Letter::N)?;
             match escape {
                 None => {
-                    out.applied(
-                        emit_context.context,
-                        emit_context.resume,
-                        Op::Like,
-                        2,
-                        Letter::B,
-                    )?;
-                    out.perhaps_not(emit_context.context, emit_context.resume, *negated)
+                    out.applied(emit_context, Op::Like, 2, Letter::B)?;
+                    out.perhaps_not(emit_context, *negated)
                 }
                 Some(escape) => {
                     part(out, emit_context, escape, Letter::N)?;
-                    out.applied(
-                        emit_context.context,
-                        emit_context.resume,
-                        Op::LikeEscape,
-                        3,
-                        Letter::B,
-                    )?;
-                    out.perhaps_not(emit_context.context, emit_context.resume, *negated)
+                    out.applied(emit_context, Op::LikeEscape, 3, Letter::B)?;
+                    out.perhaps_not(emit_context, *negated)
                 }
             }
         }
@@ -204,14 +131,8 @@ pub fn expr(
             part(out, emit_context, value, Letter::N)?;
             several(out, emit_context, list)?;
             let count = counted(list.rest.items().len())?;
-            out.applied(
-                emit_context.context,
-                emit_context.resume,
-                Op::In(count),
-                count as usize + 1,
-                Letter::B,
-            )?;
-            out.perhaps_not(emit_context.context, emit_context.resume, *negated)
+            out.applied(emit_context, Op::In(count), count as usize + 1, Letter::B)?;
+            out.perhaps_not(emit_context, *negated)
         }
         ResolvedExpr::OperatorChain { first, chain_links } => {
             part(out, emit_context, first, Letter::N)?;
@@ -219,13 +140,7 @@ pub fn expr(
         }
         ResolvedExpr::Negated(number) => {
             part(out, emit_context, number, Letter::N)?;
-            out.applied(
-                emit_context.context,
-                emit_context.resume,
-                Op::Negate,
-                1,
-                Letter::N,
-            )
+            out.applied(emit_context, Op::Negate, 1, Letter::N)
         }
         ResolvedExpr::Call {
             function,
@@ -237,8 +152,7 @@ pub fn expr(
             let letter = letter_at(emit_context.known.results.items(), routine as usize);
             let takes = list.items().len();
             out.put(
-                emit_context.context,
-                emit_context.resume,
+                emit_context,
                 Instruction::FunctionCall(routine),
                 takes,
                 letter,
@@ -257,16 +171,16 @@ pub fn expr(
                     searched(out, emit_context, whens, end, letter)?;
                     alternative(out, emit_context, otherwise, letter)?;
                     out.bind(end)?;
-                    out.rescale(emit_context.context, emit_context.resume, *scale)
+                    out.rescale(emit_context, *scale)
                 }
                 Some(value) => {
                     part(out, emit_context, value, Letter::N)?;
                     let end = out.label()?;
                     compared(out, emit_context, whens, end, letter)?;
-                    out.taken(emit_context.context, emit_context.resume, Op::Drop)?;
+                    out.taken(emit_context, Op::Drop)?;
                     alternative(out, emit_context, otherwise, letter)?;
                     out.bind(end)?;
-                    out.rescale(emit_context.context, emit_context.resume, *scale)
+                    out.rescale(emit_context, *scale)
                 }
             }
         }
@@ -275,83 +189,41 @@ pub fn expr(
             let end = out.label()?;
             firsts(out, emit_context, values, end, kind)?;
             out.bind(end)?;
-            out.rescale(emit_context.context, emit_context.resume, *scale)
+            out.rescale(emit_context, *scale)
         }
         ResolvedExpr::Cast { source, to } => {
             part(out, emit_context, source, Letter::N)?;
-            out.applied(
-                emit_context.context,
-                emit_context.resume,
-                Op::Cast(*to),
-                1,
-                Letter::of_type(*to),
-            )
+            out.applied(emit_context, Op::Cast(*to), 1, Letter::of_type(*to))
         }
         ResolvedExpr::NullIf { left, right } => {
             part(out, emit_context, left, Letter::N)?;
             part(out, emit_context, right, Letter::N)?;
             let letter = out.second_letter();
-            out.applied(
-                emit_context.context,
-                emit_context.resume,
-                Op::NullIf,
-                2,
-                letter,
-            )
+            out.applied(emit_context, Op::NullIf, 2, letter)
         }
         ResolvedExpr::Function { function, argument } => {
             part(out, emit_context, argument, Letter::N)?;
-            out.applied(
-                emit_context.context,
-                emit_context.resume,
-                changing(*function),
-                1,
-                changed(*function),
-            )
+            out.applied(emit_context, changing(*function), 1, changed(*function))
         }
         ResolvedExpr::Position { part: text, whole } => {
             part(out, emit_context, text, Letter::N)?;
             part(out, emit_context, whole, Letter::N)?;
-            out.applied(
-                emit_context.context,
-                emit_context.resume,
-                Op::Position,
-                2,
-                Letter::N,
-            )
+            out.applied(emit_context, Op::Position, 2, Letter::N)
         }
         ResolvedExpr::Substring { text, from, length } => {
             part(out, emit_context, text, Letter::N)?;
             part(out, emit_context, from, Letter::N)?;
             match length {
-                None => out.applied(
-                    emit_context.context,
-                    emit_context.resume,
-                    Op::SubstringFrom,
-                    2,
-                    Letter::T,
-                ),
+                None => out.applied(emit_context, Op::SubstringFrom, 2, Letter::T),
                 Some(length) => {
                     part(out, emit_context, length, Letter::N)?;
-                    out.applied(
-                        emit_context.context,
-                        emit_context.resume,
-                        Op::SubstringFromFor,
-                        3,
-                        Letter::T,
-                    )
+                    out.applied(emit_context, Op::SubstringFromFor, 3, Letter::T)
                 }
             }
         }
         ResolvedExpr::Trim { side, text } => {
             part(out, emit_context, text, Letter::N)?;
-            out.applied(
-                emit_context.context,
-                emit_context.resume,
-                Op::Trim(*side),
-                1,
-                Letter::T,
-            )
+            out.applied(emit_context, Op::Trim(*side), 1, Letter::T)
         }
     }
 }
@@ -396,13 +268,7 @@ fn joined(
 {
     for operand in operands.items() {
         expr(out, emit_context, operand.get(), Letter::B)?;
-        out.applied(
-            emit_context.context,
-            emit_context.resume,
-            joining(logical_operator),
-            2,
-            Letter::B,
-        )?;
+        out.applied(emit_context, joining(logical_operator), 2, Letter::B)?;
     }
     Ok(())
 }
@@ -419,13 +285,7 @@ fn linked(
     for chain_link in chain_links.items() {
         part(out, emit_context, &chain_link.operand, Letter::N)?;
         let letter = calculated(chain_link.operator);
-        out.applied(
-            emit_context.context,
-            emit_context.resume,
-            calculating(chain_link.operator),
-            2,
-            letter,
-        )?;
+        out.applied(emit_context, calculating(chain_link.operator), 2, letter)?;
     }
     Ok(())
 }
@@ -478,11 +338,7 @@ fn firsts(
 {
     expr(out, emit_context, values.first.get(), letter)?;
     for value in values.rest.items() {
-        out.taken(
-            emit_context.context,
-            emit_context.resume,
-            Op::JumpUnlessNull(end),
-        )?;
+        out.taken(emit_context, Op::JumpUnlessNull(end))?;
         expr(out, emit_context, value.get(), letter)?;
     }
     Ok(())
@@ -519,13 +375,9 @@ fn test(
 {
     part(out, emit_context, &when.test, Letter::B)?;
     let next = out.label()?;
-    out.taken(
-        emit_context.context,
-        emit_context.resume,
-        Op::JumpUnlessTrue(next),
-    )?;
+    out.taken(emit_context, Op::JumpUnlessTrue(next))?;
     part(out, emit_context, &when.result, letter)?;
-    out.taken(emit_context.context, emit_context.resume, Op::Jump(end))?;
+    out.taken(emit_context, Op::Jump(end))?;
     out.bind(next)
 }
 
@@ -559,36 +411,14 @@ fn comparison(
     ensures { IfOk result (λ _. Drafted (λ σ. Compares emit_context.entry.known.now emit_context.entry.context (σ emit_context.entry.resume) letter (σ end) (when.now ∷ [])) out.old out.new) }
 {
     let operand = out.last_letter();
-    out.applied(
-        emit_context.context,
-        emit_context.resume,
-        Op::Duplicate,
-        0,
-        operand,
-    )?;
+    out.applied(emit_context, Op::Duplicate, 0, operand)?;
     part(out, emit_context, &when.test, operand)?;
-    out.applied(
-        emit_context.context,
-        emit_context.resume,
-        Op::Equal,
-        2,
-        Letter::B,
-    )?;
+    out.applied(emit_context, Op::Equal, 2, Letter::B)?;
     let next = out.label()?;
-    out.taken(
-        emit_context.context,
-        emit_context.resume,
-        Op::JumpUnlessTrue(next),
-    )?;
-    out.taken(emit_context.context, emit_context.resume, Op::Drop)?;
+    out.taken(emit_context, Op::JumpUnlessTrue(next))?;
+    out.taken(emit_context, Op::Drop)?;
     part(out, emit_context, &when.result, letter)?;
-    out.applied(
-        emit_context.context,
-        emit_context.resume,
-        Op::Jump(end),
-        1,
-        operand,
-    )?;
+    out.applied(emit_context, Op::Jump(end), 1, operand)?;
     out.bind(next)
 }
 
@@ -603,13 +433,7 @@ fn alternative(
     ensures { IfOk result (λ _. Drafted (λ σ. Otherwise emit_context.entry.known.now emit_context.entry.context (σ emit_context.entry.resume) letter otherwise.now) out.old out.new) }
 {
     match otherwise {
-        None => out.applied(
-            emit_context.context,
-            emit_context.resume,
-            Op::Constant(letter, Datum::Null),
-            0,
-            letter,
-        ),
+        None => out.applied(emit_context, Op::Constant(letter, Datum::Null), 0, letter),
         Some(e) => expr(out, emit_context, e.get(), letter),
     }
 }

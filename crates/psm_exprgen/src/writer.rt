@@ -5,6 +5,7 @@ ghost use Rattle.psm_simulation.specs.Expressions.{negating, scaling};
 ghost use Rattle.psm_exprgen.specs.Written.{Written, all_applied, applied as with_operation, bound, here, last_letter, plain, puts, second_letter, taken, takes, with_label, with_line, with_query};
 ghost use Rattle.psm_exprcode.specs.declared.op.Letter.TheVariants.{N, B};
 
+use crate::emit_context::EmitContext;
 use psm_code::{Instruction, Lines, LinesWriter};
 use psm_exprcode::{Letter, Op, Query};
 use psm_list::List;
@@ -127,15 +128,14 @@ impl Writer {
     /// run goes on at the line of the label `resume`.
     pub fn puts(
         &mut self,
-        context: u32,
-        resume: u32,
+        emit_context: EmitContext<'_>,
         instruction: Instruction,
         takes: usize,
         letters: &[Letter],
     ) -> Result<(), AllocError>
-        ensures { IfOk result (λ _. self.new ≡ puts context resume instruction takes letters.now self.old) }
+        ensures { IfOk result (λ _. self.new ≡ puts emit_context.entry.context emit_context.entry.resume instruction takes letters.now self.old) }
     {
-        self.line(context, Some(resume), instruction)?;
+        self.line(emit_context.context, Some(emit_context.resume), instruction)?;
         self.forget(takes);
         self.code.put_all(letters)
     }
@@ -143,15 +143,14 @@ impl Writer {
     /// Writes an instruction that takes n operands and puts one of that letter.
     pub fn put(
         &mut self,
-        context: u32,
-        resume: u32,
+        emit_context: EmitContext<'_>,
         instruction: Instruction,
         takes: usize,
         letter: Letter,
     ) -> Result<(), AllocError>
-        ensures { IfOk result (λ _. self.new ≡ puts context resume instruction takes (letter ∷ []) self.old) }
+        ensures { IfOk result (λ _. self.new ≡ puts emit_context.entry.context emit_context.entry.resume instruction takes (letter ∷ []) self.old) }
     {
-        self.line(context, Some(resume), instruction)?;
+        self.line(emit_context.context, Some(emit_context.resume), instruction)?;
         self.forget(takes);
         self.code.put(letter)
     }
@@ -159,14 +158,13 @@ impl Writer {
     /// Writes an instruction that takes n operands and puts none.
     pub fn takes(
         &mut self,
-        context: u32,
-        resume: u32,
+        emit_context: EmitContext<'_>,
         instruction: Instruction,
         count: usize,
     ) -> Result<(), AllocError>
-        ensures { IfOk result (λ _. self.new ≡ takes context resume instruction count self.old) }
+        ensures { IfOk result (λ _. self.new ≡ takes emit_context.entry.context emit_context.entry.resume instruction count self.old) }
     {
-        self.line(context, Some(resume), instruction)?;
+        self.line(emit_context.context, Some(emit_context.resume), instruction)?;
         self.forget(count);
         Ok(())
     }
@@ -174,35 +172,33 @@ impl Writer {
     /// Writes an operation that takes n operands and puts one of that letter.
     pub fn applied(
         &mut self,
-        context: u32,
-        resume: u32,
+        emit_context: EmitContext<'_>,
         op: Op,
         count: usize,
         letter: Letter,
     ) -> Result<(), AllocError>
-        ensures { IfOk result (λ _. self.new ≡ with_operation context resume op count letter self.old) }
+        ensures { IfOk result (λ _. self.new ≡ with_operation emit_context.entry.context emit_context.entry.resume op count letter self.old) }
     {
-        self.put(context, resume, Instruction::Operation(op), count, letter)
+        self.put(emit_context, Instruction::Operation(op), count, letter)
     }
 
     /// Writes an operation that takes an operand and puts none.
-    pub fn taken(&mut self, context: u32, resume: u32, op: Op) -> Result<(), AllocError>
-        ensures { IfOk result (λ _. self.new ≡ taken context resume op self.old) }
+    pub fn taken(&mut self, emit_context: EmitContext<'_>, op: Op) -> Result<(), AllocError>
+        ensures { IfOk result (λ _. self.new ≡ taken emit_context.entry.context emit_context.entry.resume op self.old) }
     {
-        self.takes(context, resume, Instruction::Operation(op), 1)
+        self.takes(emit_context, Instruction::Operation(op), 1)
     }
 
     /// Writes NOT, where it is wanted.
     pub fn perhaps_not(
         &mut self,
-        context: u32,
-        resume: u32,
+        emit_context: EmitContext<'_>,
         negated: bool,
     ) -> Result<(), AllocError>
-        ensures { IfOk result (λ _. self.new ≡ all_applied context resume 1 B (negating negated) self.old) }
+        ensures { IfOk result (λ _. self.new ≡ all_applied emit_context.entry.context emit_context.entry.resume 1 B (negating negated) self.old) }
     {
         if negated {
-            self.applied(context, resume, Op::Not, 1, Letter::B)
+            self.applied(emit_context, Op::Not, 1, Letter::B)
         } else {
             Ok(())
         }
@@ -211,15 +207,14 @@ impl Writer {
     /// Writes a change to a scale, where there is one.
     pub fn rescale(
         &mut self,
-        context: u32,
-        resume: u32,
+        emit_context: EmitContext<'_>,
         scale: Option<u8>,
     ) -> Result<(), AllocError>
-        ensures { IfOk result (λ _. self.new ≡ all_applied context resume 1 N (scaling scale) self.old) }
+        ensures { IfOk result (λ _. self.new ≡ all_applied emit_context.entry.context emit_context.entry.resume 1 N (scaling scale) self.old) }
     {
         match scale {
             None => Ok(()),
-            Some(scale) => self.applied(context, resume, Op::Rescale(scale), 1, Letter::N),
+            Some(scale) => self.applied(emit_context, Op::Rescale(scale), 1, Letter::N),
         }
     }
 

@@ -1,3 +1,4 @@
+pub mod Clauses
 pub mod Creating
 pub mod Whole
 pub mod Only

@@ -8,7 +8,7 @@ use crate::optional::perhaps_sign;
 use crate::routine::ended_routines;
 use crate::table::table;
 use psm_grammar::Halt;
-use psm_list::{List, OneOrMore};
+use psm_list::{Boxed, List, OneOrMore};
 use psm_parse_token::Tokens;
 use psm_token::{Place, Sign, Word};
 use psm_tree::{Element, FileTree, Identifier, Module, Routine, TableTree};
@@ -61,7 +61,7 @@ fn created_table(
     alloc: Global,
     tokens: &mut Tokens,
     levels: u32,
-) -> Result<((Identifier, OneOrMore<Element>), Place), Halt>
+) -> Result<((Identifier, Boxed<OneOrMore<Element>>), Place), Halt>
     ensures { TakesAs (λ x. (record { name = x.0.0; elements = x.0.1 }, x.1)) (reading levels created_table_part tokens.old.rest.now) result tokens.new.rest.now }
 {
     tokens.word(Word::Table)?;
@@ -92,7 +92,7 @@ fn created_tables(
         tables.push(TableTree {
             place,
             name,
-            elements,
+            elements: elements.into_inner(),
         })?;
         place = following;
     }

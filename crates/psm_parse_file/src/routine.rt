@@ -1,6 +1,7 @@
 //! The routines of a module (ISO/IEC 9075-4:1996, SQL-invoked routines).
 ghost use Rattle.psm_tree.specs.FileGrammar.{noted_statement as noted_statement_part, procedure as procedure_part, char_returned as char_returned_part, returned as returned_part, function as function_part, plain_routine as plain_routine_part, routine as routine_part, ended_routine as ended_routine_part, ended_routines as ended_routines_part};
 ghost use Rattle.psm_tree.specs.Readers.{Takes, reading};
+ghost use Rattle.psm_parse_file.specs.Clauses.{returns_clause};
 
 use crate::characteristics::characteristic_list;
 use crate::optional::at_word_and_sign;
@@ -17,18 +18,17 @@ const CHAR_WORDS: [Word; 2] = [Word::Char, Word::Character];
 
 const ROUTINE_WORDS: [Word; 3] = [Word::Declare, Word::Procedure, Word::Function];
 
+/// The characteristics of a routine, and its statement.
+type Noted = (List<Characteristic>, Boxed<Statement>);
+
 /// `{characteristic} statement`
 #[tactic(auto, using(psm_tree::proofs::Reading::steps), unfolding(psm_tree::specs::FileGrammar::noted_statement))]
-fn noted_statement(
-    alloc: Global,
-    tokens: &mut Tokens,
-    levels: u32,
-) -> Result<(List<Characteristic>, Boxed<Statement>), Halt>
+fn noted_statement(alloc: Global, tokens: &mut Tokens, levels: u32) -> Result<Boxed<Noted>, Halt>
     ensures { Takes (reading levels noted_statement_part tokens.old.rest.now) result tokens.new.rest.now }
 {
     let characteristics = characteristic_list(alloc, tokens, levels)?;
     let body = statement(alloc, tokens, levels)?;
-    Ok((characteristics, body))
+    Ok(Boxed::new(alloc, (characteristics, body))?)
 }
 
 /// `PROCEDURE name params {characteristic} statement`
@@ -39,7 +39,8 @@ fn procedure(alloc: Global, tokens: &mut Tokens, levels: u32) -> Result<Routine,
     let place = tokens.word(Word::Procedure)?;
     let name = tokens.name(alloc)?;
     let parameters = params(alloc, tokens, levels)?;
-    let (characteristics, body) = noted_statement(alloc, tokens, levels)?;
+    let noted = noted_statement(alloc, tokens, levels)?;
+    let (characteristics, body) = noted.into_inner();
     Ok(Routine {
         place,
         name,
@@ -57,7 +58,7 @@ fn char_returned(
     alloc: Global,
     tokens: &mut Tokens,
     levels: u32,
-) -> Result<(TypeForm, (List<Characteristic>, Boxed<Statement>)), Halt>
+) -> Result<(TypeForm, Boxed<Noted>), Halt>
     ensures { Takes (reading levels char_returned_part tokens.old.rest.now) result tokens.new.rest.now }
 {
     if at_word_and_sign(tokens, Word::Varying, Sign::LeftParen) {
@@ -76,7 +77,7 @@ fn returned(
     alloc: Global,
     tokens: &mut Tokens,
     levels: u32,
-) -> Result<(DataType, (List<Characteristic>, Boxed<Statement>)), Halt>
+) -> Result<(DataType, Boxed<Noted>), Halt>
     ensures { Takes (reading levels returned_part tokens.old.rest.now) result tokens.new.rest.now }
 {
     if tokens.at_one_of(&CHAR_WORDS) {
@@ -89,6 +90,19 @@ fn returned(
     Ok((kind, noted))
 }
 
+/// `RETURNS type {characteristic} statement`
+#[tactic(auto, using(psm_tree::proofs::Reading::steps))]
+fn returns(
+    alloc: Global,
+    tokens: &mut Tokens,
+    levels: u32,
+) -> Result<(DataType, Boxed<Noted>), Halt>
+    ensures { Takes (reading levels returns_clause tokens.old.rest.now) result tokens.new.rest.now }
+{
+    tokens.word(Word::Returns)?;
+    returned(alloc, tokens, levels)
+}
+
 /// `FUNCTION name params RETURNS type {characteristic} statement`
 #[tactic(auto, using(psm_tree::proofs::Reading::steps), unfolding(psm_tree::specs::FileGrammar::function))]
 fn function(alloc: Global, tokens: &mut Tokens, levels: u32) -> Result<Routine, Halt>
@@ -97,8 +111,8 @@ fn function(alloc: Global, tokens: &mut Tokens, levels: u32) -> Result<Routine, 
     let place = tokens.word(Word::Function)?;
     let name = tokens.name(alloc)?;
     let parameters = params(alloc, tokens, levels)?;
-    tokens.word(Word::Returns)?;
-    let (kind, (characteristics, body)) = returned(alloc, tokens, levels)?;
+    let (kind, noted) = returns(alloc, tokens, levels)?;
+    let (characteristics, body) = noted.into_inner();
     Ok(Routine {
         place,
         name,

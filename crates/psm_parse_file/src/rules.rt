@@ -2,6 +2,7 @@
 ghost use Rattle.psm_tree.specs.ExprGrammar.{expr as expr_part, within_parens};
 ghost use Rattle.psm_tree.specs.FileGrammar.{plain_column_rule as plain_column_rule_part, column_rule as column_rule_part, column_rule_list as column_rule_list_part, plain_table_rule as plain_table_rule_part, table_rule as table_rule_part};
 ghost use Rattle.psm_tree.specs.Readers.{Takes, reading};
+ghost use Rattle.psm_parse_file.specs.Clauses.{foreign_key_rule};
 
 use crate::references::{references, references_rest};
 use psm_grammar::Halt;
@@ -97,7 +98,23 @@ pub(crate) fn column_rules(
     Ok(List::of(rules))
 }
 
-/// `PRIMARY KEY names | UNIQUE names | CHECK "(" expr ")" | FOREIGN KEY names references`
+/// `FOREIGN KEY names references`
+#[tactic(auto, using(psm_tree::proofs::Reading::steps))]
+fn foreign_key(alloc: Global, tokens: &mut Tokens, levels: u32) -> Result<TableRule, Halt>
+    ensures { Takes (reading levels foreign_key_rule tokens.old.rest.now) result tokens.new.rest.now }
+{
+    let place = tokens.word(Word::Foreign)?;
+    tokens.word(Word::Key)?;
+    let columns = names_in_parens(alloc, tokens, levels)?;
+    let references = references(alloc, tokens, levels)?;
+    let form = TableRuleForm::ForeignKey {
+        columns,
+        references,
+    };
+    Ok(TableRule { place, form })
+}
+
+/// `PRIMARY KEY names | UNIQUE names | CHECK "(" expr ")" | foreign_key`
 #[tactic(auto, using(psm_tree::proofs::Reading::steps), unfolding(psm_tree::specs::FileGrammar::plain_table_rule))]
 fn plain_table_rule(alloc: Global, tokens: &mut Tokens, levels: u32) -> Result<TableRule, Halt>
     ensures { Takes (reading levels plain_table_rule_part tokens.old.rest.now) result tokens.new.rest.now }
@@ -118,15 +135,7 @@ fn plain_table_rule(alloc: Global, tokens: &mut Tokens, levels: u32) -> Result<T
         let form = TableRuleForm::Check(condition(alloc, tokens, levels)?);
         return Ok(TableRule { place, form });
     }
-    let place = tokens.word(Word::Foreign)?;
-    tokens.word(Word::Key)?;
-    let columns = names_in_parens(alloc, tokens, levels)?;
-    let references = references(alloc, tokens, levels)?;
-    let form = TableRuleForm::ForeignKey {
-        columns,
-        references,
-    };
-    Ok(TableRule { place, form })
+    foreign_key(alloc, tokens, levels)
 }
 
 /// `[CONSTRAINT name] plain_table_rule`

@@ -5,7 +5,7 @@ ghost use Rattle.psm_tree.specs.Readers.{Takes, TakesAs, reading};
 
 use crate::rules::{column_rules, table_rule};
 use psm_grammar::Halt;
-use psm_list::{List, OneOrMore};
+use psm_list::{Boxed, List, OneOrMore};
 use psm_parse_token::{Tokens, constant, data_type};
 use psm_token::{Sign, Word};
 use psm_tree::{Constant, Element, Identifier};
@@ -90,12 +90,16 @@ fn next_elements(alloc: Global, tokens: &mut Tokens, levels: u32) -> Result<List
 
 /// `element {"," element}`
 #[tactic(auto, using(psm_tree::proofs::Reading::steps), unfolding(psm_tree::specs::FileGrammar::elements))]
-fn elements(alloc: Global, tokens: &mut Tokens, levels: u32) -> Result<OneOrMore<Element>, Halt>
+fn elements(
+    alloc: Global,
+    tokens: &mut Tokens,
+    levels: u32,
+) -> Result<Boxed<OneOrMore<Element>>, Halt>
     ensures { Takes (reading levels elements_part tokens.old.rest.now) result tokens.new.rest.now }
 {
-    let first = element(alloc, tokens, levels)?;
+    let first = Boxed::new(alloc, element(alloc, tokens, levels)?)?;
     let rest = next_elements(alloc, tokens, levels)?;
-    Ok(OneOrMore::of(first, rest))
+    Ok(Boxed::new(alloc, OneOrMore::of(first.into_inner(), rest))?)
 }
 
 /// `name "(" element {"," element} ")"`: the name and the elements.
@@ -104,7 +108,7 @@ pub(crate) fn table(
     alloc: Global,
     tokens: &mut Tokens,
     levels: u32,
-) -> Result<(Identifier, OneOrMore<Element>), Halt>
+) -> Result<(Identifier, Boxed<OneOrMore<Element>>), Halt>
     ensures { TakesAs (λ x. record { name = x.0; elements = x.1 }) (reading levels table_part tokens.old.rest.now) result tokens.new.rest.now }
 {
     let name = tokens.name(alloc)?;

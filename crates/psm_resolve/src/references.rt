@@ -24,8 +24,7 @@ pub(crate) fn foreign_keys(
     ensures { IfOk result (λ keys. keys ≡ foreign_keys resolved.now (in_file resolver.entry.symbols.now) 0 tables.now) }
 {
     let scopes = Scopes::new(resolver.alloc);
-    let keys = keys_of_tables(resolver.alloc, resolver.control(&scopes), resolved, tables)?;
-    Ok(keys)
+    keys_of_tables(resolver.alloc, resolver.control(&scopes), resolved, tables)
 }
 
 // Tables are numbered from 0.
@@ -57,8 +56,7 @@ fn push_table(
     ensures { IfOk result (λ _. keys.new.items ≡ keys.old.items ++ references_of resolved.now (seen_at resolver_scope.entry) from table.now) }
 {
     let columns = columns_of(alloc, table)?;
-    push_elements(alloc, resolver_scope, resolved, from, &columns, table, keys)?;
-    Ok(())
+    push_elements(alloc, resolver_scope, resolved, from, &columns, table, keys)
 }
 
 fn push_elements(

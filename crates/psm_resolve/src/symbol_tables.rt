@@ -1,7 +1,7 @@
 //! What the tables and the routines of a file declare.
 ghost use Rattle.std.specs.Prelude.{◌≡◌, None, Some, IfOk};
 ghost use Rattle.psm_rules.specs.FileFaults.{columns_of};
-ghost use Rattle.psm_resolve.specs.SymbolTables.{known_symbols, next_procedure, with_known_routine, with_known_routines, with_known_table};
+ghost use Rattle.psm_resolve.specs.SymbolTables.{next_procedure, with_known_routine, with_known_routines, with_known_table, with_known_tables};
 
 use psm_check_expr::{SymbolTable, type_of};
 use psm_list::List;
@@ -10,19 +10,18 @@ use psm_symbols::{columns_of, kinds_of, next_number, parameters_of};
 use psm_tree::{DataType, FileTree, Routine, TableTree};
 use std::alloc::{AllocError, Global};
 
-/// What a file declares; each routine is known in the whole module.
-pub(crate) fn known_symbols<'a>(
+/// Declares what a file declares; each routine is known in the whole module.
+pub(crate) fn declare_symbols<'a>(
     alloc: Global,
     file: &'a FileTree,
-) -> Result<SymbolTable<'a>, AllocError>
-    ensures { IfOk result (λ symbols. symbols ≡ known_symbols file.now) }
+    symbols: &mut SymbolTable<'a>,
+) -> Result<(), AllocError>
+    ensures { IfOk result (λ _. symbols.new ≡ with_known_routines (with_known_tables symbols.old file.now.tables) 0 file.now.«module».routines) }
 {
-    let mut symbols = SymbolTable::new(alloc);
     for table in file.tables.items() {
-        declare_table(alloc, table, &mut symbols)?;
+        declare_table(alloc, table, symbols)?;
     }
-    declare_routines(alloc, file.module.routines.items(), &mut symbols)?;
-    Ok(symbols)
+    declare_routines(alloc, file.module.routines.items(), symbols)
 }
 
 // ---- tables

@@ -1,7 +1,7 @@
 //! Tables: their columns, keys and UNIQUE lists by places, and their CHECKs.
 ghost use Rattle.std.specs.Prelude.{◌≡◌, ◌++◌, [], map, nat_eq, Some, IfOk};
 ghost use Rattle.std.specs.List.{list_any};
-ghost use Rattle.psm_rules.specs.FileFaults.{no_symbols, table_elements};
+ghost use Rattle.psm_rules.specs.FileFaults.{columns_of, no_symbols, table_elements};
 ghost use Rattle.psm_rules.specs.Types.{type_of};
 ghost use Rattle.psm_resolve_expr.specs.Exprs.{type_known};
 ghost use Rattle.psm_resolve_expr.specs.Seen.{seen_at};
@@ -17,6 +17,7 @@ use psm_resolved::{ResolvedExpr, ResolvedTable};
 use psm_scope::RowTable;
 use psm_symbols::{columns_of, next_number, places_of};
 use psm_table::{Column, TableDef};
+use psm_text::Name;
 use psm_tree::{
     ColumnRule, ColumnRuleForm, Constant, DataType, Element, Identifier, TableRuleForm, TableTree,
 };
@@ -39,14 +40,25 @@ pub(crate) fn resolve_tables(
 fn resolve_table(alloc: Global, table: &TableTree) -> Result<ResolvedTable, AllocError>
     ensures { IfOk result (λ resolved. resolved ≡ resolve_table table.now) }
 {
-    let columns = columns_of(alloc, table)?;
     let symbols = SymbolTable::new(alloc);
     let scopes = Scopes::new(alloc);
-    let key = key_of(alloc, &columns, table)?;
-    let resolver_scope = on_columns(table, &columns, &symbols, &scopes);
-    let parts = parts_of(alloc, resolver_scope, &columns, key.items(), table)?;
-    let resolved = table_with(alloc, table, key, parts)?;
-    Ok(resolved)
+    table_alone(alloc, &symbols, &scopes, table)
+}
+
+// A table, where nothing else is known.
+fn table_alone<'a>(
+    alloc: Global,
+    symbols: &SymbolTable<'a>,
+    scopes: &Scopes<'a>,
+    table: &'a TableTree,
+) -> Result<ResolvedTable, AllocError>
+    requires nothing_known { symbols.now ≡ no_symbols }
+    requires nothing_around { scopes.now ≡ [] }
+    ensures { IfOk result (λ resolved. resolved ≡ resolve_table table.now) }
+{
+    let columns = columns_of(alloc, table)?;
+    let resolver_scope = on_columns(table, &columns, symbols, scopes);
+    table_on(alloc, resolver_scope, &columns, table)
 }
 
 // A CHECK sees the columns of its table alone, of which a symbol table and scopes with nothing in them know nothing.
@@ -71,15 +83,26 @@ fn on_columns<'v, 'a>(
     }
 }
 
-fn table_with(
+// A table with its columns.
+fn table_on(
     alloc: Global,
+    resolver_scope: ResolverScope,
+    columns: &Columns,
     table: &TableTree,
-    key: List<u32>,
-    parts: TableParts,
 ) -> Result<ResolvedTable, AllocError>
-    ensures { IfOk result (λ resolved. resolved ≡ record { definition = record { name = table.now.name.name; columns = parts.columns.items; key = key; unique = parts.unique.items }; checks = parts.checks.items }) }
+    requires columns { columns.now ≡ columns_of (table_elements table.now) }
+    requires seen { seen_at resolver_scope ≡ on_columns table.now.name.name columns.now }
+    ensures { IfOk result (λ resolved. resolved ≡ resolve_table table.now) }
 {
     let name = table.name.name.copy(alloc)?;
+    let key = key_of(alloc, columns, table)?;
+    let parts = parts_of(alloc, resolver_scope, columns, key.items(), table)?;
+    Ok(table_with(name, key, parts))
+}
+
+fn table_with(name: Name, key: List<u32>, parts: TableParts) -> ResolvedTable
+    ensures { result ≡ record { definition = record { name = name; columns = parts.columns.items; key = key; unique = parts.unique.items }; checks = parts.checks.items } }
+{
     let TableParts {
         columns,
         unique,
@@ -91,10 +114,10 @@ fn table_with(
         key,
         unique: List::of(unique),
     };
-    Ok(ResolvedTable {
+    ResolvedTable {
         definition,
         checks: List::of(checks),
-    })
+    }
 }
 
 /// The columns, the UNIQUE lists and the CHECKs of a table so far.

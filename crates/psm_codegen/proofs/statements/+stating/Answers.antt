@@ -21,13 +21,13 @@ pub form-returns-in-Loop : goal.form-returns-in-Loop
 form-returns-in-Loop t c = ok_as c.looped.result (λ a. one a (λ σ f. f c.args.s.now (ap out-ResolvedStatement c.in-Loop.is ∙ statements.outs-Loop c.in-Loop.level c.in-Loop.statements))) c.looped.ensures
 
 pub form-returns-in-While : goal.form-returns-in-While
-form-returns-in-While t c = ok_as c.whiled.result (λ a. one a (λ σ f. f c.args.s.now (ap out-ResolvedStatement (c.in-While.is ∙ ap (λ e. statements.While c.in-While.level e c.in-While.statements) (sym c.get-in-While.ensures)) ∙ statements.outs-While c.in-While.level c.get-in-While.result.now c.in-While.statements))) c.whiled.ensures
+form-returns-in-While t c = ok_as c.whiled.result (λ a. one a (λ σ f. f c.args.s.now (ap out-ResolvedStatement (c.in-While.is ∙ ap (λ e. statements.While c.in-While.level e c.in-While.list) (sym c.get-in-While.ensures)) ∙ statements.outs-While c.in-While.level c.get-in-While.result.now c.in-While.list))) c.whiled.ensures
 
 pub form-returns-in-Repeat : goal.form-returns-in-Repeat
-form-returns-in-Repeat t c = ok_as c.repeated.result (λ a. one a (λ σ f. f c.args.s.now (ap out-ResolvedStatement (c.in-Repeat.is ∙ ap (statements.Repeat c.in-Repeat.level c.in-Repeat.statements) (sym c.get-in-Repeat.ensures)) ∙ statements.outs-Repeat c.in-Repeat.level c.in-Repeat.statements c.get-in-Repeat.result.now))) c.repeated.ensures
+form-returns-in-Repeat t c = ok_as c.repeated.result (λ a. one a (λ σ f. f c.args.s.now (ap out-ResolvedStatement (c.in-Repeat.is ∙ ap (statements.Repeat c.in-Repeat.level c.in-Repeat.list) (sym c.get-in-Repeat.ensures)) ∙ statements.outs-Repeat c.in-Repeat.level c.in-Repeat.list c.get-in-Repeat.result.now))) c.repeated.ensures
 
 pub form-returns-in-For : goal.form-returns-in-For
-form-returns-in-For t c = ok_as c.over_rows.result (λ a. one a (λ σ f. f c.args.s.now (ap out-ResolvedStatement (c.in-For.is ∙ ap (λ h. statements.For c.in-For.level h c.in-For.statements) (sym c.get-in-For.ensures)) ∙ statements.outs-For c.in-For.level c.get-in-For.result.now c.in-For.statements))) c.over_rows.ensures
+form-returns-in-For t c = ok_as c.over_rows.result (λ a. one a (λ σ f. f c.args.s.now (ap out-ResolvedStatement (c.in-For.is ∙ ap (λ h. statements.For c.in-For.level h c.in-For.list) (sym c.get-in-For.ensures)) ∙ statements.outs-For c.in-For.level c.get-in-For.result.now c.in-For.list))) c.over_rows.ensures
 
 pub form-returns-in_ok-branches-in-If : goal.form-returns-in_ok-branches-in-If
 form-returns-in_ok-branches-in-If t c = ok_as c.statements.result (λ a. two c.in_ok-branches-in-If.ensures a (λ σ x y. if_written c.in-If.list c.in-If.otherwise x y c.args.s.now (ap out-ResolvedStatement c.in-If.is ∙ statements.outs-If c.in-If.list c.in-If.otherwise))) c.statements.ensures

@@ -20,7 +20,7 @@ pub loop-turn-preserved : goal.loop-turn-preserved
 loop-turn-preserved c =
     let left : c.left-turn-end.result - (c.loop-turn._turn + 1) + 1 ≡ c.left-turn-end.result - c.loop-turn._turn = omega (arith, c.loop-turn-test.true) in
     let begins : starts kind (word_kind w.Table ∷ []) c.loop-turn.tokens.rest.now ≡ true = search rules in
-    rw c.in_ok-push.ensures.items (creating_go_on c.args.levels c.args.place c.args.tokens.now.rest.now c.loop-turn.tables.items c.loop-turn.place (c.left-turn-end.result - c.loop-turn._turn) c.loop-turn.tokens.rest.now c.loop-turn.invariant
+    rw (c.in_ok-push.ensures.items, c.into_inner.ensures) (creating_go_on c.args.levels c.args.place c.args.tokens.now.rest.now c.loop-turn.tables.items c.loop-turn.place (c.left-turn-end.result - c.loop-turn._turn) c.loop-turn.tokens.rest.now c.loop-turn.invariant
     (c.left-turn-end.result - (c.loop-turn._turn + 1)) (record { name = c.in_ok-name.name; elements = c.in_ok-name.elements }, c.in_ok-name.following) c.created_table.new.tokens.rest.now left begins c.in_ok-name.ensures)
 
 pub returns : goal.returns

@@ -2,7 +2,7 @@ use Rattle.std.proofs.Common.{◌≡◌, IfOk, map, subst}
 use Rattle.psm_rules.specs.Faults.{first_from}
 use Rattle.psm_rules.specs.FileFaults.{alone, columns_of, element_fault, table_elements}
 use Rattle.psm_rules.specs.CheckerScope.{Columns}
-use Rattle.psm_check_stmt.proofs.tables.table_fault.Goals as goal
+use Rattle.psm_check_stmt.proofs.tables.fault_alone.Goals as goal
 
 pub returns : goal.returns
 returns c =

@@ -1,7 +1,0 @@
-use Rattle.std.proofs.Common.{◌≡◌, drop}
-use Rattle.psm_rules.specs.FileFaults.{no_symbols}
-use Rattle.psm_resolve.specs.SymbolTables.{with_known_tables}
-use Rattle.psm_resolve.proofs.symbol_tables.known_symbols.Given as goal
-
-abbrev pub invariant-loop-table : goal.invariant-loop-table
-invariant-loop-table l = with_known_tables l.symbols (drop l.table-index l.table-items) ≡ with_known_tables no_symbols l.file.tables
