@@ -3,6 +3,7 @@ ghost use Rattle.psm_tree.specs.FileGrammar.{argument as argument_part, next_arg
 ghost use Rattle.psm_tree.specs.Readers.{Takes, reading};
 
 use crate::optional::in_front;
+use crate::take::take;
 use psm_grammar::Halt;
 use psm_list::List;
 use psm_parse_token::{Tokens, constant};
@@ -56,9 +57,9 @@ fn script_argument_list(
 ) -> Result<List<Argument>, Halt>
     ensures { Takes (reading levels script_argument_list_part tokens.old.rest.now) result tokens.new.rest.now }
 {
-    let first = argument(alloc, tokens, levels)?;
-    let others = next_arguments(alloc, tokens, levels)?;
-    tokens.sign(Sign::RightParen)?;
+    let first = take!(argument(alloc, tokens, levels));
+    let others = take!(next_arguments(alloc, tokens, levels));
+    take!(tokens.sign(Sign::RightParen));
     Ok(in_front(first, others)?)
 }
 
@@ -79,10 +80,10 @@ fn script_arguments(alloc: Global, tokens: &mut Tokens, levels: u32) -> Result<L
 pub(crate) fn script_call(alloc: Global, tokens: &mut Tokens, levels: u32) -> Result<Command, Halt>
     ensures { Takes (reading levels script_call_part tokens.old.rest.now) result tokens.new.rest.now }
 {
-    let place = tokens.word(Word::Call)?;
-    let procedure = tokens.name(alloc)?;
-    tokens.sign(Sign::LeftParen)?;
-    let arguments = script_arguments(alloc, tokens, levels)?;
+    let place = take!(tokens.word(Word::Call));
+    let procedure = take!(tokens.name(alloc));
+    take!(tokens.sign(Sign::LeftParen));
+    let arguments = take!(script_arguments(alloc, tokens, levels));
     Ok(Command::Call {
         place,
         procedure,

@@ -6,6 +6,7 @@ ghost use Rattle.psm_tree.specs.FileValues.{characteristic_by};
 ghost use Rattle.psm_tree.specs.Readers.{Takes, reading};
 ghost use Rattle.psm_tree.specs.Tests.{word as word_test};
 
+use crate::take::take;
 use psm_grammar::Halt;
 use psm_list::List;
 use psm_parse_token::Tokens;
@@ -42,8 +43,8 @@ fn two_words(
 ) -> Result<Characteristic, Halt>
     ensures { Takes (reading levels (seq (characteristic_by form) (token (word_test first)) (token (word_test second))) tokens.old.rest.now) result tokens.new.rest.now }
 {
-    let place = tokens.word(first)?;
-    tokens.word(second)?;
+    let place = take!(tokens.word(first));
+    take!(tokens.word(second));
     Ok(Characteristic { place, form })
 }
 
@@ -57,8 +58,8 @@ fn data_characteristic(
 ) -> Result<Characteristic, Halt>
     ensures { Takes (reading levels (seq (characteristic_by form) (token (word_test word)) sql_data_part) tokens.old.rest.now) result tokens.new.rest.now }
 {
-    let place = tokens.word(word)?;
-    sql_data(tokens, levels)?;
+    let place = take!(tokens.word(word));
+    take!(sql_data(tokens, levels));
     Ok(Characteristic { place, form })
 }
 

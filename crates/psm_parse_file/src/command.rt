@@ -5,6 +5,7 @@ ghost use Rattle.psm_tree.specs.Readers.{Takes, reading};
 use crate::call::script_call;
 use crate::insert::script_insert;
 use crate::optional::perhaps_word;
+use crate::take::take;
 use psm_grammar::Halt;
 use psm_list::List;
 use psm_parse_stmt::ordered_select;
@@ -33,15 +34,15 @@ fn command(alloc: Global, tokens: &mut Tokens, levels: u32) -> Result<Command, H
         return script_insert(alloc, tokens, levels);
     }
     if tokens.at(Word::Select) {
-        return Ok(Command::Select(ordered_select(alloc, tokens, levels)?));
+        return Ok(Command::Select(take!(ordered_select(alloc, tokens, levels))));
     }
     if tokens.at(Word::Commit) {
-        let place = tokens.word(Word::Commit)?;
-        perhaps_word(tokens, levels, Word::Work)?;
+        let place = take!(tokens.word(Word::Commit));
+        take!(perhaps_word(tokens, levels, Word::Work));
         return Ok(Command::Commit { place });
     }
-    let place = tokens.word(Word::Rollback)?;
-    perhaps_word(tokens, levels, Word::Work)?;
+    let place = take!(tokens.word(Word::Rollback));
+    take!(perhaps_word(tokens, levels, Word::Work));
     Ok(Command::Rollback { place })
 }
 
@@ -50,8 +51,8 @@ fn command(alloc: Global, tokens: &mut Tokens, levels: u32) -> Result<Command, H
 fn ended_command(alloc: Global, tokens: &mut Tokens, levels: u32) -> Result<Command, Halt>
     ensures { Takes (reading levels ended_command_part tokens.old.rest.now) result tokens.new.rest.now }
 {
-    let command = command(alloc, tokens, levels)?;
-    tokens.sign(Sign::Semicolon)?;
+    let command = take!(command(alloc, tokens, levels));
+    take!(tokens.sign(Sign::Semicolon));
     Ok(command)
 }
 

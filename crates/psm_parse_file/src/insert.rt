@@ -2,6 +2,7 @@
 ghost use Rattle.psm_tree.specs.FileGrammar.{next_constant as next_constant_part, next_constants as next_constants_part, constants as constants_part, row as row_part, next_row as next_row_part, next_rows as next_rows_part, rows as rows_part, script_values as script_values_part, script_insert as script_insert_part};
 ghost use Rattle.psm_tree.specs.Readers.{Takes, reading};
 
+use crate::take::take;
 use psm_grammar::Halt;
 use psm_list::{List, OneOrMore};
 use psm_parse_token::{Tokens, constant, perhaps_names};
@@ -39,8 +40,8 @@ fn next_constants(alloc: Global, tokens: &mut Tokens, levels: u32) -> Result<Lis
 fn constants(alloc: Global, tokens: &mut Tokens, levels: u32) -> Result<OneOrMore<Constant>, Halt>
     ensures { Takes (reading levels constants_part tokens.old.rest.now) result tokens.new.rest.now }
 {
-    let first = constant(alloc, tokens, levels)?;
-    let rest = next_constants(alloc, tokens, levels)?;
+    let first = take!(constant(alloc, tokens, levels));
+    let rest = take!(next_constants(alloc, tokens, levels));
     Ok(OneOrMore::of(first, rest))
 }
 
@@ -49,9 +50,9 @@ fn constants(alloc: Global, tokens: &mut Tokens, levels: u32) -> Result<OneOrMor
 fn row(alloc: Global, tokens: &mut Tokens, levels: u32) -> Result<ConstantRow, Halt>
     ensures { Takes (reading levels row_part tokens.old.rest.now) result tokens.new.rest.now }
 {
-    let place = tokens.sign(Sign::LeftParen)?;
-    let values = constants(alloc, tokens, levels)?;
-    tokens.sign(Sign::RightParen)?;
+    let place = take!(tokens.sign(Sign::LeftParen));
+    let values = take!(constants(alloc, tokens, levels));
+    take!(tokens.sign(Sign::RightParen));
     Ok(ConstantRow { place, values })
 }
 
@@ -85,8 +86,8 @@ fn next_rows(alloc: Global, tokens: &mut Tokens, levels: u32) -> Result<List<Con
 fn rows(alloc: Global, tokens: &mut Tokens, levels: u32) -> Result<OneOrMore<ConstantRow>, Halt>
     ensures { Takes (reading levels rows_part tokens.old.rest.now) result tokens.new.rest.now }
 {
-    let first = row(alloc, tokens, levels)?;
-    let rest = next_rows(alloc, tokens, levels)?;
+    let first = take!(row(alloc, tokens, levels));
+    let rest = take!(next_rows(alloc, tokens, levels));
     Ok(OneOrMore::of(first, rest))
 }
 
@@ -112,11 +113,11 @@ pub(crate) fn script_insert(
 ) -> Result<Command, Halt>
     ensures { Takes (reading levels script_insert_part tokens.old.rest.now) result tokens.new.rest.now }
 {
-    let place = tokens.word(Word::Insert)?;
-    tokens.word(Word::Into)?;
-    let table = tokens.name(alloc)?;
-    let columns = perhaps_names(alloc, tokens, levels)?;
-    let rows = script_values(alloc, tokens, levels)?;
+    let place = take!(tokens.word(Word::Insert));
+    take!(tokens.word(Word::Into));
+    let table = take!(tokens.name(alloc));
+    let columns = take!(perhaps_names(alloc, tokens, levels));
+    let rows = take!(script_values(alloc, tokens, levels));
     Ok(Command::Insert {
         place,
         table,

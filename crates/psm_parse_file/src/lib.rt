@@ -16,5 +16,6 @@ mod references;
 mod routine;
 mod rules;
 mod table;
+mod take;
 
 pub use parse::{parse_file, parse_script};

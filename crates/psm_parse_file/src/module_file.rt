@@ -7,6 +7,7 @@ use crate::characteristics::perhaps_language;
 use crate::optional::perhaps_sign;
 use crate::routine::ended_routines;
 use crate::table::table;
+use crate::take::take;
 use psm_grammar::Halt;
 use psm_list::{Boxed, List, OneOrMore};
 use psm_parse_token::Tokens;
@@ -19,9 +20,9 @@ use std::alloc::Global;
 fn module_body(alloc: Global, tokens: &mut Tokens, levels: u32) -> Result<List<Routine>, Halt>
     ensures { Takes (reading levels module_body_part tokens.old.rest.now) result tokens.new.rest.now }
 {
-    let routines = ended_routines(alloc, tokens, levels)?;
-    tokens.word(Word::End)?;
-    tokens.word(Word::Module)?;
+    let routines = take!(ended_routines(alloc, tokens, levels));
+    take!(tokens.word(Word::End));
+    take!(tokens.word(Word::Module));
     Ok(routines)
 }
 
@@ -34,10 +35,10 @@ fn module_part(
 ) -> Result<(Identifier, List<Routine>), Halt>
     ensures { TakesAs (λ x. record { name = x.0; routines = x.1 }) (reading levels module_part_part tokens.old.rest.now) result tokens.new.rest.now }
 {
-    tokens.word(Word::Module)?;
-    let name = tokens.name(alloc)?;
-    perhaps_language(tokens, levels)?;
-    let routines = module_body(alloc, tokens, levels)?;
+    take!(tokens.word(Word::Module));
+    let name = take!(tokens.name(alloc));
+    take!(perhaps_language(tokens, levels));
+    let routines = take!(module_body(alloc, tokens, levels));
     Ok((name, routines))
 }
 
@@ -50,8 +51,8 @@ fn last_module(
 ) -> Result<(Identifier, List<Routine>), Halt>
     ensures { TakesAs (λ x. record { name = x.0; routines = x.1 }) (reading levels last_module_part tokens.old.rest.now) result tokens.new.rest.now }
 {
-    let module = module_part(alloc, tokens, levels)?;
-    perhaps_sign(tokens, levels, Sign::Semicolon)?;
+    let module = take!(module_part(alloc, tokens, levels));
+    take!(perhaps_sign(tokens, levels, Sign::Semicolon));
     Ok(module)
 }
 
@@ -64,10 +65,10 @@ fn created_table(
 ) -> Result<((Identifier, Boxed<OneOrMore<Element>>), Place), Halt>
     ensures { TakesAs (λ x. (record { name = x.0.0; elements = x.0.1 }, x.1)) (reading levels created_table_part tokens.old.rest.now) result tokens.new.rest.now }
 {
-    tokens.word(Word::Table)?;
-    let table = table(alloc, tokens, levels)?;
-    tokens.sign(Sign::Semicolon)?;
-    let place = tokens.word(Word::Create)?;
+    take!(tokens.word(Word::Table));
+    let table = take!(table(alloc, tokens, levels));
+    take!(tokens.sign(Sign::Semicolon));
+    let place = take!(tokens.word(Word::Create));
     Ok((table, place))
 }
 
@@ -104,9 +105,9 @@ fn created_tables(
 pub(crate) fn file(alloc: Global, tokens: &mut Tokens, levels: u32) -> Result<FileTree, Halt>
     ensures { Takes (reading levels file_part tokens.old.rest.now) result tokens.new.rest.now }
 {
-    let place = tokens.word(Word::Create)?;
-    let (tables, place) = created_tables(alloc, tokens, levels, place)?;
-    let (name, routines) = last_module(alloc, tokens, levels)?;
+    let place = take!(tokens.word(Word::Create));
+    let (tables, place) = take!(created_tables(alloc, tokens, levels, place));
+    let (name, routines) = take!(last_module(alloc, tokens, levels));
     let module = Module {
         place,
         name,

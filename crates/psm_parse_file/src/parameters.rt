@@ -6,6 +6,7 @@ ghost use Rattle.psm_tree.specs.Readers.{Takes, TakesAs, reading};
 ghost use Rattle.psm_tree.specs.Tests.{mode as mode_test};
 
 use crate::optional::in_front;
+use crate::take::take;
 use psm_grammar::Halt;
 use psm_list::List;
 use psm_parse_token::{Tokens, data_type};
@@ -20,14 +21,14 @@ fn mode(tokens: &mut Tokens) -> Result<(Place, Mode), Halt>
     ensures { TakesAs (λ x. record { place = x.0; value = x.1 }) (one kind mode_test tokens.old.rest.now) result tokens.new.rest.now }
 {
     if tokens.at(Word::Out) {
-        let place = tokens.word(Word::Out)?;
+        let place = take!(tokens.word(Word::Out));
         return Ok((place, Mode::Out));
     }
     if tokens.at(Word::InOut) {
-        let place = tokens.word(Word::InOut)?;
+        let place = take!(tokens.word(Word::InOut));
         return Ok((place, Mode::InOut));
     }
-    let place = tokens.word(Word::In)?;
+    let place = take!(tokens.word(Word::In));
     Ok((place, Mode::In))
 }
 
@@ -40,8 +41,8 @@ fn named_type(
 ) -> Result<(Identifier, DataType), Halt>
     ensures { Takes (reading levels named_type_part tokens.old.rest.now) result tokens.new.rest.now }
 {
-    let name = tokens.name(alloc)?;
-    let kind = data_type(tokens, levels)?;
+    let name = take!(tokens.name(alloc));
+    let kind = take!(data_type(tokens, levels));
     Ok((name, kind))
 }
 
@@ -51,8 +52,8 @@ fn param(alloc: Global, tokens: &mut Tokens, levels: u32) -> Result<Parameter, H
     ensures { Takes (reading levels param_part tokens.old.rest.now) result tokens.new.rest.now }
 {
     if tokens.at_one_of(&MODE_WORDS) {
-        let (place, mode) = mode(tokens)?;
-        let (name, kind) = named_type(alloc, tokens, levels)?;
+        let (place, mode) = take!(mode(tokens));
+        let (name, kind) = take!(named_type(alloc, tokens, levels));
         return Ok(Parameter {
             place,
             mode,
@@ -60,7 +61,7 @@ fn param(alloc: Global, tokens: &mut Tokens, levels: u32) -> Result<Parameter, H
             kind,
         });
     }
-    let (name, kind) = named_type(alloc, tokens, levels)?;
+    let (name, kind) = take!(named_type(alloc, tokens, levels));
     Ok(Parameter {
         place: name.place,
         mode: Mode::In,
@@ -99,9 +100,9 @@ fn next_params(alloc: Global, tokens: &mut Tokens, levels: u32) -> Result<List<P
 fn param_list(alloc: Global, tokens: &mut Tokens, levels: u32) -> Result<List<Parameter>, Halt>
     ensures { Takes (reading levels param_list_part tokens.old.rest.now) result tokens.new.rest.now }
 {
-    let first = param(alloc, tokens, levels)?;
-    let others = next_params(alloc, tokens, levels)?;
-    tokens.sign(Sign::RightParen)?;
+    let first = take!(param(alloc, tokens, levels));
+    let others = take!(next_params(alloc, tokens, levels));
+    take!(tokens.sign(Sign::RightParen));
     Ok(in_front(first, others)?)
 }
 

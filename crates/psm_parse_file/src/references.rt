@@ -4,6 +4,7 @@ ghost use Rattle.psm_tree.specs.ExprGrammar.{names_in_parens as names_part};
 ghost use Rattle.psm_tree.specs.FileGrammar.{no_action as no_action_part, delete_action as delete_action_part, update_action as update_action_part, next_delete_action as next_delete_action_part, next_update_action as next_update_action_part, either_action as either_action_part, actions as actions_part, references_rest as references_rest_part, references as references_part};
 ghost use Rattle.psm_tree.specs.Readers.{Takes, reading};
 
+use crate::take::take;
 use psm_grammar::Halt;
 use psm_parse_token::{Tokens, names_in_parens};
 use psm_token::{Place, Sign, Word};
@@ -15,7 +16,7 @@ use std::alloc::Global;
 fn no_action(tokens: &mut Tokens, levels: u32) -> Result<Place, Halt>
     ensures { Takes (reading levels no_action_part tokens.old.rest.now) result tokens.new.rest.now }
 {
-    tokens.word(Word::No)?;
+    take!(tokens.word(Word::No));
     tokens.word(Word::Action)
 }
 
@@ -83,12 +84,12 @@ fn either_action(tokens: &mut Tokens, levels: u32) -> Result<Place, Halt>
     ensures { Takes (reading levels either_action_part tokens.old.rest.now) result tokens.new.rest.now }
 {
     if tokens.at(Word::Delete) {
-        let place = delete_action(tokens, levels)?;
-        perhaps_next_update_action(tokens, levels)?;
+        let place = take!(delete_action(tokens, levels));
+        take!(perhaps_next_update_action(tokens, levels));
         return Ok(place);
     }
-    let place = update_action(tokens, levels)?;
-    perhaps_next_delete_action(tokens, levels)?;
+    let place = take!(update_action(tokens, levels));
+    take!(perhaps_next_delete_action(tokens, levels));
     Ok(place)
 }
 
@@ -132,9 +133,9 @@ pub(crate) fn references_rest(
 ) -> Result<References, Halt>
     ensures { Takes (reading levels references_rest_part tokens.old.rest.now) result tokens.new.rest.now }
 {
-    let table = tokens.name(alloc)?;
-    let columns = perhaps_columns(alloc, tokens, levels)?;
-    perhaps_actions(tokens, levels)?;
+    let table = take!(tokens.name(alloc));
+    let columns = take!(perhaps_columns(alloc, tokens, levels));
+    take!(perhaps_actions(tokens, levels));
     Ok(References { table, columns })
 }
 

@@ -6,6 +6,7 @@ ghost use Rattle.psm_parse_file.specs.Clauses.{returns_clause};
 use crate::characteristics::characteristic_list;
 use crate::optional::at_word_and_sign;
 use crate::parameters::params;
+use crate::take::take;
 use psm_grammar::Halt;
 use psm_list::{Boxed, List};
 use psm_parse_stmt::statement;
@@ -26,8 +27,8 @@ type Noted = (List<Characteristic>, Boxed<Statement>);
 fn noted_statement(alloc: Global, tokens: &mut Tokens, levels: u32) -> Result<Boxed<Noted>, Halt>
     ensures { Takes (reading levels noted_statement_part tokens.old.rest.now) result tokens.new.rest.now }
 {
-    let characteristics = characteristic_list(alloc, tokens, levels)?;
-    let body = statement(alloc, tokens, levels)?;
+    let characteristics = take!(characteristic_list(alloc, tokens, levels));
+    let body = take!(statement(alloc, tokens, levels));
     Ok(Boxed::new(alloc, (characteristics, body))?)
 }
 
@@ -36,10 +37,10 @@ fn noted_statement(alloc: Global, tokens: &mut Tokens, levels: u32) -> Result<Bo
 fn procedure(alloc: Global, tokens: &mut Tokens, levels: u32) -> Result<Routine, Halt>
     ensures { Takes (reading levels procedure_part tokens.old.rest.now) result tokens.new.rest.now }
 {
-    let place = tokens.word(Word::Procedure)?;
-    let name = tokens.name(alloc)?;
-    let parameters = params(alloc, tokens, levels)?;
-    let noted = noted_statement(alloc, tokens, levels)?;
+    let place = take!(tokens.word(Word::Procedure));
+    let name = take!(tokens.name(alloc));
+    let parameters = take!(params(alloc, tokens, levels));
+    let noted = take!(noted_statement(alloc, tokens, levels));
     let (characteristics, body) = noted.into_inner();
     Ok(Routine {
         place,
@@ -62,12 +63,12 @@ fn char_returned(
     ensures { Takes (reading levels char_returned_part tokens.old.rest.now) result tokens.new.rest.now }
 {
     if at_word_and_sign(tokens, Word::Varying, Sign::LeftParen) {
-        let form = varying(tokens, levels)?;
-        let noted = noted_statement(alloc, tokens, levels)?;
+        let form = take!(varying(tokens, levels));
+        let noted = take!(noted_statement(alloc, tokens, levels));
         return Ok((form, noted));
     }
-    let form = char_length(tokens, levels)?;
-    let noted = noted_statement(alloc, tokens, levels)?;
+    let form = take!(char_length(tokens, levels));
+    let noted = take!(noted_statement(alloc, tokens, levels));
     Ok((form, noted))
 }
 
@@ -81,12 +82,12 @@ fn returned(
     ensures { Takes (reading levels returned_part tokens.old.rest.now) result tokens.new.rest.now }
 {
     if tokens.at_one_of(&CHAR_WORDS) {
-        let place = tokens.one_of(&CHAR_WORDS)?;
-        let (form, noted) = char_returned(alloc, tokens, levels)?;
+        let place = take!(tokens.one_of(&CHAR_WORDS));
+        let (form, noted) = take!(char_returned(alloc, tokens, levels));
         return Ok((DataType { place, form }, noted));
     }
-    let kind = plain_type(tokens, levels)?;
-    let noted = noted_statement(alloc, tokens, levels)?;
+    let kind = take!(plain_type(tokens, levels));
+    let noted = take!(noted_statement(alloc, tokens, levels));
     Ok((kind, noted))
 }
 
@@ -99,7 +100,7 @@ fn returns(
 ) -> Result<(DataType, Boxed<Noted>), Halt>
     ensures { Takes (reading levels returns_clause tokens.old.rest.now) result tokens.new.rest.now }
 {
-    tokens.word(Word::Returns)?;
+    take!(tokens.word(Word::Returns));
     returned(alloc, tokens, levels)
 }
 
@@ -108,10 +109,10 @@ fn returns(
 fn function(alloc: Global, tokens: &mut Tokens, levels: u32) -> Result<Routine, Halt>
     ensures { Takes (reading levels function_part tokens.old.rest.now) result tokens.new.rest.now }
 {
-    let place = tokens.word(Word::Function)?;
-    let name = tokens.name(alloc)?;
-    let parameters = params(alloc, tokens, levels)?;
-    let (kind, noted) = returns(alloc, tokens, levels)?;
+    let place = take!(tokens.word(Word::Function));
+    let name = take!(tokens.name(alloc));
+    let parameters = take!(params(alloc, tokens, levels));
+    let (kind, noted) = take!(returns(alloc, tokens, levels));
     let (characteristics, body) = noted.into_inner();
     Ok(Routine {
         place,
@@ -151,8 +152,8 @@ fn routine(alloc: Global, tokens: &mut Tokens, levels: u32) -> Result<Routine, H
 fn ended_routine(alloc: Global, tokens: &mut Tokens, levels: u32) -> Result<Routine, Halt>
     ensures { Takes (reading levels ended_routine_part tokens.old.rest.now) result tokens.new.rest.now }
 {
-    let routine = routine(alloc, tokens, levels)?;
-    tokens.sign(Sign::Semicolon)?;
+    let routine = take!(routine(alloc, tokens, levels));
+    take!(tokens.sign(Sign::Semicolon));
     Ok(routine)
 }
 

@@ -5,6 +5,7 @@ ghost use Rattle.psm_tree.specs.Readers.{Takes, reading};
 ghost use Rattle.psm_parse_file.specs.Clauses.{foreign_key_rule};
 
 use crate::references::{references, references_rest};
+use crate::take::take;
 use psm_grammar::Halt;
 use psm_list::{Boxed, List};
 use psm_parse_expr::expr;
@@ -27,9 +28,9 @@ const COLUMN_RULE_WORDS: [Word; 6] = [
 fn condition(alloc: Global, tokens: &mut Tokens, levels: u32) -> Result<Boxed<Expr>, Halt>
     ensures { Takes (reading levels (within_parens expr_part) tokens.old.rest.now) result tokens.new.rest.now }
 {
-    tokens.sign(Sign::LeftParen)?;
-    let test = expr(alloc, tokens, levels)?;
-    tokens.sign(Sign::RightParen)?;
+    take!(tokens.sign(Sign::LeftParen));
+    let test = take!(expr(alloc, tokens, levels));
+    take!(tokens.sign(Sign::RightParen));
     Ok(test)
 }
 
@@ -39,29 +40,29 @@ fn plain_column_rule(alloc: Global, tokens: &mut Tokens, levels: u32) -> Result<
     ensures { Takes (reading levels plain_column_rule_part tokens.old.rest.now) result tokens.new.rest.now }
 {
     if tokens.at(Word::Not) {
-        let place = tokens.word(Word::Not)?;
-        tokens.word(Word::Null)?;
+        let place = take!(tokens.word(Word::Not));
+        take!(tokens.word(Word::Null));
         let form = ColumnRuleForm::NotNull;
         return Ok(ColumnRule { place, form });
     }
     if tokens.at(Word::Primary) {
-        let place = tokens.word(Word::Primary)?;
-        tokens.word(Word::Key)?;
+        let place = take!(tokens.word(Word::Primary));
+        take!(tokens.word(Word::Key));
         let form = ColumnRuleForm::PrimaryKey;
         return Ok(ColumnRule { place, form });
     }
     if tokens.at(Word::Unique) {
-        let place = tokens.word(Word::Unique)?;
+        let place = take!(tokens.word(Word::Unique));
         let form = ColumnRuleForm::Unique;
         return Ok(ColumnRule { place, form });
     }
     if tokens.at(Word::Check) {
-        let place = tokens.word(Word::Check)?;
-        let form = ColumnRuleForm::Check(condition(alloc, tokens, levels)?);
+        let place = take!(tokens.word(Word::Check));
+        let form = ColumnRuleForm::Check(take!(condition(alloc, tokens, levels)));
         return Ok(ColumnRule { place, form });
     }
-    let place = tokens.word(Word::References)?;
-    let form = ColumnRuleForm::References(references_rest(alloc, tokens, levels)?);
+    let place = take!(tokens.word(Word::References));
+    let form = ColumnRuleForm::References(take!(references_rest(alloc, tokens, levels)));
     Ok(ColumnRule { place, form })
 }
 
@@ -71,8 +72,8 @@ fn column_rule(alloc: Global, tokens: &mut Tokens, levels: u32) -> Result<Column
     ensures { Takes (reading levels column_rule_part tokens.old.rest.now) result tokens.new.rest.now }
 {
     if tokens.at(Word::Constraint) {
-        tokens.word(Word::Constraint)?;
-        tokens.name(alloc)?;
+        take!(tokens.word(Word::Constraint));
+        take!(tokens.name(alloc));
         return plain_column_rule(alloc, tokens, levels);
     }
     plain_column_rule(alloc, tokens, levels)
@@ -103,10 +104,10 @@ pub(crate) fn column_rules(
 fn foreign_key(alloc: Global, tokens: &mut Tokens, levels: u32) -> Result<TableRule, Halt>
     ensures { Takes (reading levels foreign_key_rule tokens.old.rest.now) result tokens.new.rest.now }
 {
-    let place = tokens.word(Word::Foreign)?;
-    tokens.word(Word::Key)?;
-    let columns = names_in_parens(alloc, tokens, levels)?;
-    let references = references(alloc, tokens, levels)?;
+    let place = take!(tokens.word(Word::Foreign));
+    take!(tokens.word(Word::Key));
+    let columns = take!(names_in_parens(alloc, tokens, levels));
+    let references = take!(references(alloc, tokens, levels));
     let form = TableRuleForm::ForeignKey {
         columns,
         references,
@@ -120,19 +121,19 @@ fn plain_table_rule(alloc: Global, tokens: &mut Tokens, levels: u32) -> Result<T
     ensures { Takes (reading levels plain_table_rule_part tokens.old.rest.now) result tokens.new.rest.now }
 {
     if tokens.at(Word::Primary) {
-        let place = tokens.word(Word::Primary)?;
-        tokens.word(Word::Key)?;
-        let form = TableRuleForm::PrimaryKey(names_in_parens(alloc, tokens, levels)?);
+        let place = take!(tokens.word(Word::Primary));
+        take!(tokens.word(Word::Key));
+        let form = TableRuleForm::PrimaryKey(take!(names_in_parens(alloc, tokens, levels)));
         return Ok(TableRule { place, form });
     }
     if tokens.at(Word::Unique) {
-        let place = tokens.word(Word::Unique)?;
-        let form = TableRuleForm::Unique(names_in_parens(alloc, tokens, levels)?);
+        let place = take!(tokens.word(Word::Unique));
+        let form = TableRuleForm::Unique(take!(names_in_parens(alloc, tokens, levels)));
         return Ok(TableRule { place, form });
     }
     if tokens.at(Word::Check) {
-        let place = tokens.word(Word::Check)?;
-        let form = TableRuleForm::Check(condition(alloc, tokens, levels)?);
+        let place = take!(tokens.word(Word::Check));
+        let form = TableRuleForm::Check(take!(condition(alloc, tokens, levels)));
         return Ok(TableRule { place, form });
     }
     foreign_key(alloc, tokens, levels)
@@ -144,8 +145,8 @@ pub(crate) fn table_rule(alloc: Global, tokens: &mut Tokens, levels: u32) -> Res
     ensures { Takes (reading levels table_rule_part tokens.old.rest.now) result tokens.new.rest.now }
 {
     if tokens.at(Word::Constraint) {
-        tokens.word(Word::Constraint)?;
-        tokens.name(alloc)?;
+        take!(tokens.word(Word::Constraint));
+        take!(tokens.name(alloc));
         return plain_table_rule(alloc, tokens, levels);
     }
     plain_table_rule(alloc, tokens, levels)

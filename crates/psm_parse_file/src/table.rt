@@ -4,6 +4,7 @@ ghost use Rattle.psm_tree.specs.FileGrammar.{default_constant as default_constan
 ghost use Rattle.psm_tree.specs.Readers.{Takes, TakesAs, reading};
 
 use crate::rules::{column_rules, table_rule};
+use crate::take::take;
 use psm_grammar::Halt;
 use psm_list::{Boxed, List, OneOrMore};
 use psm_parse_token::{Tokens, constant, data_type};
@@ -40,10 +41,10 @@ fn perhaps_default(
 fn column(alloc: Global, tokens: &mut Tokens, levels: u32) -> Result<Element, Halt>
     ensures { Takes (reading levels column_part tokens.old.rest.now) result tokens.new.rest.now }
 {
-    let name = tokens.name(alloc)?;
-    let kind = data_type(tokens, levels)?;
-    let default = perhaps_default(alloc, tokens, levels)?;
-    let rules = column_rules(alloc, tokens, levels)?;
+    let name = take!(tokens.name(alloc));
+    let kind = take!(data_type(tokens, levels));
+    let default = take!(perhaps_default(alloc, tokens, levels));
+    let rules = take!(column_rules(alloc, tokens, levels));
     Ok(Element::Column {
         name,
         kind,
@@ -97,8 +98,8 @@ fn elements(
 ) -> Result<Boxed<OneOrMore<Element>>, Halt>
     ensures { Takes (reading levels elements_part tokens.old.rest.now) result tokens.new.rest.now }
 {
-    let first = Boxed::new(alloc, element(alloc, tokens, levels)?)?;
-    let rest = next_elements(alloc, tokens, levels)?;
+    let first = Boxed::new(alloc, take!(element(alloc, tokens, levels)))?;
+    let rest = take!(next_elements(alloc, tokens, levels));
     Ok(Boxed::new(alloc, OneOrMore::of(first.into_inner(), rest))?)
 }
 
@@ -111,9 +112,9 @@ pub(crate) fn table(
 ) -> Result<(Identifier, Boxed<OneOrMore<Element>>), Halt>
     ensures { TakesAs (λ x. record { name = x.0; elements = x.1 }) (reading levels table_part tokens.old.rest.now) result tokens.new.rest.now }
 {
-    let name = tokens.name(alloc)?;
-    tokens.sign(Sign::LeftParen)?;
-    let elements = elements(alloc, tokens, levels)?;
-    tokens.sign(Sign::RightParen)?;
+    let name = take!(tokens.name(alloc));
+    take!(tokens.sign(Sign::LeftParen));
+    let elements = take!(elements(alloc, tokens, levels));
+    take!(tokens.sign(Sign::RightParen));
     Ok((name, elements))
 }
