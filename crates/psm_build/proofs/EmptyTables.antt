@@ -14,8 +14,8 @@ use Rattle.psm_meaning.specs.Session as meaning
 use Rattle.psm_code.specs.declared.code.CodeTable.{CodeTable}
 use Rattle.psm_code.specs.declared.code.RawCode.{RawCode}
 use Rattle.psm_code.specs.MachineInvariant.{AreKept, AreLawful}
+use Rattle.psm_exprgen.specs.Queries.{TablesMade}
 use Rattle.psm_codegen.specs.Files.{FileWritten}
-use Rattle.psm_codegen.specs.Queries.{TablesMade}
 use Rattle.psm_wellformed.proofs.Definitions.{file-definitions}
 use Rattle.psm_wellformed.specs.Files.{WellFormedFile}
 use Rattle.psm_build.specs.Outcome.{definitions, empty_tables}

@@ -29,7 +29,7 @@ use Rattle.psm_resolve.specs.Blocks as making
 use Rattle.psm_resolve.specs.Blocks.{resolve_block, resolve_branch, resolve_handler, kind_of, resolve_statement, value_of}
 use Rattle.psm_declare.specs.Numbering.{Numbering}
 use Rattle.psm_resolve.specs.Statements.{simple_of}
-use Rattle.psm_codegen.specs.declared.known.Known.{Known}
+use Rattle.psm_exprgen.specs.declared.known.Known.{Known}
 use Rattle.psm_typing.specs.TypingContext.{Each, TypingContext}
 use Rattle.psm_typing.specs.Statements as places
 use Rattle.psm_typing.specs.Statements.{in_action, inside, looping, over_rows}

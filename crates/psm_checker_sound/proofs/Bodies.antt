@@ -26,8 +26,8 @@ use Rattle.psm_declare.specs.Numbering.{Numbering, next_slot, with_slot}
 use Rattle.psm_resolve.specs.Files.{resolved_file, nothing_numbered, resolve_routine, routine_numbered, numbered_parameters}
 use Rattle.psm_resolve.specs.SymbolTables.{known_symbols}
 use Rattle.psm_meaning.specs.Calls.{returns}
+use Rattle.psm_exprgen.specs.Writing.{BeginsWith}
 use Rattle.psm_codegen.specs.Files.{known_of}
-use Rattle.psm_codegen.specs.Writing.{BeginsWith}
 use Rattle.psm_typing.specs.TypingContext.{Each, TypingContext, Shape}
 use Rattle.psm_wellformed.specs.Files.{body, typing_context_of}
 use Rattle.psm_wellformed.specs.Statements.{Letters}

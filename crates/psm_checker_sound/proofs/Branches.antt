@@ -13,7 +13,7 @@ use Rattle.psm_rules.proofs.Earliest.{first_of_cons}
 use Rattle.psm_tree.specs.declared.expr.Expr.{Expr}
 use Rattle.psm_tree.specs.declared.statement.Branch.{Branch, out-Branch}
 use Rattle.psm_resolve_expr.specs.ResolverScope.{ResolverScope}
-use Rattle.psm_codegen.specs.declared.known.Known.{Known}
+use Rattle.psm_exprgen.specs.declared.known.Known.{Known}
 use Rattle.psm_typing.specs.TypingContext.{Each, TypingContext}
 use Rattle.psm_wellformed.specs.Statements.{IsTest, Letters}
 use Rattle.psm_checker_sound.specs.Agreement.{Agree}

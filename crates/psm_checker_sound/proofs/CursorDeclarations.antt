@@ -18,8 +18,8 @@ use Rattle.psm_tree.specs.declared.statement.Updatability.TheVariants as updatab
 use Rattle.psm_resolved.specs.declared.statement.ResolvedCursor.{ResolvedCursor}
 use Rattle.psm_resolve_expr.specs.ResolverScope.{Scopes, ResolverScope}
 use Rattle.psm_declare.specs.Numbering.{Numbering, with_cursor}
-use Rattle.psm_codegen.specs.declared.known.Known.{Known}
-use Rattle.psm_codegen.specs.Queries.{item_letters}
+use Rattle.psm_exprgen.specs.declared.known.Known.{Known}
+use Rattle.psm_exprgen.specs.Queries.{item_letters}
 use Rattle.psm_exprcode.specs.declared.op.Letter.{Letter}
 use Rattle.psm_typing.specs.TypingContext.{Each, IsThere, TypingContext}
 use Rattle.psm_typing.specs.Statements as places

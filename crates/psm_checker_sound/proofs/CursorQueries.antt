@@ -29,10 +29,10 @@ use Rattle.psm_resolve_expr.specs.Resolved.{ShapedPick, values_in, sets_in}
 use Rattle.psm_resolve_expr.specs.ResolverScope.{ResolverScope, on_row, table_at}
 use Rattle.psm_meaning.specs.Rows as rows
 use Rattle.psm_meaning.specs.Rows.{query_of}
-use Rattle.psm_codegen.specs.declared.known.Known.{Known}
-use Rattle.psm_codegen.specs.Queries as written
-use Rattle.psm_codegen.specs.Queries.{item_letters, letters_of_layer}
-use Rattle.psm_codegen.specs.Written.{letters_at}
+use Rattle.psm_exprgen.specs.declared.known.Known.{Known}
+use Rattle.psm_exprgen.specs.Queries as written
+use Rattle.psm_exprgen.specs.Queries.{item_letters, letters_of_layer}
+use Rattle.psm_exprgen.specs.Written.{letters_at}
 use Rattle.psm_typing.specs.Queries.{AreItems, IsQuery, IsRowTest}
 use Rattle.psm_typing.specs.TypingContext.{Each, TypingContext, columns_of, variables_of}
 use Rattle.psm_typing.specs.Statements.{MayBe}

@@ -31,7 +31,7 @@ use Rattle.psm_declare.specs.Declarations.{Numbered, declaration_of, declaration
 use Rattle.psm_declare.specs.Seen.{expr_at}
 use Rattle.psm_declare.specs.Declarations as declaring
 use Rattle.psm_declare.specs.Numbering.{Numbering, next_condition, next_slot, with_condition, with_slot}
-use Rattle.psm_codegen.specs.declared.known.Known.{Known}
+use Rattle.psm_exprgen.specs.declared.known.Known.{Known}
 use Rattle.psm_codegen.proofs.There.{there_at}
 use Rattle.psm_typing.specs.TypingContext.{Each, TypingContext}
 use Rattle.psm_typing.specs.Statements as places

@@ -16,7 +16,7 @@ use Rattle.psm_rules.specs.CheckerScope.{Cursor, SymbolTable}
 use Rattle.psm_resolve_expr.specs.ResolverScope.{Scopes, ResolverScope}
 use Rattle.psm_declare.specs.Numbering.{Numbering}
 use Rattle.psm_resolve.specs.Statements.{or_zero}
-use Rattle.psm_codegen.specs.declared.known.Known.{Known}
+use Rattle.psm_exprgen.specs.declared.known.Known.{Known}
 use Rattle.psm_typing.specs.TypingContext.{TypingContext}
 use Rattle.psm_typing.specs.Statements as places
 use Rattle.psm_wellformed.specs.Statements.{Letters}

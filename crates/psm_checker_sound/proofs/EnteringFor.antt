@@ -22,8 +22,8 @@ use Rattle.psm_declare.specs.Declarations.{Numbered}
 use Rattle.psm_resolve.specs.Blocks.{ForItem, for_items, head_of, in_scopes, is_insensitive, numbered_for_cursor, numbered_head, numbered_items}
 use Rattle.psm_declare.specs.Numbering.{Numbering, with_cursor}
 use Rattle.psm_resolve.specs.Statements.{or_zero}
-use Rattle.psm_codegen.specs.declared.known.Known.{Known}
-use Rattle.psm_codegen.specs.Queries.{item_letters}
+use Rattle.psm_exprgen.specs.declared.known.Known.{Known}
+use Rattle.psm_exprgen.specs.Queries.{item_letters}
 use Rattle.psm_typing.specs.TypingContext.{Each, TypingContext}
 use Rattle.psm_typing.specs.Statements as places
 use Rattle.psm_typing.specs.Statements.{AreForItems, IsCursor, over_rows}

@@ -18,10 +18,10 @@ use Rattle.psm_resolve.specs.Blocks.{resolve_statement}
 use Rattle.psm_resolve.specs.Files.{resolved_file, resolve_parameter, resolve_routine, routine_numbered, resolve_table}
 use Rattle.psm_resolve.specs.SymbolTables.{known_symbols}
 use Rattle.psm_resolve.proofs.EachOwn.{each-own}
-use Rattle.psm_codegen.specs.declared.known.Known.{Known}
+use Rattle.psm_exprgen.specs.declared.known.Known.{Known}
+use Rattle.psm_exprgen.specs.Queries.{item_letters}
+use Rattle.psm_exprgen.specs.Writing.{BeginsWith}
 use Rattle.psm_codegen.specs.Files.{known_of}
-use Rattle.psm_codegen.specs.Queries.{item_letters}
-use Rattle.psm_codegen.specs.Writing.{BeginsWith}
 use Rattle.psm_typing.specs.TypingContext.{Begin, Each, TypingContext, Shape}
 use Rattle.psm_wellformed.specs.Files.{WellFormedFile, WellFormedRoutine, WellFormedTable, body}
 use Rattle.psm_wellformed.specs.Statements.{Letters}

@@ -36,8 +36,8 @@ use Rattle.psm_resolve_expr.specs.ResolverScope as resolver_scopes
 use Rattle.psm_resolve_expr.specs.ResolverScope.{ResolverScope, table_at}
 use Rattle.psm_declare.specs.Declarations.{is_downward, ordered_query}
 use Rattle.psm_resolve.specs.Blocks as blocks
-use Rattle.psm_codegen.specs.declared.known.Known.{Known}
-use Rattle.psm_codegen.specs.Queries.{item_letters}
+use Rattle.psm_exprgen.specs.declared.known.Known.{Known}
+use Rattle.psm_exprgen.specs.Queries.{item_letters}
 use Rattle.psm_typing.specs.TypingContext.{TypingContext}
 use Rattle.psm_wellformed.specs.Statements.{Letters}
 use Rattle.psm_checker_sound.specs.Agreement.{Agree, AllTypeCheck, HaveTypes}

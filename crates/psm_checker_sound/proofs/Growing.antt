@@ -21,8 +21,8 @@ use Rattle.psm_resolve.specs.Blocks as making
 use Rattle.psm_resolve.specs.Blocks.{ForItem, resolve_block, resolve_branch, for_items, resolve_handler, in_scopes, in_loop, resolve_statement, numbered_for_cursor, numbered_head, numbered_item, numbered_items}
 use Rattle.psm_declare.specs.Numbering.{Numbering, with_condition, with_cursor, with_slot}
 use Rattle.psm_scope.specs.Scopes as scope
-use Rattle.psm_codegen.specs.Writing.{BeginsWith}
-pub use Rattle.psm_codegen.proofs.Growth.{begins-before, begins-here}
+use Rattle.psm_exprgen.specs.Writing.{BeginsWith}
+pub use Rattle.psm_exprgen.proofs.Growth.{begins-before, begins-here}
 use Rattle.psm_typing.specs.TypingContext.{TypingContext}
 use Rattle.psm_checker_sound.specs.Numbered.{Fills}
 use Rattle.psm_checker_sound.specs.StatementsStand as stand

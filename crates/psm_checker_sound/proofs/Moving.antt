@@ -12,7 +12,7 @@ use Rattle.psm_resolve_expr.specs.ResolverScope.{Scopes, ResolverScope}
 use Rattle.psm_resolve.specs.Blocks as making
 use Rattle.psm_resolve.specs.Blocks.{in_scopes, in_loop, level_at}
 use Rattle.psm_declare.specs.Numbering.{Numbering}
-use Rattle.psm_codegen.specs.declared.known.Known.{Known}
+use Rattle.psm_exprgen.specs.declared.known.Known.{Known}
 use Rattle.psm_codegen.proofs.Growing.{begins-length}
 use Rattle.psm_typing.specs.TypingContext.{TypingContext}
 use Rattle.psm_typing.specs.Statements as places

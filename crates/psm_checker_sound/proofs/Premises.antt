@@ -14,9 +14,9 @@ use Rattle.psm_resolve_expr.specs.Exprs.{resolve_query}
 use Rattle.psm_resolve_expr.specs.ResolverScope.{ResolverScope}
 use Rattle.psm_declare.specs.Seen.{expr_at}
 use Rattle.psm_resolve.specs.Statements.{simple_of}
-use Rattle.psm_codegen.specs.declared.known.Known.{Known}
+use Rattle.psm_exprgen.specs.declared.known.Known.{Known}
+use Rattle.psm_exprgen.specs.Queries.{item_letters}
 use Rattle.psm_codegen.specs.Files.{known_of}
-use Rattle.psm_codegen.specs.Queries.{item_letters}
 use Rattle.psm_typing.specs.TypingContext.{Each, TypingContext}
 use Rattle.psm_typing.specs.Statements as places
 use Rattle.psm_wellformed.specs.Expressions.{PerhapsWellFormed}

@@ -53,7 +53,7 @@ use Rattle.psm_checker_sound.specs.Agreement.{AreTables, HaveTypes, letter_in}
 use Rattle.psm_checker_sound.specs.Stands.{Standing, as_operand}
 use Rattle.psm_code.specs.PlanRules.{is_due}
 use Rattle.psm_code.specs.Rules.{is_some as some}
-use Rattle.psm_codegen.specs.Queries.{Layer, item_letters}
+use Rattle.psm_exprgen.specs.Queries.{Layer, item_letters}
 use Rattle.psm_exprcode.specs.Kinds.{is_letter}
 use Rattle.psm_wellformed.specs.Expressions as well_formed
 use Rattle.psm_wellformed.specs.Queries.{WellFormedQuery, are_well_formed, has_rows}

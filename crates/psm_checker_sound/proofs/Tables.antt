@@ -34,7 +34,7 @@ use Rattle.psm_resolved.specs.declared.expr.ResolvedExpr.{ResolvedExpr}
 use Rattle.psm_resolve_expr.specs.Exprs.{resolve_expr}
 use Rattle.psm_declare.specs.Seen.{expr_at}
 use Rattle.psm_resolve.specs.Files.{checks_in, checks_of, key_among, key_of, on_columns, own_check, own_checks, rule_check, resolve_table}
-use Rattle.psm_codegen.specs.Queries.{is_test}
+use Rattle.psm_exprgen.specs.Queries.{is_test}
 use Rattle.psm_typing.specs.TypingContext.{Each, TypingContext, letters_of}
 use Rattle.psm_typing.specs.Scripts.{no_routine}
 use Rattle.psm_wellformed.specs.Files.{WellFormedTable}

@@ -43,9 +43,9 @@ use Rattle.psm_resolve.specs.Statements.{arguments_of, argument_of, condition_of
 use Rattle.psm_meaning.specs.Calls.{procedure_at}
 use Rattle.psm_code.specs.RoutineRules.{is_condition}
 use Rattle.psm_code.specs.RoutineRules as rules
-use Rattle.psm_codegen.specs.declared.known.Known.{Known}
-use Rattle.psm_codegen.specs.Queries.{item_letters}
-use Rattle.psm_codegen.specs.Written.{letters_at, letters_or}
+use Rattle.psm_exprgen.specs.declared.known.Known.{Known}
+use Rattle.psm_exprgen.specs.Queries.{item_letters}
+use Rattle.psm_exprgen.specs.Written.{letters_at, letters_or}
 use Rattle.psm_typing.specs.TypingContext.{Each, TypingContext}
 use Rattle.psm_typing.specs.Statements as places
 use Rattle.psm_wellformed.specs.Expressions as well_formed

@@ -44,10 +44,10 @@ use Rattle.psm_resolve.specs.Statements as making
 use Rattle.psm_resolve.specs.Statements.{row_of, set_of, which_in}
 use Rattle.psm_code.specs.Rules.{is_some}
 use Rattle.psm_code.specs.TableRules.{are_there}
-use Rattle.psm_codegen.specs.declared.known.Known.{Known}
-use Rattle.psm_codegen.specs.Queries.{is_set, is_test, item_letters}
+use Rattle.psm_exprgen.specs.declared.known.Known.{Known}
+use Rattle.psm_exprgen.specs.Queries.{is_set, is_test, item_letters}
+use Rattle.psm_exprgen.specs.Written.{letter_at, letters_at}
 use Rattle.psm_codegen.specs.Simples.{letters_of_columns}
-use Rattle.psm_codegen.specs.Written.{letter_at, letters_at}
 use Rattle.psm_typing.specs.Expressions as typed_expr
 use Rattle.psm_typing.specs.Expressions.{AreExprs, IsExpr}
 use Rattle.psm_typing.specs.TypingContext.{Each, TypingContext, columns_of, variables_of}

@@ -18,7 +18,7 @@ use Rattle.psm_tree.specs.declared.expr.Expr.{Expr}
 use Rattle.psm_resolve_expr.specs.declared.resolved.Resolved.{Resolved}
 use Rattle.psm_resolve_expr.specs.Exprs.{resolve_expr}
 use Rattle.psm_resolve_expr.specs.ResolverScope.{ResolverScope}
-use Rattle.psm_codegen.specs.declared.known.Known.{Known}
+use Rattle.psm_exprgen.specs.declared.known.Known.{Known}
 use Rattle.psm_typing.specs.TypingContext.{TypingContext}
 use Rattle.psm_wellformed.specs.Expressions as well_formed
 use Rattle.psm_wellformed.specs.Expressions.{PerhapsWellFormed, WellFormed}

@@ -14,8 +14,8 @@ use Rattle.psm_resolved.specs.declared.expr.ResolvedQuery.{ResolvedQuery, out-Re
 use Rattle.psm_resolved.specs.declared.file.ResolvedTable.{ResolvedTable}
 use Rattle.psm_resolved.specs.RowType.{RowType, Wrong, Untyped, Of, IsOfLetter, goes_as, is_of, row_type_of}
 use Rattle.psm_code.specs.PlanRules.{is_due}
-use Rattle.psm_codegen.specs.Queries.{Layer, are_items, column_letters, is_query, is_test, is_test_perhaps, is_value_of, is_value_perhaps, item_letters, letter_of_item, letter_of_set, letter_of_row_type, letters_of_layer}
-use Rattle.psm_codegen.specs.Written.{letters_at, letters_or}
+use Rattle.psm_exprgen.specs.Queries.{Layer, are_items, column_letters, is_query, is_test, is_test_perhaps, is_value_of, is_value_perhaps, item_letters, letter_of_item, letter_of_set, letter_of_row_type, letters_of_layer}
+use Rattle.psm_exprgen.specs.Written.{letters_at, letters_or}
 use Rattle.psm_wellformed.specs.Queries.{WellFormedQuery, are_well_formed, is_operand, is_set_function, items_of}
 use Rattle.psm_resolve_expr.specs.Exprs.{set_item}
 use Rattle.psm_typing.specs.Queries.{IsRowTest}

@@ -5,7 +5,7 @@ use Rattle.psm_resolved.specs.declared.expr.ResolvedExpr.TheOpen as layers
 use Rattle.psm_resolved.specs.declared.expr.ResolvedExpr.TheVariants as exprs
 use Rattle.psm_code.specs.Rules.{is_some}
 use Rattle.psm_simulation.specs.Expressions.{Layer, is_straight, operands_of}
-use Rattle.psm_codegen.specs.declared.known.Known.{Known}
+use Rattle.psm_exprgen.specs.declared.known.Known.{Known}
 use Rattle.psm_codegen.specs.Files.{known_of}
 use Rattle.psm_wellformed.specs.Expressions as well_formed
 use Rattle.psm_wellformed.specs.Expressions.{AllWellFormed, LayerWellFormed, WellFormed, allows, is_within, takes_null}

@@ -9,8 +9,8 @@ use Rattle.psm_rules.specs.CheckerScope.{CheckerScope}
 use Rattle.psm_tree.specs.declared.expr.Select.{Select}
 use Rattle.psm_resolve_expr.specs.Exprs.{resolve_query}
 use Rattle.psm_resolve_expr.specs.ResolverScope.{ResolverScope}
-use Rattle.psm_codegen.specs.declared.known.Known.{Known}
-use Rattle.psm_codegen.specs.Queries.{item_letters}
+use Rattle.psm_exprgen.specs.declared.known.Known.{Known}
+use Rattle.psm_exprgen.specs.Queries.{item_letters}
 use Rattle.psm_typing.specs.TypingContext.{Each, TypingContext}
 use Rattle.psm_wellformed.specs.Queries.{WellFormedQuery, has_rows, items_of}
 use Rattle.psm_checker_sound.specs.Agreement.{Agree, AllTypeCheck, TypeChecks}

@@ -34,8 +34,8 @@ use Rattle.psm_declare.specs.Seen.{expr_at}
 use Rattle.psm_symbols.specs.Columns as placing
 use Rattle.psm_resolve.specs.Statements as making
 use Rattle.psm_resolve.specs.Statements.{call_of, diagnostics_of, rows_of, simple_of, slots_of}
-use Rattle.psm_codegen.specs.declared.known.Known.{Known}
-use Rattle.psm_codegen.specs.Queries.{item_letters}
+use Rattle.psm_exprgen.specs.declared.known.Known.{Known}
+use Rattle.psm_exprgen.specs.Queries.{item_letters}
 use Rattle.psm_code.specs.Instructions.{condition_letter, statement_letter}
 use Rattle.psm_typing.specs.TypingContext.{Each, TypingContext}
 use Rattle.psm_typing.specs.Statements as places

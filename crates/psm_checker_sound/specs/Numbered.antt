@@ -14,9 +14,9 @@ use Rattle.psm_resolved.specs.declared.statement.ResolvedStatement.TheOpen.{Reso
 use Rattle.psm_resolved.specs.declared.statement.ResolvedStatement.TheOpen as layers
 use Rattle.psm_resolve_expr.specs.ResolverScope.{Scopes}
 use Rattle.psm_declare.specs.Numbering.{Numbering}
-use Rattle.psm_codegen.specs.declared.known.Known.{Known}
-use Rattle.psm_codegen.specs.Queries.{item_letters}
-use Rattle.psm_codegen.specs.Writing.{BeginsWith}
+use Rattle.psm_exprgen.specs.declared.known.Known.{Known}
+use Rattle.psm_exprgen.specs.Queries.{item_letters}
+use Rattle.psm_exprgen.specs.Writing.{BeginsWith}
 use Rattle.psm_typing.specs.TypingContext.{TypingContext}
 use Rattle.psm_wellformed.specs.Statements.{Letters}
 

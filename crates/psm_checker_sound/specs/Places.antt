@@ -13,9 +13,9 @@ use Rattle.psm_resolve_expr.specs.ResolverScope.{ResolverScope, table_at}
 use Rattle.psm_resolve.specs.Blocks.{level_at}
 use Rattle.psm_meaning.specs.Rows.{query_of}
 use Rattle.psm_code.specs.RoutineRules.{is_condition}
-use Rattle.psm_codegen.specs.declared.known.Known.{Known}
+use Rattle.psm_exprgen.specs.declared.known.Known.{Known}
+use Rattle.psm_exprgen.specs.Queries.{item_letters}
 use Rattle.psm_codegen.specs.Files.{known_of}
-use Rattle.psm_codegen.specs.Queries.{item_letters}
 use Rattle.psm_typing.specs.TypingContext.{Each, TypingContext}
 use Rattle.psm_typing.specs.Statements as places
 use Rattle.psm_wellformed.specs.Statements.{Letters}

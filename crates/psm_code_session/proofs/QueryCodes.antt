@@ -17,11 +17,11 @@ use Rattle.psm_resolved.specs.declared.expr.ResolvedItem.{ResolvedItem, out-Reso
 use Rattle.psm_resolved.specs.declared.expr.ResolvedItems.{out-ResolvedItems}
 use Rattle.psm_resolved.specs.declared.expr.ResolvedQuery.{ResolvedQuery, out-ResolvedQuery}
 use Rattle.psm_resolved.specs.RowType.{goes_as, row_type_of}
-use Rattle.psm_codegen.specs.declared.known.Known.{Known}
-use Rattle.psm_codegen.specs.Nulls.{null_lines}
-use Rattle.psm_codegen.specs.Queries.{AggregatesAre, AggregatesFit, ExprFits, ExprIs, ExprsAre, ExprsFit, FitsAs, ItemsAre, ItemsFit, Layer, OperandFits, PerhapsIs, QueryMade, RowTestFits, are_items, is_test_perhaps, is_value_of, is_value_perhaps, letter_of_row_type}
-use Rattle.psm_codegen.specs.Written.{letters_at}
-use Rattle.psm_codegen.proofs.ExprLetters.{null_fits, test_goes, value_goes}
+use Rattle.psm_exprgen.specs.declared.known.Known.{Known}
+use Rattle.psm_exprgen.specs.Nulls.{null_lines}
+use Rattle.psm_exprgen.specs.Queries.{AggregatesAre, AggregatesFit, ExprFits, ExprIs, ExprsAre, ExprsFit, FitsAs, ItemsAre, ItemsFit, Layer, OperandFits, PerhapsIs, QueryMade, RowTestFits, are_items, is_test_perhaps, is_value_of, is_value_perhaps, letter_of_row_type}
+use Rattle.psm_exprgen.specs.Written.{letters_at}
+use Rattle.psm_exprgen.proofs.ExprLetters.{null_fits, test_goes, value_goes}
 use Rattle.psm_code_session.proofs.RowLines.{row_code_exists}
 
 module _ (columns variables : List Letter) where

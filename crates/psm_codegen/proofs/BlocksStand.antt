@@ -17,12 +17,12 @@ use Rattle.psm_simulation.specs.Cursors.{IsCursor}
 use Rattle.psm_simulation.specs.Env.{Apart, Env, InBlock, InLoop, Numbers, OverRows, Visible, are, for_block, in_action, inside_block, inside_loop, over_rows}
 use Rattle.psm_simulation.specs.Env.{with_cursor as with_its_cursor}
 use Rattle.psm_simulation.specs.Scheme.{Asks, GoesTo, IsBlockOf, IsForOf, IsHandler, Shares, with_handlers}
+use Rattle.psm_exprgen.specs.declared.known.Known.{Known}
+use Rattle.psm_exprgen.specs.Queries.{cursor_of}
 use Rattle.psm_codegen.specs.declared.enclosing.EnclosingBlock.{EnclosingBlock}
 use Rattle.psm_codegen.specs.declared.enclosing.EnclosingBlock.TheVariants.{Block as WithinBlock, Loop, Rows}
-use Rattle.psm_codegen.specs.declared.known.Known.{Known}
 use Rattle.psm_codegen.specs.Files.{known_of}
 use Rattle.psm_codegen.specs.FunctionBuilder.{FunctionBuilder, at, block_entered, next_context, with_handler}
-use Rattle.psm_codegen.specs.Queries.{cursor_of}
 use Rattle.psm_codegen.specs.Standing.{CountsUp, CursorsFit, IsNewLevel, HasSome, BlockScope, in_block, in_for, is_among, numbers_of}
 use Rattle.psm_codegen.specs.Standing as standing
 use Rattle.psm_codegen.specs.Statements.{WritesCursors, WritesHandlers, passed, with_cursor}

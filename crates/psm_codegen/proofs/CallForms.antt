@@ -11,10 +11,10 @@ use Rattle.psm_resolved.specs.declared.statement.ResolvedArgument.{ResolvedArgum
 use Rattle.psm_resolved.specs.declared.statement.ResolvedArgument.TheVariants as call
 use Rattle.psm_resolved.specs.declared.statement.ResolvedDeclaration.{ResolvedDeclaration}
 use Rattle.psm_code.specs.declared.instruction.Instruction.{Instruction}
-use Rattle.psm_codegen.specs.declared.known.Known.{Known}
-use Rattle.psm_codegen.specs.Exprs.{Arguments, Writes}
+use Rattle.psm_exprgen.specs.declared.known.Known.{Known}
+use Rattle.psm_exprgen.specs.Exprs.{Arguments, Writes}
+use Rattle.psm_exprgen.specs.Written.{Written, applied, letter_at, takes}
 use Rattle.psm_codegen.specs.Simples.{CallArguments, in_argument, out_argument, inout_argument, Declares, declaration, Default, default, no_default, Signals, message, no_message, WritesRows, row, copied, letter_of_slots}
-use Rattle.psm_codegen.specs.Written.{Written, applied, letter_at, takes}
 
 -- what is written goes on, where the other thing is known
 pub ok_as : {P Q : Type 0} (r : Result (Unit {0}) AllocError) → (P → Q) → IfOk r (λ _. P) → IfOk r (λ _. Q)

@@ -9,9 +9,9 @@ use Rattle.psm_exprcode.specs.declared.op.Line.{Line}
 use Rattle.psm_exprcode.specs.declared.set_item.SetItem.{SetItem}
 use Rattle.psm_resolved.specs.declared.expr.ResolvedExpr.{ResolvedExpr}
 use Rattle.psm_resolved.specs.declared.statement.ResolvedSet.{ResolvedSet}
-use Rattle.psm_codegen.specs.declared.known.Known.{Known}
-use Rattle.psm_codegen.specs.Queries.{ExprIs, FitsAs, SetsAre, SetsMade, SourcesFit, TestMade, is_set, is_test}
-use Rattle.psm_codegen.specs.Written.{letters_at}
+use Rattle.psm_exprgen.specs.declared.known.Known.{Known}
+use Rattle.psm_exprgen.specs.Queries.{ExprIs, FitsAs, SetsAre, SetsMade, SourcesFit, TestMade, is_set, is_test}
+use Rattle.psm_exprgen.specs.Written.{letters_at}
 
 pub test_made : (known : Known) (table : ℕ) (e : ResolvedExpr) (columns variables : List Letter) (res : Result (List Line) AllocError) → columns ≡ letters_at known.columns table → variables ≡ known.variables
     → IfOk res (λ code. is_test columns variables e ≡ true → ExprIs e code) → IfOk res (λ code. FitsAs columns variables B code) → IfOk res (λ code. TestMade known table (Some e) (Some code))

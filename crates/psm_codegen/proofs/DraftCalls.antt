@@ -9,14 +9,15 @@ use Rattle.psm_resolved.specs.declared.statement.ResolvedArgument.{ResolvedArgum
 use Rattle.psm_resolved.specs.declared.statement.ResolvedArgument.TheVariants as call
 use Rattle.psm_resolved.specs.declared.statement.ResolvedDeclaration.{ResolvedDeclaration}
 use Rattle.psm_code.specs.declared.instruction.Instruction.{Instruction}
-use Rattle.psm_codegen.specs.declared.known.Known.{Known}
-use Rattle.psm_codegen.specs.Exprs.{Writes}
-use Rattle.psm_codegen.specs.Labels.{Drafted, patched_instruction}
+use Rattle.psm_exprgen.specs.declared.known.Known.{Known}
+use Rattle.psm_exprgen.specs.Exprs.{Writes}
+use Rattle.psm_exprgen.specs.Labels.{Drafted, patched_instruction}
+use Rattle.psm_exprgen.specs.Written.{Written, applied, letter_at, takes}
+use Rattle.psm_exprgen.proofs.DraftSteps.{applied_drafted, here_drafted, takes_drafted}
+use Rattle.psm_exprgen.proofs.Drafts.{one, two}
 use Rattle.psm_codegen.specs.Simples.{CallArguments, Declares, Default, Signals, copied, letter_of_slots}
-use Rattle.psm_codegen.specs.Written.{Written, applied, letter_at, takes}
 use Rattle.psm_codegen.proofs.CallForms.{declaration_written, default_null, inout_written, out_written, signals_with, signals_without}
-use Rattle.psm_codegen.proofs.DraftSteps.{applied_drafted, copied_drafted, here_drafted, takes_drafted}
-use Rattle.psm_codegen.proofs.Drafts.{one, two}
+use Rattle.psm_codegen.proofs.DraftSteps.{copied_drafted}
 
 module _ {known : Known} {context resume : ℕ} where
   -- an argument, and those after it

@@ -1,9 +1,9 @@
 -- What is written with labels for a list, one after another. W is what is written of the rest of the list, G what is said of all.
 use Rattle.std.proofs.Common.{◌≡◌, ◌<◌, ◌≤◌, ◌+◌, ℕ, List, [], ◌∷◌, length, drop, get_or, Option, refl, sym, subst}
 use Rattle.std.proofs.lemmas.List.{drop_all}
-use Rattle.psm_codegen.specs.Labels.{Draft}
+use Rattle.psm_exprgen.specs.Labels.{Draft}
+use Rattle.psm_exprgen.proofs.Drafts.{begins-same, one, two}
 use Rattle.psm_codegen.proofs.Dropping.{left_next}
-use Rattle.psm_codegen.proofs.Drafts.{begins-same, one, two}
 
 -- with what is written of the rest, all is written
 abbrev pub Left : {S A : Type 0} → ((ℕ → ℕ) → List A → S → S → Type 0) → ((ℕ → ℕ) → S → S → Type 0) → List A → (ℕ → ℕ) → S → S → Type 0

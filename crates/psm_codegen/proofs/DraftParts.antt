@@ -13,17 +13,19 @@ use Rattle.psm_resolved.specs.declared.statement.ResolvedHandler.{ResolvedHandle
 use Rattle.psm_code.specs.declared.code.Plan.{Plan}
 use Rattle.psm_code.specs.declared.instruction.Instruction.{Instruction}
 use Rattle.psm_code.specs.declared.instruction.Instruction.TheVariants as instruction
-use Rattle.psm_codegen.specs.declared.known.Known.{Known}
+use Rattle.psm_exprgen.specs.declared.known.Known.{Known}
+use Rattle.psm_exprgen.specs.Labels.{Drafted, patched, patched_instruction}
+use Rattle.psm_exprgen.specs.Writing.{BeginsWith}
+use Rattle.psm_exprgen.specs.Written.{Written, bound, letters_at, plain, puts, with_label}
+use Rattle.psm_exprgen.proofs.Drafts.{begins-same, one, placed, scope, step}
+use Rattle.psm_exprgen.proofs.Patches.{here-patched, patched-plain, patched-puts}
 use Rattle.psm_codegen.specs.FunctionBuilder.{FunctionBuilder, at, block_entered, next_context, several_values, with_code, with_handler, with_plain}
-use Rattle.psm_codegen.specs.Labels.{Drafted, DraftedParts, patched, patched_context, patched_instruction, patched_parts}
+use Rattle.psm_codegen.specs.Labels.{DraftedParts, patched_context, patched_parts}
 use Rattle.psm_codegen.specs.Simples.{changed, stored}
 use Rattle.psm_codegen.specs.Statements.{WritesCursors, fetched, passed}
 use Rattle.psm_codegen.specs.Statements as written
-use Rattle.psm_codegen.specs.Writing.{BeginsWith}
-use Rattle.psm_codegen.specs.Written.{Written, bound, letters_at, plain, puts, with_label}
-use Rattle.psm_codegen.proofs.Drafts.{begins-same, one, placed, scope, step}
 use Rattle.psm_codegen.proofs.DraftSteps.{stored_labels}
-use Rattle.psm_codegen.proofs.Patches.{here-patched, patched-plain, patched-puts, patched-stored}
+use Rattle.psm_codegen.proofs.Patches.{patched-stored}
 
 -- nothing is written
 pub here_parts : {R : (ℕ → ℕ) → FunctionBuilder → FunctionBuilder → Type 0} {p : FunctionBuilder} → ((σ : ℕ → ℕ) → R σ (patched_parts σ p) (patched_parts σ p)) → DraftedParts R p p

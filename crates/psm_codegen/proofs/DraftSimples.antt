@@ -23,18 +23,21 @@ use Rattle.psm_code.specs.declared.code.Plan.{Plan}
 use Rattle.psm_code.specs.declared.code.Plan.TheVariants as plans
 use Rattle.psm_code.specs.declared.instruction.Instruction.TheVariants as instruction
 use Rattle.psm_simulation.specs.Scheme.{slots_given}
+use Rattle.psm_exprgen.specs.declared.known.Known.{Known}
+use Rattle.psm_exprgen.specs.Exprs.{Writes}
+use Rattle.psm_exprgen.specs.Labels.{Drafted, patched}
+use Rattle.psm_exprgen.specs.Queries.{QueryMade, item_letters}
+use Rattle.psm_exprgen.specs.Written.{Written, applied, letter_at, letters_at, plain, puts, takes, with_query}
+use Rattle.psm_exprgen.proofs.DraftSteps.{applied_drafted, plain_drafted, puts_drafted, query_drafted, takes_drafted}
+use Rattle.psm_exprgen.proofs.Drafts.{four, one, three, two}
+use Rattle.psm_exprgen.proofs.Patches.{Still}
 use Rattle.psm_codegen.specs.declared.enclosing.EnclosingBlock.{EnclosingBlock}
-use Rattle.psm_codegen.specs.declared.known.Known.{Known}
-use Rattle.psm_codegen.specs.Exprs.{Writes}
 use Rattle.psm_codegen.specs.FunctionBuilder.{FunctionBuilder, iterates, leaves, with_code, with_plain}
-use Rattle.psm_codegen.specs.Labels.{Drafted, DraftedParts, patched, patched_block, patched_parts}
-use Rattle.psm_codegen.specs.Queries.{QueryMade, item_letters}
+use Rattle.psm_codegen.specs.Labels.{DraftedParts, patched_block, patched_parts}
 use Rattle.psm_codegen.specs.Simples.{CallArguments, Deletes, Signals, Updates, WritesAnywhere, WritesRows, WritesSimple, changed, condition_items, condition_number, declared_with, letters_of_columns, number_op, procedure_number, retrieved, statement_items, stored}
-use Rattle.psm_codegen.specs.Written.{Written, applied, letter_at, letters_at, plain, puts, takes, with_query}
 use Rattle.psm_codegen.proofs.DraftParts.{changed_parts, parts_from, plain_parts, puts_parts}
-use Rattle.psm_codegen.proofs.DraftSteps.{applied_drafted, condition_items_drafted, iterates_drafted, leaves_drafted, plain_drafted, puts_drafted, query_drafted, retrieved_drafted, statement_items_drafted, stored_drafted, takes_drafted}
-use Rattle.psm_codegen.proofs.Drafts.{four, one, three, two}
-use Rattle.psm_codegen.proofs.Patches.{Still, still-number}
+use Rattle.psm_codegen.proofs.DraftSteps.{condition_items_drafted, iterates_drafted, leaves_drafted, retrieved_drafted, statement_items_drafted, stored_drafted}
+use Rattle.psm_codegen.proofs.Patches.{still-number}
 use Rattle.psm_codegen.proofs.SimpleForms.{call_written, close_written, condition_read, delete_written, fetch_written, insert_query_written, insert_written, iterate_written, leave_written, open_written, resignal_condition_written, resignal_written, return_written, select_written, set_written, signal_written, statement_read, update_written}
 
 same_labels : {i p : FunctionBuilder} → i ≡ p → i.code.labels ≡ p.code.labels

@@ -13,20 +13,21 @@ use Rattle.psm_resolved.specs.declared.statement.ResolvedFor.{ResolvedFor}
 use Rattle.psm_resolved.specs.declared.statement.ResolvedHandler.{ResolvedHandler, out-ResolvedHandler}
 use Rattle.psm_resolved.specs.declared.statement.ResolvedStatement.{ResolvedStatement}
 use Rattle.psm_resolved.specs.declared.statement.ResolvedStatement.TheOpen as layers
+use Rattle.psm_exprgen.specs.declared.known.Known.{Known}
+use Rattle.psm_exprgen.specs.Exprs.{Writes}
+use Rattle.psm_exprgen.specs.Labels.{Drafted}
+use Rattle.psm_exprgen.specs.Written.{Written, applied, bound, last_letter, takes, taken, with_label}
+use Rattle.psm_exprgen.proofs.Counts.{here-applied, here-takes}
+use Rattle.psm_exprgen.proofs.Drafts.{four, one, six, three, two}
 use Rattle.psm_codegen.specs.declared.enclosing.EnclosingBlock.{EnclosingBlock}
 use Rattle.psm_codegen.specs.declared.enclosing.EnclosingBlock.TheVariants.{Loop, Block, Rows}
-use Rattle.psm_codegen.specs.declared.known.Known.{Known}
-use Rattle.psm_codegen.specs.Exprs.{Writes}
 use Rattle.psm_codegen.specs.FunctionBuilder.{FunctionBuilder, at, block_entered, next_context, with_code, with_handler, with_plain}
-use Rattle.psm_codegen.specs.Labels.{Drafted, DraftedParts, patched_block, patched_context, patched_parts}
+use Rattle.psm_codegen.specs.Labels.{DraftedParts, patched_block, patched_context, patched_parts}
 use Rattle.psm_codegen.specs.Simples.{Declares}
 use Rattle.psm_codegen.specs.Statements as written
 use Rattle.psm_codegen.specs.Statements.{WritesBranches, WritesComparisons, WritesCursors, WritesElse, WritesHandlers, WritesStatement, WritesStatements, fetched, jumped, passed}
 use Rattle.psm_codegen.specs.StatementForms.{WritesForm}
-use Rattle.psm_codegen.specs.Written.{Written, applied, bound, last_letter, takes, taken, with_label}
-use Rattle.psm_codegen.proofs.Counts.{here-applied, here-takes}
 use Rattle.psm_codegen.proofs.DraftParts.{cursors_parts, entered_parts, fetched_parts, handler_parts, parts_alone, passed_parts, placed_parts, plain_parts, puts_parts, scoped_parts}
-use Rattle.psm_codegen.proofs.Drafts.{four, one, six, three, two}
 use Rattle.psm_codegen.proofs.StatementForms.{at-plain, branch_written, compared_written, comparison_written, compound_written, for_written, handler_written, loop_written, repeat_written, while_written}
 
 -- the number of the context that follows has nothing to do with labels

@@ -8,14 +8,14 @@ use Rattle.psm_code.specs.declared.code.RawRoutine.{RawRoutine}
 use Rattle.psm_code.specs.Parts.{slots_of}
 use Rattle.psm_simulation.specs.Env as env_of
 use Rattle.psm_simulation.specs.Simulation.{FileStands, RoutineStands, parameter_of}
+use Rattle.psm_exprgen.specs.Writing.{BeginsWith}
+use Rattle.psm_exprgen.proofs.Growth.{begins-here}
 use Rattle.psm_codegen.specs.Files.{FileWritten, RoutineWritten, RoutinesWritten, known_of, no_parts}
 use Rattle.psm_codegen.specs.FunctionBuilder.{at}
 use Rattle.psm_codegen.specs.Standing.{CanStand, CountsUp, RoutineFits, RoutinesFit, cursors_of, outermost}
-use Rattle.psm_codegen.specs.Writing.{BeginsWith}
 use Rattle.psm_codegen.proofs.Finished.{code-keeps}
 use Rattle.psm_codegen.proofs.Growing.{own_in}
 use Rattle.psm_codegen.proofs.GrowingAll.{grown-statement}
-use Rattle.psm_codegen.proofs.Growth.{begins-here}
 use Rattle.psm_codegen.proofs.Numbering.{counted, counts-to}
 use Rattle.psm_codegen.proofs.Placing.{Space}
 use Rattle.psm_codegen.proofs.Querying.{tables_stand}

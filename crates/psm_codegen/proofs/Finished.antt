@@ -2,10 +2,10 @@
 use Rattle.std.proofs.Common.{◌≡◌, ℕ, Bool, List, [], sym, ◌∙◌, append-nil}
 use Rattle.psm_code.specs.declared.code.RawRoutine.{RawRoutine}
 use Rattle.psm_resolved.specs.declared.file.ResolvedRoutine.{ResolvedRoutine}
-use Rattle.psm_codegen.specs.declared.known.Known.{Known}
+use Rattle.psm_exprgen.specs.declared.known.Known.{Known}
+use Rattle.psm_exprgen.specs.Writing.{BeginsWith}
 use Rattle.psm_codegen.specs.Files.{RoutineWritten}
 use Rattle.psm_codegen.specs.FunctionBuilder.{FunctionBuilder}
-use Rattle.psm_codegen.specs.Writing.{BeginsWith}
 use Rattle.psm_codegen.proofs.Growing.{Grown}
 use Rattle.psm_codegen.proofs.Placing.{Kept, kept-earlier}
 

@@ -17,17 +17,17 @@ use Rattle.psm_code.specs.declared.code.Plan.{Plan}
 use Rattle.psm_code.specs.declared.instruction.Instruction.{Instruction}
 use Rattle.psm_code.specs.declared.instruction.Instruction.TheVariants as instruction
 use Rattle.psm_simulation.specs.Scheme.{slots_given}
+use Rattle.psm_exprgen.specs.declared.known.Known.{Known}
+use Rattle.psm_exprgen.specs.Queries.{item_letters}
+use Rattle.psm_exprgen.specs.Writing.{BeginsWith, Grows}
+use Rattle.psm_exprgen.specs.Written.{Written, applied, letters_at, puts, with_query}
+use Rattle.psm_exprgen.proofs.Growth.{begins-before, begins-here, begins-more, grows-applied, grows-here, grows-on, grows-plain, grows-puts, grows-query, grows-takes, grows-writes}
 use Rattle.psm_codegen.specs.declared.enclosing.EnclosingBlock.{EnclosingBlock}
-use Rattle.psm_codegen.specs.declared.known.Known.{Known}
 use Rattle.psm_codegen.specs.FunctionBuilder.{FunctionBuilder, block_entered, next_context, with_code, with_handler, with_plain}
-use Rattle.psm_codegen.specs.Queries.{item_letters}
 use Rattle.psm_codegen.specs.Simples.{WritesSimple, changed, declared_with, more_operands, number_op, procedure_number}
 use Rattle.psm_codegen.specs.Simples as simple
 use Rattle.psm_codegen.specs.Statements.{WritesCursors, fetched, opened, passed, with_cursor}
 use Rattle.psm_codegen.specs.Statements as written
-use Rattle.psm_codegen.specs.Writing.{BeginsWith, Grows}
-use Rattle.psm_codegen.specs.Written.{Written, applied, letters_at, puts, with_query}
-use Rattle.psm_codegen.proofs.Growth.{begins-before, begins-here, begins-more, grows-applied, grows-here, grows-on, grows-plain, grows-puts, grows-query, grows-takes, grows-writes}
 use Rattle.psm_codegen.proofs.GrowthSimples.{grows-call, grows-condition_items, grows-iterates, grows-leaves, grows-retrieved, grows-rows, grows-signals, grows-statement_items, grows-stored}
 
 -- ---- lists

@@ -7,15 +7,15 @@ use Rattle.psm_resolved.specs.declared.statement.ResolvedBranch.{ResolvedBranch}
 use Rattle.psm_resolved.specs.declared.statement.ResolvedHandler.{ResolvedHandler, out-ResolvedHandler}
 use Rattle.psm_resolved.specs.declared.statement.ResolvedStatement.{ResolvedStatement}
 use Rattle.psm_code.specs.declared.instruction.Instruction.TheVariants as instruction
+use Rattle.psm_exprgen.specs.declared.known.Known.{Known}
+use Rattle.psm_exprgen.specs.Written.{Written, applied, last_letter}
+use Rattle.psm_exprgen.proofs.Growth.{grows-applied, grows-on, grows-taken, grows-takes, grows-writes}
 use Rattle.psm_codegen.specs.declared.enclosing.EnclosingBlock.{EnclosingBlock}
-use Rattle.psm_codegen.specs.declared.known.Known.{Known}
 use Rattle.psm_codegen.specs.FunctionBuilder.{FunctionBuilder, at, block_entered, next_context, with_code}
 use Rattle.psm_codegen.specs.Simples.{Declares}
 use Rattle.psm_codegen.specs.Statements.{WritesBranches, WritesComparisons, WritesCursors, WritesElse, WritesHandlers, WritesStatement, WritesStatements, jumped, opened, passed, unless_true}
 use Rattle.psm_codegen.specs.Statements as written
-use Rattle.psm_codegen.specs.Written.{Written, applied, last_letter}
 use Rattle.psm_codegen.proofs.Growing.{Grown, begins-length, grown-any, grown-block, grown-code, grown-cursors, grown-entered, grown-fetched, grown-handler, grown-here, grown-on, grown-opened, grown-passed, grown-plain, grown-simple, next-entered, no_context}
-use Rattle.psm_codegen.proofs.Growth.{grows-applied, grows-on, grows-taken, grows-takes, grows-writes}
 use Rattle.psm_codegen.proofs.GrowthSimples.{grows-declares}
 
 -- what stands before the list of a block is written

@@ -13,15 +13,15 @@ use Rattle.psm_code.specs.Instructions.{condition_letter, statement_letter}
 use Rattle.psm_resolved.specs.declared.expr.ResolvedExpr.{ResolvedExpr}
 use Rattle.psm_resolved.specs.declared.statement.ResolvedArgument.{ResolvedArgument}
 use Rattle.psm_resolved.specs.declared.statement.ResolvedDeclaration.{ResolvedDeclaration}
+use Rattle.psm_exprgen.specs.declared.known.Known.{Known}
+use Rattle.psm_exprgen.specs.Written.{Written, applied, last_letter, letter_at, plain, puts, takes}
+use Rattle.psm_exprgen.specs.Writing.{Grows}
+use Rattle.psm_exprgen.proofs.Growth.{grows-applied, grows-arguments, grows-here, grows-on, grows-plain, grows-puts, grows-takes, grows-writes}
 use Rattle.psm_codegen.specs.declared.enclosing.EnclosingBlock.{EnclosingBlock}
 use Rattle.psm_codegen.specs.declared.enclosing.EnclosingBlock.TheVariants.{Block, Loop, Rows}
-use Rattle.psm_codegen.specs.declared.known.Known.{Known}
 use Rattle.psm_codegen.specs.FunctionBuilder.{iterates, leaves}
 use Rattle.psm_codegen.specs.Simples.{CallArguments, Declares, Default, Signals, WritesRows, condition_items, copied, item_stored, retrieved, statement_items, stored}
 use Rattle.psm_codegen.specs.Simples as written
-use Rattle.psm_codegen.specs.Written.{Written, applied, last_letter, letter_at, plain, puts, takes}
-use Rattle.psm_codegen.specs.Writing.{Grows}
-use Rattle.psm_codegen.proofs.Growth.{grows-applied, grows-arguments, grows-here, grows-on, grows-plain, grows-puts, grows-takes, grows-writes}
 
 -- ---- operands that go into variables
 

@@ -8,10 +8,10 @@ use Rattle.psm_resolved.specs.declared.statement.ResolvedHandler.{ResolvedHandle
 use Rattle.psm_resolved.specs.declared.statement.ResolvedSimple.{ResolvedSimple}
 use Rattle.psm_resolved.specs.declared.statement.ResolvedStatement.{ResolvedStatement, out-ResolvedStatement}
 use Rattle.psm_resolved.specs.declared.statement.ResolvedStatement.TheFolds.{map-ResolvedStatement, fold-ResolvedBlock, fold-ResolvedBranch, fold-ResolvedHandler, fold_out-ResolvedStatement, fold_out-ResolvedBlock, fold_out-ResolvedBranch, fold_out-ResolvedHandler}
+use Rattle.psm_exprgen.specs.declared.known.Known.{Known}
+use Rattle.psm_exprgen.specs.Queries.{cursor_of}
 use Rattle.psm_codegen.specs.declared.enclosing.EnclosingBlock.{EnclosingBlock}
-use Rattle.psm_codegen.specs.declared.known.Known.{Known}
 use Rattle.psm_codegen.specs.FunctionBuilder.{FunctionBuilder, at, block_entered, next_context}
-use Rattle.psm_codegen.specs.Queries.{cursor_of}
 use Rattle.psm_codegen.specs.Simples.{WritesSimple}
 use Rattle.psm_codegen.specs.Simples as simple
 use Rattle.psm_codegen.specs.Standing.{CountsUp, Layer, block_cursors_layer, branch_cursors_layer, cursors_layer, cursors_of, handler_cursors_layer, numbers_of}

@@ -5,11 +5,11 @@ use Rattle.std.proofs.lemmas.Option.{none-some}
 use Rattle.psm_resolved.specs.declared.file.ResolvedFile.{ResolvedFile}
 use Rattle.psm_resolved.specs.declared.file.ResolvedRoutine.{ResolvedRoutine}
 use Rattle.psm_meaning.specs.Calls.{function_at, procedure_at}
-use Rattle.psm_codegen.specs.declared.known.Known.{Known}
-use Rattle.psm_codegen.specs.Exprs.{function_number}
+use Rattle.psm_exprgen.specs.declared.known.Known.{Known}
+use Rattle.psm_exprgen.specs.Exprs.{function_number}
+use Rattle.psm_exprgen.specs.Written.{number_at}
 use Rattle.psm_codegen.specs.Files.{is_function, known_of, numbers_of, with_number}
 use Rattle.psm_codegen.specs.Simples.{procedure_number}
-use Rattle.psm_codegen.specs.Written.{number_at}
 
 -- each function of the file has its number among all routines
 abbrev pub AreFunctions : ResolvedFile → Known → Type 0

@@ -11,10 +11,10 @@ use Rattle.psm_resolved.specs.declared.expr.ResolvedWhen.{ResolvedWhen, out-Reso
 use Rattle.psm_resolved.specs.declared.file.ResolvedFile.{ResolvedFile}
 use Rattle.psm_resolved.specs.RowValue.{listed}
 use Rattle.psm_simulation.specs.Expressions.{Layer, is_straight, operands_of}
-use Rattle.psm_codegen.specs.declared.known.Known.{Known}
+use Rattle.psm_exprgen.specs.declared.known.Known.{Known}
+use Rattle.psm_exprgen.specs.Queries.{is_query}
 use Rattle.psm_codegen.specs.Outside.{AllOutside, IsThere, LayerOutside, ChainLinksOutside, Outside, PerhapsOutside, WhensOutside}
 use Rattle.psm_codegen.specs.Outside as parts
-use Rattle.psm_codegen.specs.Queries.{is_query}
 
 pub opened : {file : ResolvedFile} {known : Known} {e : ResolvedExpr} {layer : Layer} → Outside file known e → out-ResolvedExpr e ≡ layer → LayerOutside file known layer
 opened {file} {known} (parts.outside o) q = subst (LayerOutside file known) q o

@@ -4,7 +4,7 @@ use Rattle.std.specs.Prelude.{option_map, slice_get}
 use Rattle.psm_code.specs.declared.instruction.Instruction.{Instruction}
 use Rattle.psm_code.specs.declared.lines.CodeLine.{CodeLine}
 use Rattle.psm_code.specs.Numbered.{with_instruction_at, with_resume_at}
-use Rattle.psm_codegen.specs.Labels.{instead, patched_line}
+use Rattle.psm_exprgen.specs.Labels.{instead, patched_line}
 use Rattle.psm_codegen.specs.Patching.{map_from, perhaps_patch, with_patched_instruction, with_patched_resume}
 
 abbrev inside_or : {A : Type 0} → Option A → A → A

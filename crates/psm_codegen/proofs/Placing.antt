@@ -7,11 +7,11 @@ use Rattle.psm_cond.specs.Handlers.{context_at, own_handlers}
 use Rattle.psm_code.specs.declared.code.RawRoutine.{RawRoutine}
 use Rattle.psm_code.specs.declared.instruction.Instruction.{Instruction}
 use Rattle.psm_simulation.specs.Env.{Numbers, Plain, Visible}
+use Rattle.psm_exprgen.specs.Writing.{Begins, BeginsWith}
+use Rattle.psm_exprgen.specs.Written.{Written, here}
+use Rattle.psm_exprgen.proofs.Growth.{begins-before, begins-earlier}
 use Rattle.psm_codegen.specs.FunctionBuilder.{FunctionBuilder}
-use Rattle.psm_codegen.specs.Writing.{Begins, BeginsWith}
-use Rattle.psm_codegen.specs.Written.{Written, here}
 use Rattle.psm_codegen.proofs.Growing.{Grown, begins-length, no_context, own_in}
-use Rattle.psm_codegen.proofs.Growth.{begins-before, begins-earlier}
 use Rattle.psm_codegen.proofs.There.{line_of, there_at}
 
 -- ---- lines

@@ -29,10 +29,10 @@ use Rattle.psm_code.specs.Plans as plans
 use Rattle.psm_simulation.specs.Changes.{IsDelete, IsDeleteAt, IsUpdate, IsUpdateAt, SameTable, TableStands, TablesStand}
 use Rattle.psm_simulation.specs.Cursors.{IsCursor, SameItems}
 use Rattle.psm_simulation.specs.Expressions.{IsQuery}
-use Rattle.psm_codegen.specs.declared.known.Known.{Known}
+use Rattle.psm_exprgen.specs.declared.known.Known.{Known}
+use Rattle.psm_exprgen.specs.Queries.{AggregatesAre, ExprIs, ExprsAre, ItemsAre, Layer, PerhapsIs, QueryIs, QueryMade, SetsAre, SetsMade, TableMade, TablesMade, column_letters, cursor_of, is_query, is_set, is_test}
+use Rattle.psm_exprgen.specs.Written.{letters_at}
 use Rattle.psm_codegen.specs.Outside.{ChecksAreTests}
-use Rattle.psm_codegen.specs.Queries.{AggregatesAre, ExprIs, ExprsAre, ItemsAre, Layer, PerhapsIs, QueryIs, QueryMade, SetsAre, SetsMade, TableMade, TablesMade, column_letters, cursor_of, is_query, is_set, is_test}
-use Rattle.psm_codegen.specs.Written.{letters_at}
 use Rattle.psm_codegen.proofs.Evaluators.{Same, SameAggregates, SameAll, SameOf, SamePerhaps, SameQuery, SameSchema, SameSets, advanced-same, answer-same, deleted-same, deleted_at-same, inserted-same, updated-same, updated_at-same, values-same}
 
 -- ---- over the same variables

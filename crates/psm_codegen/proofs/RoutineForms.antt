@@ -12,13 +12,14 @@ use Rattle.psm_code.specs.declared.instruction.Instruction.{Instruction}
 use Rattle.psm_resolved.specs.declared.file.ResolvedRoutine.{ResolvedRoutine}
 use Rattle.psm_resolved.specs.declared.statement.ResolvedStatement.{ResolvedStatement}
 use Rattle.psm_simulation.specs.Simulation.{last_instruction, parameter_of}
-use Rattle.psm_codegen.specs.declared.known.Known.{Known}
+use Rattle.psm_exprgen.specs.declared.known.Known.{Known}
+use Rattle.psm_exprgen.specs.Labels.{Respects, patched, patched_instruction, patched_line}
+use Rattle.psm_exprgen.specs.Written.{plain}
+use Rattle.psm_exprgen.proofs.Patches.{patched-plain}
 use Rattle.psm_codegen.specs.Files.{RoutineWritten, is_function}
 use Rattle.psm_codegen.specs.FunctionBuilder.{FunctionBuilder, with_plain}
-use Rattle.psm_codegen.specs.Labels.{DraftedParts, Respects, line_of, line_or, patched, patched_context, patched_instruction, patched_line, patched_parts}
+use Rattle.psm_codegen.specs.Labels.{DraftedParts, line_of, line_or, patched_context, patched_parts}
 use Rattle.psm_codegen.specs.Statements.{WritesStatement}
-use Rattle.psm_codegen.specs.Written.{plain}
-use Rattle.psm_codegen.proofs.Patches.{patched-plain}
 
 -- nothing is written yet
 abbrev pub only_declared : List Declared → FunctionBuilder

@@ -16,16 +16,16 @@ use Rattle.psm_simulation.specs.Cursors.{IsCursor}
 use Rattle.psm_simulation.specs.Env.{Env, Numbers, Visible, are, inside_loop}
 use Rattle.psm_simulation.specs.Env as env_of
 use Rattle.psm_simulation.specs.Scheme.{Asks, IsNew, with_handlers}
+use Rattle.psm_exprgen.specs.declared.known.Known.{Known}
+use Rattle.psm_exprgen.specs.Queries.{TablesMade}
+use Rattle.psm_exprgen.specs.Writing.{BeginsWith}
 use Rattle.psm_codegen.specs.declared.enclosing.EnclosingBlock.{EnclosingBlock}
 use Rattle.psm_codegen.specs.declared.enclosing.EnclosingBlock.TheVariants.{Loop, Block as WithinBlock, Rows}
-use Rattle.psm_codegen.specs.declared.known.Known.{Known}
 use Rattle.psm_codegen.specs.Outside.{ChecksAreTests}
 use Rattle.psm_codegen.specs.FunctionBuilder.{FunctionBuilder, at, several_values, with_handler}
-use Rattle.psm_codegen.specs.Queries.{TablesMade}
 use Rattle.psm_codegen.specs.Standing.{CountsUp, BlockScope, in_loop, is_among}
 use Rattle.psm_codegen.specs.Statements.{WritesHandlers}
 use Rattle.psm_codegen.specs.Statements as written
-use Rattle.psm_codegen.specs.Writing.{BeginsWith}
 use Rattle.psm_codegen.proofs.Growing.{begins-length, next-handler, own-more, own_in}
 use Rattle.psm_codegen.proofs.GrowingAll.{grown-statement}
 use Rattle.psm_codegen.proofs.Placing.{AllUpTo}

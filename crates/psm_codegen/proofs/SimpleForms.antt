@@ -24,14 +24,14 @@ use Rattle.psm_code.specs.declared.code.Plan.{Plan}
 use Rattle.psm_code.specs.declared.code.Plan.TheVariants as plans
 use Rattle.psm_code.specs.declared.instruction.Instruction.TheVariants as instruction
 use Rattle.psm_simulation.specs.Scheme.{slots_given}
+use Rattle.psm_exprgen.specs.declared.known.Known.{Known}
+use Rattle.psm_exprgen.specs.Exprs.{Writes}
+use Rattle.psm_exprgen.specs.Queries.{QueryMade, item_letters}
+use Rattle.psm_exprgen.specs.Written.{Written, applied, letter_at, letters_at, plain, puts, takes, with_query}
 use Rattle.psm_codegen.specs.declared.enclosing.EnclosingBlock.{EnclosingBlock}
-use Rattle.psm_codegen.specs.declared.known.Known.{Known}
-use Rattle.psm_codegen.specs.Exprs.{Writes}
 use Rattle.psm_codegen.specs.FunctionBuilder.{FunctionBuilder, iterates, leaves, with_code, with_plain}
-use Rattle.psm_codegen.specs.Queries.{QueryMade, item_letters}
 use Rattle.psm_codegen.specs.Simples as written
 use Rattle.psm_codegen.specs.Simples.{CallArguments, Deletes, Signals, Updates, WritesAnywhere, WritesRows, WritesSimple, changed, condition_items, condition_number, declared_with, letters_of_columns, number_op, procedure_number, retrieved, statement_items, stored}
-use Rattle.psm_codegen.specs.Written.{Written, applied, letter_at, letters_at, plain, puts, takes, with_query}
 
 closes : {known : Known} {context resume : ℕ} {s : ResolvedSimple} {i p q r : FunctionBuilder} → i ≡ p → ((enclosing : List EnclosingBlock) → WritesSimple known context resume enclosing s i r) → q ≡ r → WritesAnywhere known context resume s p q
 closes {known} {context} {resume} {s} {i} {p} {q} {r} h x e enclosing = subst (λ z. WritesSimple known context resume enclosing s p z) (sym e) (subst (λ z. WritesSimple known context resume enclosing s z r) h (x enclosing))

@@ -28,19 +28,19 @@ use Rattle.psm_simulation.specs.Env.{Env, IfElse, Iterates, Leaves, Plain, Raisi
 use Rattle.psm_simulation.specs.Expressions.{Puts}
 use Rattle.psm_simulation.specs.Scheme.{IsDeclared, Simple, number_instruction, slots_given}
 use Rattle.psm_simulation.specs.Scheme as stands
+use Rattle.psm_exprgen.specs.declared.known.Known.{Known}
+use Rattle.psm_exprgen.specs.Queries.{item_letters}
+use Rattle.psm_exprgen.specs.Writing.{Begins, BeginsWith}
+use Rattle.psm_exprgen.specs.Written.{Written, applied, here, letters_at, plain, puts, takes, with_query}
+use Rattle.psm_exprgen.proofs.Counts.{here-applied, here-plain, here-puts, here-takes}
+use Rattle.psm_exprgen.proofs.Growth.{begins-earlier, grows-puts, grows-query, grows-takes, grows-writes}
 use Rattle.psm_codegen.specs.declared.enclosing.EnclosingBlock.{EnclosingBlock}
 use Rattle.psm_codegen.specs.declared.enclosing.EnclosingBlock.TheVariants.{Loop, Block as WithinBlock, Rows}
-use Rattle.psm_codegen.specs.declared.known.Known.{Known}
 use Rattle.psm_codegen.specs.Files.{known_of}
 use Rattle.psm_codegen.specs.FunctionBuilder.{FunctionBuilder, at, iterates, leaves, with_code}
-use Rattle.psm_codegen.specs.Queries.{item_letters}
 use Rattle.psm_codegen.specs.Simples.{CallArguments, Deletes, Signals, Updates, WritesSimple, changed, cleared, condition_number, declared_with, more_operands, number_op, procedure_number, retrieved, stored}
 use Rattle.psm_codegen.specs.Simples as written
 use Rattle.psm_codegen.specs.Standing.{ConditionFits, SetsFit, BlockScope, SignalFits, SimpleFits, WhereFits, is_among, outermost}
-use Rattle.psm_codegen.specs.Writing.{Begins, BeginsWith}
-use Rattle.psm_codegen.specs.Written.{Written, applied, here, letters_at, plain, puts, takes, with_query}
-use Rattle.psm_codegen.proofs.Counts.{here-applied, here-plain, here-puts, here-takes}
-use Rattle.psm_codegen.proofs.Growth.{begins-earlier, grows-puts, grows-query, grows-takes, grows-writes}
 use Rattle.psm_codegen.proofs.GrowthSimples.{grows-call, grows-condition_items, grows-iterates, grows-leaves, grows-retrieved, grows-rows, grows-signals, grows-stored}
 use Rattle.psm_codegen.proofs.Numbers.{known_functions, known_procedures}
 use Rattle.psm_codegen.proofs.Placing.{Kept}

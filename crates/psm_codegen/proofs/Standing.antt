@@ -16,15 +16,15 @@ use Rattle.psm_code.specs.declared.instruction.Instruction.TheVariants as instru
 use Rattle.psm_simulation.specs.Env.{Raising}
 use Rattle.psm_simulation.specs.Expressions.{IsFunction, Puts, PutsAll, Takes, operands_of, operations_of, scaling}
 use Rattle.psm_simulation.specs.Expressions as stands
-use Rattle.psm_codegen.specs.declared.known.Known.{Known}
-use Rattle.psm_codegen.specs.Exprs.{Arguments, Compares, Firsts, Joins, ChainLinks, Otherwise, Whens, Writes, WritesAll, function_number, straight_letter}
-use Rattle.psm_codegen.specs.Exprs as written
+use Rattle.psm_exprgen.specs.declared.known.Known.{Known}
+use Rattle.psm_exprgen.specs.Exprs.{Arguments, Compares, Firsts, Joins, ChainLinks, Otherwise, Whens, Writes, WritesAll, function_number, straight_letter}
+use Rattle.psm_exprgen.specs.Exprs as written
+use Rattle.psm_exprgen.specs.Queries.{item_letters}
+use Rattle.psm_exprgen.specs.Written.{Written, applied, here, last_letter, letter_at, taken, with_query}
+use Rattle.psm_exprgen.specs.Writing.{Begins}
+use Rattle.psm_exprgen.proofs.Counts.{here-applied, here-puts, here-taken}
+use Rattle.psm_exprgen.proofs.Growth.{begins-earlier, grows-all, grows-all_applied, grows-applied, grows-arguments, grows-compares, grows-firsts, grows-joins, grows-chain_links, grows-otherwise, grows-puts, grows-taken, grows-whens, grows-writes}
 use Rattle.psm_codegen.specs.Outside.{AllOutside, IsThere, ChainLinksOutside, Outside, PerhapsOutside, WhensOutside}
-use Rattle.psm_codegen.specs.Queries.{item_letters}
-use Rattle.psm_codegen.specs.Written.{Written, applied, here, last_letter, letter_at, taken, with_query}
-use Rattle.psm_codegen.specs.Writing.{Begins}
-use Rattle.psm_codegen.proofs.Counts.{here-applied, here-puts, here-taken}
-use Rattle.psm_codegen.proofs.Growth.{begins-earlier, grows-all, grows-all_applied, grows-applied, grows-arguments, grows-compares, grows-firsts, grows-joins, grows-chain_links, grows-otherwise, grows-puts, grows-taken, grows-whens, grows-writes}
 use Rattle.psm_codegen.proofs.Numbers.{AreFunctions}
 use Rattle.psm_codegen.proofs.Outsides.{of_call, of_case, of_operator_chain, of_coalesce, of_column, of_exists, of_first, of_logical_operator, of_just, of_chain_link, of_rest, of_scalar, of_straight, of_when, opened}
 use Rattle.psm_codegen.proofs.Querying.{query_stands}

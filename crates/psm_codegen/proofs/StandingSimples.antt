@@ -21,14 +21,14 @@ use Rattle.psm_meaning.specs.Calls.{procedure_at}
 use Rattle.psm_simulation.specs.Changes.{PutsRows}
 use Rattle.psm_simulation.specs.Env.{Raising}
 use Rattle.psm_simulation.specs.Scheme as stands
-use Rattle.psm_codegen.specs.declared.known.Known.{Known}
+use Rattle.psm_exprgen.specs.declared.known.Known.{Known}
+use Rattle.psm_exprgen.specs.Written.{Written, applied, here, last_letter, letter_at, puts, takes}
+use Rattle.psm_exprgen.specs.Writing.{Begins}
+use Rattle.psm_exprgen.proofs.Counts.{here-applied, here-puts, here-takes}
+use Rattle.psm_exprgen.proofs.Growth.{begins-earlier, grows-takes}
 use Rattle.psm_codegen.specs.Outside.{ArgumentsOutside, DefaultsOutside, PerhapsOutside, RowsOutside}
 use Rattle.psm_codegen.specs.Simples.{CallArguments, Declares, Default, Signals, WritesRows, condition_items, copied, item_stored, procedure_number, statement_items, stored}
 use Rattle.psm_codegen.specs.Simples as written
-use Rattle.psm_codegen.specs.Written.{Written, applied, here, last_letter, letter_at, puts, takes}
-use Rattle.psm_codegen.specs.Writing.{Begins}
-use Rattle.psm_codegen.proofs.Counts.{here-applied, here-puts, here-takes}
-use Rattle.psm_codegen.proofs.Growth.{begins-earlier, grows-takes}
 use Rattle.psm_codegen.proofs.GrowthSimples.{grows-call, grows-condition_items, grows-copied, grows-declares, grows-item_stored, grows-rows, grows-statement_items, grows-stored}
 use Rattle.psm_codegen.proofs.Numbers.{AreFunctions, AreProcedures}
 use Rattle.psm_codegen.proofs.Outsides.{of_just}

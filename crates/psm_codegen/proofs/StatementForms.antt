@@ -15,21 +15,21 @@ use Rattle.psm_resolved.specs.declared.statement.ResolvedHandler.{ResolvedHandle
 use Rattle.psm_resolved.specs.declared.statement.ResolvedSimple.{ResolvedSimple}
 use Rattle.psm_resolved.specs.declared.statement.ResolvedStatement.{ResolvedStatement}
 use Rattle.psm_resolved.specs.declared.statement.ResolvedStatement.TheOpen as layers
+use Rattle.psm_exprgen.specs.declared.known.Known.{Known}
+use Rattle.psm_exprgen.specs.Exprs.{Writes}
+use Rattle.psm_exprgen.specs.Queries.{QueryMade}
 use Rattle.psm_codegen.specs.declared.enclosing.EnclosingBlock.{EnclosingBlock}
 use Rattle.psm_codegen.specs.declared.enclosing.EnclosingBlock.TheVariants.{Loop, Block, Rows}
-use Rattle.psm_codegen.specs.declared.known.Known.{Known}
-use Rattle.psm_codegen.specs.Exprs.{Writes}
 use Rattle.psm_codegen.specs.FunctionBuilder.{FunctionBuilder, at, block_entered, next_context, with_code, with_handler, with_plain}
 use Rattle.psm_codegen.specs.Labels.{DraftedParts, patched_block}
 use Rattle.psm_codegen.specs.Simples.{Declares, WritesSimple}
 use Rattle.psm_codegen.specs.Statements as written
 use Rattle.psm_codegen.specs.Statements.{WritesBranches, WritesComparisons, WritesCursors, WritesElse, WritesHandlers, WritesStatement, WritesStatements, fetched, jumped, opened, passed, unless_true, with_cursor}
-use Rattle.psm_codegen.specs.Queries.{QueryMade}
 use Rattle.psm_exprcode.specs.declared.query.Query.{Query}
 use Rattle.psm_resolved.specs.declared.expr.ResolvedQuery.{ResolvedQuery}
+use Rattle.psm_exprgen.specs.Written.{applied, last_letter, takes, taken}
+use Rattle.psm_exprgen.proofs.Counts.{here-plain, here-taken, here-takes}
 use Rattle.psm_codegen.specs.StatementForms.{WritesForm}
-use Rattle.psm_codegen.specs.Written.{applied, last_letter, takes, taken}
-use Rattle.psm_codegen.proofs.Counts.{here-plain, here-taken, here-takes}
 
 pub at-plain : (context : ℕ) (i : Instruction) (p : FunctionBuilder) → at (with_plain context i p) ≡ suc (at p)
 at-plain context i p = here-plain context i p.code

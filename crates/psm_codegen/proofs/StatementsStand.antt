@@ -22,22 +22,21 @@ use Rattle.psm_simulation.specs.Env as env_of
 use Rattle.psm_simulation.specs.Expressions.{Puts}
 use Rattle.psm_simulation.specs.Scheme.{Branches, Compares, GoesTo, Handles, IsForOf, Otherwise, StandAll, Stands}
 use Rattle.psm_simulation.specs.Scheme as stands
+use Rattle.psm_exprgen.specs.Exprs.{Writes}
+use Rattle.psm_exprgen.specs.Writing.{Begins}
+use Rattle.psm_exprgen.specs.Written.{Written, applied, here, last_letter, letters_at, taken, takes, puts as puts_of}
+use Rattle.psm_exprgen.proofs.Counts.{here-applied, here-plain, here-puts, here-taken, here-takes}
+use Rattle.psm_exprgen.proofs.Growth.{begins-earlier, grows-applied, grows-on, grows-plain, grows-puts, grows-taken, grows-writes}
 use Rattle.psm_codegen.specs.declared.enclosing.EnclosingBlock.{EnclosingBlock}
-use Rattle.psm_codegen.specs.Exprs.{Writes}
 use Rattle.psm_codegen.specs.Files.{known_of}
 use Rattle.psm_codegen.specs.FunctionBuilder.{FunctionBuilder, at, block_entered, next_context, with_code, with_plain}
 use Rattle.psm_codegen.specs.Standing.{AllFit, BranchesFit, CountsUp, Fits, HandlersFit, BlockScope, StandsOutside, cursors_of, in_action, numbers_of}
 use Rattle.psm_codegen.specs.Statements.{WritesBranches, WritesComparisons, WritesCursors, WritesElse, WritesHandlers, WritesStatement, WritesStatements, fetched, jumped, opened, unless_true}
 use Rattle.psm_codegen.specs.Statements as written
-use Rattle.psm_codegen.specs.Writing.{Begins}
-use Rattle.psm_codegen.specs.Written.{Written, applied, here, last_letter, letters_at, taken, takes}
-use Rattle.psm_codegen.specs.Written.{puts as puts_of}
 use Rattle.psm_codegen.proofs.BlocksStand.{Entered, block-entered, block-is, code_of_block, cursors-at, cursors-stand, entered_block, for-is, for-searches, goes-to, handler-is, seen-action, seen-block, seen-for, space-at, space-in, space-with, the_block}
-use Rattle.psm_codegen.proofs.Counts.{here-applied, here-plain, here-puts, here-taken, here-takes}
 use Rattle.psm_codegen.proofs.Fitting.{fits-as, of_branch, of_case, of_compound, of_for, of_handler, of_if, of_loop, of_more, of_repeat, of_simple, of_while}
 use Rattle.psm_codegen.proofs.Growing.{Grown, begins-length, grown-any, grown-code, grown-cursors, grown-entered, grown-fetched, grown-handler, grown-here, grown-on, grown-opened, grown-passed, grown-plain, next-entered, next-handler, no_context}
 use Rattle.psm_codegen.proofs.GrowingAll.{before-list, grown-all, grown-branches, grown-comparisons, grown-else, grown-handlers, grown-statement, high-context, low-context}
-use Rattle.psm_codegen.proofs.Growth.{begins-earlier, grows-applied, grows-on, grows-plain, grows-puts, grows-taken, grows-writes}
 use Rattle.psm_codegen.proofs.GrowthSimples.{grows-declares, grows-stored}
 use Rattle.psm_codegen.proofs.Numbering.{block_cursors-out, branch_cursors-out, counted, counted-all, counted-branches, counted-comparisons, counted-cursors, counted-handlers, counts-split, cursors-out, cursors_in, cursors_in_branches, cursors_in_handlers, cursors_of_branch, cursors_of_handler, handler_cursors-out, passed-cursors}
 use Rattle.psm_codegen.proofs.Numbers.{known_functions}

@@ -9,10 +9,10 @@ use Rattle.psm_code.specs.declared.instruction.Instruction.{Instruction}
 use Rattle.psm_code.specs.declared.lines.CodeLine.{CodeLine}
 use Rattle.psm_simulation.specs.Env.{Plain, Raising}
 use Rattle.psm_simulation.specs.Expressions.{Operations}
-use Rattle.psm_codegen.specs.Written.{Written, all_applied, applied, here}
-use Rattle.psm_codegen.specs.Writing.{Begins, BeginsWith}
-use Rattle.psm_codegen.proofs.Counts.{here-applied}
-use Rattle.psm_codegen.proofs.Growth.{begins-earlier, grows-all_applied}
+use Rattle.psm_exprgen.specs.Written.{Written, all_applied, applied, here}
+use Rattle.psm_exprgen.specs.Writing.{Begins, BeginsWith}
+use Rattle.psm_exprgen.proofs.Counts.{here-applied}
+use Rattle.psm_exprgen.proofs.Growth.{begins-earlier, grows-all_applied}
 
 following : {A : Type 0} (xs : List A) (x : A) (more : List A) → slice_get (xs ++ x ∷ more) (length xs) ≡ Some x
 following [] x more = refl

@@ -6,9 +6,9 @@ use Rattle.psm_resolved.specs.declared.file.ParameterMode.{ParameterMode}
 use Rattle.psm_resolved.specs.declared.file.ResolvedFile.{ResolvedFile}
 use Rattle.psm_resolved.specs.declared.file.ResolvedRoutine.{ResolvedRoutine}
 use Rattle.psm_simulation.specs.Expressions.{wants}
-use Rattle.psm_codegen.specs.declared.known.Known.{Known}
+use Rattle.psm_exprgen.specs.declared.known.Known.{Known}
+use Rattle.psm_exprgen.specs.Queries.{column_letters}
 use Rattle.psm_codegen.specs.Files.{gives_back, is_function, letter_of_result, letters_of, numbers_of}
-use Rattle.psm_codegen.specs.Queries.{column_letters}
 
 -- whether it is a function, or a procedure
 abbrev pub is_kind : Bool → ResolvedRoutine → Bool

@@ -14,9 +14,9 @@ use Rattle.psm_code.specs.declared.code.RawCode.{RawCode}
 use Rattle.psm_code.specs.declared.code.RawRoutine.{RawRoutine}
 use Rattle.psm_simulation.specs.Expressions.{wants}
 use Rattle.psm_simulation.specs.Simulation.{last_instruction, parameter_of}
-use Rattle.psm_codegen.specs.declared.known.Known.{Known}
+use Rattle.psm_exprgen.specs.declared.known.Known.{Known}
+use Rattle.psm_exprgen.specs.Queries.{TablesMade, column_letters}
 use Rattle.psm_codegen.specs.FunctionBuilder.{FunctionBuilder, with_plain}
-use Rattle.psm_codegen.specs.Queries.{TablesMade, column_letters}
 use Rattle.psm_codegen.specs.Statements.{WritesStatement}
 
 -- ---- what is known before lines are written

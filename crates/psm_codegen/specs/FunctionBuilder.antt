@@ -14,9 +14,9 @@ use Rattle.psm_code.specs.declared.code.CodeCursor.{CodeCursor}
 use Rattle.psm_code.specs.declared.code.Plan.{Plan}
 use Rattle.psm_code.specs.declared.instruction.Instruction.{Instruction}
 use Rattle.psm_code.specs.declared.instruction.Instruction.TheVariants as instruction
+use Rattle.psm_exprgen.specs.Written.{Written, here, plain}
 use Rattle.psm_codegen.specs.declared.enclosing.EnclosingBlock.{EnclosingBlock}
 use Rattle.psm_codegen.specs.declared.enclosing.EnclosingBlock.TheVariants.{Loop, Block as WithinBlock, Rows}
-use Rattle.psm_codegen.specs.Written.{Written, here, plain}
 
 -- the lines and queries so far, all else that a routine has, and the letters of the items of each cursor
 pub record FunctionBuilder : Type 0 where

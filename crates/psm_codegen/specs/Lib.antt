@@ -1,9 +1,3 @@
-pub mod Written
-pub mod Queries
-pub mod Seen
-pub mod Nulls
-pub mod Exprs
-pub mod Writing
 pub mod Outside
 pub mod FunctionBuilder
 pub mod Labels

@@ -18,8 +18,8 @@ use Rattle.psm_resolved.specs.declared.statement.ResolvedDeclaration.{ResolvedDe
 use Rattle.psm_resolved.specs.RowValue.{listed}
 use Rattle.psm_meaning.specs.Calls.{function_at}
 use Rattle.psm_simulation.specs.Expressions.{Layer, is_straight, operands_of, wants}
-use Rattle.psm_codegen.specs.declared.known.Known.{Known}
-use Rattle.psm_codegen.specs.Queries.{column_letters, is_query, is_test}
+use Rattle.psm_exprgen.specs.declared.known.Known.{Known}
+use Rattle.psm_exprgen.specs.Queries.{column_letters, is_query, is_test}
 
 -- a function of the file, which takes n arguments
 pub record IsThere (file : ResolvedFile) (function count : ℕ) : Type 0 where

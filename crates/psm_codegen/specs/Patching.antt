@@ -2,7 +2,7 @@
 use Rattle.std.specs.Prelude.{ℕ, zero, suc, List, [], ◌∷◌, map, Option, Some, None, option_map}
 use Rattle.psm_code.specs.declared.instruction.Instruction.{Instruction}
 use Rattle.psm_code.specs.declared.lines.CodeLine.{CodeLine}
-use Rattle.psm_codegen.specs.Labels.{patch_of, patched_instruction}
+use Rattle.psm_exprgen.specs.Labels.{patch_of, patched_instruction}
 
 -- what stands in place of an instruction that names a label, if there is one
 abbrev pub perhaps_patch : (ℕ → ℕ) → Option Instruction → Option Instruction

@@ -37,12 +37,12 @@ use Rattle.psm_code.specs.declared.instruction.Instruction.TheVariants as instru
 use Rattle.psm_code.specs.Instructions.{condition_letter, statement_letter}
 use Rattle.psm_simulation.specs.Scheme.{slots_given}
 use Rattle.psm_resolved.specs.declared.expr.ResolvedQuery.{ResolvedQuery}
+use Rattle.psm_exprgen.specs.declared.known.Known.{Known}
+use Rattle.psm_exprgen.specs.Exprs.{Arguments, Writes}
+use Rattle.psm_exprgen.specs.Queries.{QueryMade, SetsMade, TestMade, item_letters}
+use Rattle.psm_exprgen.specs.Written.{Written, applied, last_letter, letter_at, letters_at, number_at, plain, puts, takes, with_query}
 use Rattle.psm_codegen.specs.declared.enclosing.EnclosingBlock.{EnclosingBlock}
-use Rattle.psm_codegen.specs.declared.known.Known.{Known}
-use Rattle.psm_codegen.specs.Exprs.{Arguments, Writes}
 use Rattle.psm_codegen.specs.FunctionBuilder.{FunctionBuilder, iterates, leaves, with_code}
-use Rattle.psm_codegen.specs.Queries.{QueryMade, SetsMade, TestMade, item_letters}
-use Rattle.psm_codegen.specs.Written.{Written, applied, last_letter, letter_at, letters_at, number_at, plain, puts, takes, with_query}
 
 -- ---- operands that go into variables
 

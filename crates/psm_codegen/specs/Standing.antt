@@ -32,10 +32,10 @@ use Rattle.psm_meaning.specs.Calls.{procedure_at}
 use Rattle.psm_code.specs.RoutineRules.{is_undo}
 use Rattle.psm_simulation.specs.Changes.{IsOver}
 use Rattle.psm_simulation.specs.Scheme.{AreFor}
+use Rattle.psm_exprgen.specs.Queries.{is_query, is_set, is_test_perhaps}
+use Rattle.psm_exprgen.specs.Written.{letters_at}
 use Rattle.psm_codegen.specs.Files.{known_of}
 use Rattle.psm_codegen.specs.Outside.{ArgumentsOutside, ChecksAreTests, DefaultsOutside, Outside, PerhapsOutside, RowsOutside}
-use Rattle.psm_codegen.specs.Queries.{is_query, is_set, is_test_perhaps}
-use Rattle.psm_codegen.specs.Written.{letters_at}
 
 -- ---- the numbers of cursors, in the order of their declarations: a block's own, those in the actions of its handlers, and those in
 -- its statements

@@ -5,8 +5,8 @@ use Rattle.psm_resolved.specs.declared.statement.ResolvedBranch.{ResolvedBranch}
 use Rattle.psm_resolved.specs.declared.statement.ResolvedHandler.{ResolvedHandler}
 use Rattle.psm_resolved.specs.declared.statement.ResolvedStatement.{ResolvedStatement, out-ResolvedStatement}
 use Rattle.psm_resolved.specs.declared.statement.ResolvedStatement.TheOpen.{ResolvedStatement-F}
+use Rattle.psm_exprgen.specs.declared.known.Known.{Known}
 use Rattle.psm_codegen.specs.declared.enclosing.EnclosingBlock.{EnclosingBlock}
-use Rattle.psm_codegen.specs.declared.known.Known.{Known}
 use Rattle.psm_codegen.specs.FunctionBuilder.{FunctionBuilder, at}
 use Rattle.psm_codegen.specs.Statements.{WritesStatement}
 

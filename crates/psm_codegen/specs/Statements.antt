@@ -14,14 +14,14 @@ use Rattle.psm_resolved.specs.declared.statement.ResolvedSimple.{ResolvedSimple}
 use Rattle.psm_resolved.specs.declared.statement.ResolvedStatement.{ResolvedStatement, out-ResolvedStatement}
 use Rattle.psm_resolved.specs.declared.statement.ResolvedStatement.TheOpen as layers
 use Rattle.psm_code.specs.declared.instruction.Instruction.TheVariants as instruction
+use Rattle.psm_exprgen.specs.declared.known.Known.{Known}
+use Rattle.psm_exprgen.specs.Exprs.{Writes}
+use Rattle.psm_exprgen.specs.Queries.{QueryMade, cursor_of, item_letters}
+use Rattle.psm_exprgen.specs.Written.{Written, applied, last_letter, letters_at, puts, takes, taken, with_query}
 use Rattle.psm_codegen.specs.declared.enclosing.EnclosingBlock.{EnclosingBlock}
 use Rattle.psm_codegen.specs.declared.enclosing.EnclosingBlock.TheVariants.{Loop, Block, Rows}
-use Rattle.psm_codegen.specs.declared.known.Known.{Known}
-use Rattle.psm_codegen.specs.Exprs.{Writes}
 use Rattle.psm_codegen.specs.FunctionBuilder.{FunctionBuilder, at, block_entered, next_context, with_code, with_handler, with_plain}
-use Rattle.psm_codegen.specs.Queries.{QueryMade, cursor_of, item_letters}
 use Rattle.psm_codegen.specs.Simples.{Declares, WritesSimple, stored}
-use Rattle.psm_codegen.specs.Written.{Written, applied, last_letter, letters_at, puts, takes, taken, with_query}
 
 -- a cursor more, with its query
 abbrev pub with_cursor : Known → ResolvedCursor → Query → FunctionBuilder → FunctionBuilder

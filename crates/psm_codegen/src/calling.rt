@@ -1,17 +1,13 @@
 //! Arguments of CALL, rows of INSERT, declarations and messages of conditions: what is evaluated before a statement does its work.
 ghost use Rattle.std.specs.Prelude.{◌≡◌, ◌∷◌, ◌<◌, ◌+◌, ◌≤◌, IfOk};
-ghost use Rattle.psm_codegen.specs.Labels.{Drafted, patched_instruction};
+ghost use Rattle.psm_exprgen.specs.Labels.{Drafted, patched_instruction};
+ghost use Rattle.psm_exprgen.specs.Written.{Written};
 ghost use Rattle.psm_codegen.specs.Simples.{CallArguments, Declares, Default, Signals, WritesRows, letter_of_slots};
-ghost use Rattle.psm_codegen.specs.Written.{Written};
 
-use crate::emit_context::EmitContext;
-use crate::exprs::{arguments, expr};
-use crate::known::Known;
-use crate::places::letter_at;
 use crate::storing::copies;
-use crate::writer::Writer;
 use psm_code::Instruction;
 use psm_exprcode::{Letter, Op};
+use psm_exprgen::{EmitContext, Known, Writer, arguments, expr, letter_at};
 use psm_list::{Boxed, List};
 use psm_resolved::{ResolvedArgument, ResolvedDeclaration, ResolvedExpr};
 use psm_value::Datum;
@@ -54,13 +50,7 @@ fn call_argument(
         ResolvedArgument::Out { .. } => Ok(place),
         ResolvedArgument::InOut { slot } => {
             let letter = letter_at(emit_context.known.variables.items(), *slot as usize);
-            out.applied(
-                emit_context.context,
-                emit_context.resume,
-                Op::Variable(*slot),
-                0,
-                letter,
-            )?;
+            out.applied(emit_context, Op::Variable(*slot), 0, letter)?;
             Ok(place + 1)
         }
     }
@@ -118,13 +108,7 @@ fn default(
     ensures { IfOk result (λ _. Drafted (λ σ. Default emit_context.entry.known.now emit_context.entry.context (σ emit_context.entry.resume) letter value.now) out.old out.new) }
 {
     match value {
-        None => out.applied(
-            emit_context.context,
-            emit_context.resume,
-            Op::Constant(letter, Datum::Null),
-            0,
-            letter,
-        ),
+        None => out.applied(emit_context, Op::Constant(letter, Datum::Null), 0, letter),
         Some(e) => expr(out, emit_context, e.get(), letter),
     }
 }
@@ -150,10 +134,10 @@ pub(crate) fn signals(
     ensures { IfOk result (λ _. Drafted (λ σ. Signals emit_context.entry.known.now emit_context.entry.context (σ emit_context.entry.resume) (patched_instruction σ without) (patched_instruction σ with_message) message.now) out.old out.new) }
 {
     match message {
-        None => out.takes(emit_context.context, emit_context.resume, without, 0),
+        None => out.takes(emit_context, without, 0),
         Some(e) => {
             expr(out, emit_context, e.get(), Letter::T)?;
-            out.takes(emit_context.context, emit_context.resume, with_message, 1)
+            out.takes(emit_context, with_message, 1)
         }
     }
 }

@@ -1,14 +1,13 @@
 //! The code of what UPDATE and DELETE change.
 ghost use Rattle.std.specs.Prelude.{◌≡◌, Some, true, IfOk};
 ghost use Rattle.std.specs.List.{list_all};
-ghost use Rattle.psm_codegen.specs.Queries.{ExprIs, FitsAs, SetsAre, SetsMade, SourcesFit, TestMade, is_set};
+ghost use Rattle.psm_exprgen.specs.Queries.{ExprIs, FitsAs, SetsAre, SetsMade, SourcesFit, TestMade, is_set};
+ghost use Rattle.psm_exprgen.specs.Written.{letter_at};
 ghost use Rattle.psm_codegen.specs.Simples.{Deletes, Updates};
-ghost use Rattle.psm_codegen.specs.Written.{letter_at};
 
-use crate::known::Known;
-use crate::rows::{row, test};
 use psm_code::Plan;
 use psm_exprcode::{ExprCode, Letter, SetItem};
+use psm_exprgen::{Known, row, test};
 use psm_list::List;
 use psm_resolved::{ResolvedExpr, ResolvedSet, ResolvedWhere};
 use std::alloc::{AllocError, Global};

@@ -1,12 +1,11 @@
-//! What is known of a file and of a routine, and what is asked of it.
+//! What is known of a file and of a routine.
 ghost use Rattle.std.specs.Prelude.{◌≡◌, map, IfOk, OnErr, OnOk};
+ghost use Rattle.psm_exprgen.specs.Queries as queries;
 ghost use Rattle.psm_codegen.specs.FileKnown.{known_of_file, with_routine};
-ghost use Rattle.psm_codegen.specs.Queries as queries;
-ghost use Rattle.psm_codegen.specs.Written.{letters_at};
 
-use crate::known::Known;
 use crate::routines::{all_letters, letter_of_result, numbers_of, results_of, slot_letters};
 use psm_exprcode::Letter;
+use psm_exprgen::Known;
 use psm_list::List;
 use psm_resolved::{ResolvedFile, ResolvedRoutine, ResolvedTable};
 use psm_tablecode::column_letters;
@@ -43,29 +42,17 @@ pub fn columns_of(
     Ok(List::of(letters))
 }
 
-impl Known {
-    /// Takes the variables and the result of a routine in place of those of another one. Where memory runs out nothing is changed.
-    pub(crate) fn for_routine(
-        &mut self,
-        alloc: Global,
-        routine: &ResolvedRoutine,
-    ) -> Result<(), AllocError>
-        ensures ok { OnOk result (self.new ≡ with_routine routine.now self.old) }
-        ensures err { OnErr result (self.new ≡ self.old) }
-    {
-        let variables = slot_letters(alloc, routine)?;
-        self.variables = variables;
-        self.result = letter_of_result(routine.returns);
-        Ok(())
-    }
-
-    /// The letters of a table's columns; none where it isn't there.
-    pub(crate) fn columns_at(&self, table: u32) -> &[Letter]
-        ensures { result.now ≡ letters_at self.now.columns table }
-    {
-        match self.columns.items().get(table as usize) {
-            Some(letters) => letters.items(),
-            None => &[],
-        }
-    }
+/// Takes the variables and the result of a routine in place of those of another one. Where memory runs out nothing is changed.
+pub(crate) fn for_routine(
+    known: &mut Known,
+    alloc: Global,
+    routine: &ResolvedRoutine,
+) -> Result<(), AllocError>
+    ensures ok { OnOk result (known.new ≡ with_routine routine.now known.old) }
+    ensures err { OnErr result (known.new ≡ known.old) }
+{
+    let variables = slot_letters(alloc, routine)?;
+    known.variables = variables;
+    known.result = letter_of_result(routine.returns);
+    Ok(())
 }

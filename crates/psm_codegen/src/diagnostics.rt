@@ -3,11 +3,10 @@ ghost use Rattle.std.specs.Prelude.{◌≡◌, IfOk};
 ghost use Rattle.psm_code.specs.Instructions.{condition_letter, statement_letter};
 ghost use Rattle.psm_codegen.specs.Simples.{condition_items, item_stored, statement_items};
 
-use crate::emit_context::EmitContext;
-use crate::writer::Writer;
 use psm_code::Instruction;
 use psm_cond::{ConditionItem, DiagnosticsArea, StatementItem};
 use psm_exprcode::{Letter, Op};
+use psm_exprgen::{EmitContext, Writer};
 use psm_list::List;
 use std::alloc::AllocError;
 
@@ -22,18 +21,12 @@ pub(crate) fn statement_items(
 {
     for (slot, item) in items.items() {
         out.put(
-            emit_context.context,
-            emit_context.resume,
+            emit_context,
             Instruction::StatementItem(area, *item),
             0,
             statement_letter(*item),
         )?;
-        out.takes(
-            emit_context.context,
-            emit_context.resume,
-            Instruction::Store(*slot),
-            1,
-        )?;
+        out.takes(emit_context, Instruction::Store(*slot), 1)?;
     }
     Ok(())
 }
@@ -51,13 +44,7 @@ pub(crate) fn condition_items(
         None => Ok(()),
         Some((last, others)) => {
             for (slot, item) in others {
-                out.applied(
-                    emit_context.context,
-                    emit_context.resume,
-                    Op::Duplicate,
-                    0,
-                    Letter::N,
-                )?;
+                out.applied(emit_context, Op::Duplicate, 0, Letter::N)?;
                 item_stored(out, emit_context, area, *slot, *item)?;
             }
             let (slot, item) = last;
@@ -77,18 +64,12 @@ fn item_stored(
     ensures { IfOk result (λ _. out.new ≡ item_stored emit_context.entry.context emit_context.entry.resume area (slot, item) out.old) }
 {
     out.put(
-        emit_context.context,
-        emit_context.resume,
+        emit_context,
         Instruction::ConditionItem(area, item),
         1,
         condition_letter(item),
     )?;
-    out.takes(
-        emit_context.context,
-        emit_context.resume,
-        Instruction::Store(slot),
-        1,
-    )
+    out.takes(emit_context, Instruction::Store(slot), 1)
 }
 
 /// The letter of an item of a diagnostics area about the statement.

@@ -1,6 +1,7 @@
 //! Lines in place of labels.
 ghost use Rattle.std.specs.Prelude.{◌≡◌, map, option_map, slice_get};
-ghost use Rattle.psm_codegen.specs.Labels.{line_of, op_patch, patch_of, patched_context, patched_line};
+ghost use Rattle.psm_exprgen.specs.Labels.{op_patch, patch_of, patched_line};
+ghost use Rattle.psm_codegen.specs.Labels.{line_of, patched_context};
 ghost use Rattle.psm_codegen.specs.Patching.{perhaps_patch, with_patched_instruction, with_patched_resume};
 
 use psm_code::{Instruction, Lines};

@@ -3,9 +3,9 @@ ghost use Rattle.std.specs.Prelude.{◌≡◌, IfOk};
 ghost use Rattle.psm_codegen.specs.FunctionBuilder.{iterates, leaves};
 
 use crate::enclosing::EnclosingBlock;
-use crate::writer::Writer;
 use psm_code::Instruction;
 use psm_exprcode::Op;
+use psm_exprgen::Writer;
 use std::alloc::AllocError;
 
 /// Leaves the statement of a level, and the blocks in between. What is around is told innermost first.

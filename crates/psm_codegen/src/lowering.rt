@@ -4,18 +4,18 @@ ghost use Rattle.std.specs.List.{All};
 ghost use Rattle.psm_cond.specs.declared.handlers.Declared.TheVariants as declares;
 ghost use Rattle.psm_cond.specs.WellFormed.{is_numbered};
 ghost use Rattle.psm_simulation.specs.Simulation.{FileStands, last_instruction, mode_of, parameter_of};
+ghost use Rattle.psm_exprgen.specs.Labels.{patched_line};
 ghost use Rattle.psm_codegen.specs.Files.{FileWritten, RoutineWritten, RoutinesWritten, is_function};
-ghost use Rattle.psm_codegen.specs.Labels.{line_of, patched_context, patched_line};
+ghost use Rattle.psm_codegen.specs.Labels.{line_of, patched_context};
 ghost use Rattle.psm_codegen.specs.Standing.{CanStand};
 
-use crate::declared_letters::file_known;
-use crate::emit_context::EmitContext;
-use crate::known::Known;
+use crate::declared_letters::{file_known, for_routine};
 use crate::parts::FunctionBuilder;
 use crate::statements::statement;
 use crate::tables::tables_code;
 use psm_code::{Instruction, Parameter, ParameterMode as Mode, RawCode, RawRoutine};
 use psm_cond::Declared;
+use psm_exprgen::{EmitContext, Known};
 use psm_list::List;
 use psm_resolved::{ParameterMode, ResolvedFile, ResolvedParameter, ResolvedRoutine};
 use psm_table::{ForeignKey, ForeignKeys};
@@ -58,7 +58,7 @@ fn routines_code(alloc: Global, file: &ResolvedFile) -> Result<List<RawRoutine>,
     let mut known = file_known(alloc, file)?;
     let mut codes = Vec::new(alloc);
     for routine in file.routines.items() {
-        known.for_routine(alloc, routine)?;
+        for_routine(&mut known, alloc, routine)?;
         codes.push(routine_code(alloc, &known, routine)?)?;
     }
     Ok(List::of(codes))

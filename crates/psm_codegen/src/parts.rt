@@ -1,21 +1,21 @@
 //! What is written of a routine.
 ghost use Rattle.std.specs.Prelude.{◌≡◌, ◌<◌, ◌^◌, [], None, Some, length, map, suc, IfOk};
-ghost use Rattle.psm_codegen.specs.declared.known.Known.{Known};
+ghost use Rattle.psm_exprgen.specs.declared.known.Known.{Known};
+ghost use Rattle.psm_exprgen.specs.Labels.{patched_line};
+ghost use Rattle.psm_exprgen.specs.Queries.{item_letters};
+ghost use Rattle.psm_exprgen.specs.Written.{bound, last_letter, letters_at, puts, with_label};
 ghost use Rattle.psm_codegen.specs.FunctionBuilder.{at, block_entered, next_context, several_values, with_code, with_handler, with_plain};
-ghost use Rattle.psm_codegen.specs.Labels.{line_of, patched_context, patched_line};
-ghost use Rattle.psm_codegen.specs.Queries.{item_letters};
+ghost use Rattle.psm_codegen.specs.Labels.{line_of, patched_context};
 ghost use Rattle.psm_codegen.specs.Simples.{changed, condition_number, declared_with};
 ghost use Rattle.psm_codegen.specs.Statements.{with_cursor};
-ghost use Rattle.psm_codegen.specs.Written.{bound, last_letter, letters_at, puts, with_label};
 
 use crate::labels::{patch_contexts, patch_lines};
-use crate::places::letters_at;
-use crate::writer::Writer;
 use psm_code::{CodeCursor, Instruction, Lines, Plan};
 use psm_cond::{
     Block, ConditionValue, Context, ContextKind, Declared, Handler, HandlerKind, HandlerTable,
 };
 use psm_exprcode::{Letter, Query};
+use psm_exprgen::{EmitContext, Writer, letters_at};
 use psm_list::{List, OneOrMore};
 use psm_resolved::{ResolvedCondition, ResolvedCursor};
 use std::alloc::{AllocError, Global};
@@ -182,15 +182,14 @@ impl FunctionBuilder {
     /// Writes an instruction that puts the items of a cursor's row.
     pub fn puts_row(
         &mut self,
-        context: u32,
-        resume: u32,
+        emit_context: EmitContext<'_>,
         instruction: Instruction,
         cursor: u32,
     ) -> Result<(), AllocError>
-        ensures { IfOk result (λ _. self.new ≡ with_code (puts context resume instruction 0 (letters_at self.old.letters cursor) self.old.code) self.old) }
+        ensures { IfOk result (λ _. self.new ≡ with_code (puts emit_context.entry.context emit_context.entry.resume instruction 0 (letters_at self.old.letters cursor) self.old.code) self.old) }
     {
         let letters = letters_at(self.letters.as_slice(), cursor);
-        self.code.puts(context, resume, instruction, 0, letters)
+        self.code.puts(emit_context, instruction, 0, letters)
     }
 
     /// A cursor more, over a query of its own, whose items have these letters.
@@ -272,17 +271,16 @@ impl FunctionBuilder {
     /// A plan more, which is carried out with n operands.
     pub fn changed(
         &mut self,
-        context: u32,
-        resume: u32,
+        emit_context: EmitContext<'_>,
         plan: Plan,
         count: usize,
     ) -> Result<(), AllocError>
-        ensures { IfOk result (λ _. self.new ≡ changed context resume plan count self.old) }
+        ensures { IfOk result (λ _. self.new ≡ changed emit_context.entry.context emit_context.entry.resume plan count self.old) }
     {
         let number = numbered(self.plans.len())?;
         self.plans.push(plan)?;
         self.code
-            .takes(context, resume, Instruction::Data(number), count)
+            .takes(emit_context, Instruction::Data(number), count)
     }
 }
 

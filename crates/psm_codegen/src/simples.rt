@@ -8,18 +8,15 @@ ghost use Rattle.psm_codegen.specs.Simples.{WritesAnywhere, WritesSimple, letter
 use crate::calling::{call_arguments, rows, signals};
 use crate::changes::{deletes, updates};
 use crate::diagnostics::{condition_items, statement_items};
-use crate::emit_context::EmitContext;
 use crate::enclosing::EnclosingBlock;
-use crate::exprs::expr;
-use crate::known::Known;
 use crate::leaving::{iterates, leaves};
-use crate::letters::item_letters;
 use crate::parts::{FunctionBuilder, numbered};
-use crate::places::{letter_at, letters_at, number_at};
-use crate::queries::query_code;
 use crate::storing::{gives, retrieves};
 use psm_code::{Instruction, Plan};
 use psm_exprcode::{Letter, Op};
+use psm_exprgen::{
+    EmitContext, Known, expr, item_letters, letter_at, letters_at, number_at, query_code,
+};
 use psm_list::{Boxed, List};
 use psm_resolved::{
     ResolvedArgument, ResolvedDiagnostics, ResolvedExpr, ResolvedNumber, ResolvedQuery,
@@ -83,12 +80,7 @@ fn set(
     let letter = letter_at(emit_context.known.variables.items(), slot as usize);
     parts.code.plain(emit_context.context, Instruction::Clear)?;
     expr(&mut parts.code, emit_context, source, letter)?;
-    parts.code.takes(
-        emit_context.context,
-        emit_context.resume,
-        Instruction::Store(slot),
-        1,
-    )
+    parts.code.takes(emit_context, Instruction::Store(slot), 1)
 }
 
 /// Writes CALL.
@@ -107,13 +99,9 @@ fn call(
     parts.code.plain(emit_context.context, Instruction::Clear)?;
     call_arguments(&mut parts.code, emit_context, taken, arguments)?;
     let count = parts.code.height().saturating_sub(before);
-    parts.code.puts(
-        emit_context.context,
-        emit_context.resume,
-        Instruction::Call(number),
-        count,
-        given,
-    )?;
+    parts
+        .code
+        .puts(emit_context, Instruction::Call(number), count, given)?;
     gives(&mut parts.code, emit_context, arguments)
 }
 
@@ -126,12 +114,7 @@ fn returned(
     ensures { IfOk result (λ _. DraftedParts (λ σ. WritesAnywhere emit_context.entry.known.now emit_context.entry.context (σ emit_context.entry.resume) (simples.Return e.now)) parts.old parts.new) }
 {
     expr(&mut parts.code, emit_context, e, emit_context.known.result)?;
-    parts.code.takes(
-        emit_context.context,
-        emit_context.resume,
-        Instruction::ReturnValue,
-        1,
-    )
+    parts.code.takes(emit_context, Instruction::ReturnValue, 1)
 }
 
 /// Writes SIGNAL.
@@ -164,12 +147,7 @@ fn resignal(
     match s {
         None => {
             parts.code.plain(emit_context.context, Instruction::Clear)?;
-            parts.code.takes(
-                emit_context.context,
-                emit_context.resume,
-                Instruction::Resignal,
-                0,
-            )
+            parts.code.takes(emit_context, Instruction::Resignal, 0)
         }
         Some(s) => resignal_condition(parts, emit_context, s.get()),
     }
@@ -211,13 +189,9 @@ fn diagnostics(
             number,
             items,
         } => {
-            parts.code.applied(
-                emit_context.context,
-                emit_context.resume,
-                number_op(number),
-                0,
-                Letter::N,
-            )?;
+            parts
+                .code
+                .applied(emit_context, number_op(number), 0, Letter::N)?;
             condition_items(&mut parts.code, emit_context, *area, items)
         }
     }
@@ -248,8 +222,7 @@ fn select_into(
     parts.code.plain(emit_context.context, Instruction::Clear)?;
     parts.code.with_query(code)?;
     parts.code.puts(
-        emit_context.context,
-        emit_context.resume,
+        emit_context,
         Instruction::Row(number),
         0,
         letters.as_slice(),
@@ -299,7 +272,7 @@ fn insert_rows(
     parts.code.plain(emit_context.context, Instruction::Clear)?;
     rows(&mut parts.code, emit_context, letters.as_slice(), list)?;
     let count = parts.code.height().saturating_sub(before);
-    parts.changed(emit_context.context, emit_context.resume, plan, count)
+    parts.changed(emit_context, plan, count)
 }
 
 /// Writes INSERT with a query.
@@ -320,7 +293,7 @@ fn insert_query(
     };
     parts.code.plain(emit_context.context, Instruction::Clear)?;
     parts.code.with_query(code)?;
-    parts.changed(emit_context.context, emit_context.resume, plan, 0)
+    parts.changed(emit_context, plan, 0)
 }
 
 /// The letters of columns of a table.
@@ -362,7 +335,7 @@ fn update(
 {
     let plan = updates(emit_context.alloc, emit_context.known, table, sets, which)?;
     parts.plain(emit_context.context, Instruction::Clear)?;
-    parts.changed(emit_context.context, emit_context.resume, plan, 0)
+    parts.changed(emit_context, plan, 0)
 }
 
 /// Writes DELETE.
@@ -376,7 +349,7 @@ fn delete(
 {
     let plan = deletes(emit_context.alloc, emit_context.known, table, which)?;
     parts.plain(emit_context.context, Instruction::Clear)?;
-    parts.changed(emit_context.context, emit_context.resume, plan, 0)
+    parts.changed(emit_context, plan, 0)
 }
 
 /// Writes OPEN.
@@ -388,12 +361,7 @@ fn opened(
     ensures { IfOk result (λ _. DraftedParts (λ σ. WritesAnywhere emit_context.entry.known.now emit_context.entry.context (σ emit_context.entry.resume) (simples.Open cursor)) parts.old parts.new) }
 {
     parts.code.plain(emit_context.context, Instruction::Clear)?;
-    parts.code.takes(
-        emit_context.context,
-        emit_context.resume,
-        Instruction::Open(cursor),
-        0,
-    )
+    parts.code.takes(emit_context, Instruction::Open(cursor), 0)
 }
 
 /// Writes FETCH.
@@ -406,12 +374,7 @@ fn fetch(
     ensures { IfOk result (λ _. DraftedParts (λ σ. WritesAnywhere emit_context.entry.known.now emit_context.entry.context (σ emit_context.entry.resume) (simples.Fetch cursor slots.now)) parts.old parts.new) }
 {
     parts.plain(emit_context.context, Instruction::Clear)?;
-    parts.puts_row(
-        emit_context.context,
-        emit_context.resume,
-        Instruction::Fetch(cursor),
-        cursor,
-    )?;
+    parts.puts_row(emit_context, Instruction::Fetch(cursor), cursor)?;
     retrieves(&mut parts.code, emit_context, slots)
 }
 
@@ -424,10 +387,7 @@ fn closed(
     ensures { IfOk result (λ _. DraftedParts (λ σ. WritesAnywhere emit_context.entry.known.now emit_context.entry.context (σ emit_context.entry.resume) (simples.Close cursor)) parts.old parts.new) }
 {
     parts.code.plain(emit_context.context, Instruction::Clear)?;
-    parts.code.takes(
-        emit_context.context,
-        emit_context.resume,
-        Instruction::Close(cursor),
-        0,
-    )
+    parts
+        .code
+        .takes(emit_context, Instruction::Close(cursor), 0)
 }

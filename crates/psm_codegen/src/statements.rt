@@ -6,7 +6,6 @@ ghost use Rattle.psm_codegen.specs.Labels.{DraftedParts, patched_block};
 ghost use Rattle.psm_codegen.specs.StatementForms.{WritesForm};
 ghost use Rattle.psm_codegen.specs.Statements.{WritesBranches, WritesComparisons, WritesElse, WritesHandlers, WritesStatement, WritesStatements};
 
-use crate::emit_context::EmitContext;
 use crate::enclosing::EnclosingBlock;
 use crate::parts::FunctionBuilder;
 use crate::simples::simple;
@@ -16,6 +15,7 @@ use crate::steps::{
 };
 use psm_code::Instruction;
 use psm_exprcode::{Letter, Op};
+use psm_exprgen::EmitContext;
 use psm_list::{Boxed, List};
 use psm_resolved::{
     ResolvedBlock, ResolvedBranch, ResolvedExpr, ResolvedFor, ResolvedHandler, ResolvedStatement,
@@ -63,63 +63,67 @@ fn form(
         ResolvedStatement::While {
             level,
             test,
-            statements,
-        } => whiled(
-            statements,
-            parts,
-            emit_context,
-            enclosing,
-            *level,
-            test.get(),
-        ),
+            statements: list,
+        } => whiled(list, parts, emit_context, enclosing, *level, test.get()),
         ResolvedStatement::Repeat {
             level,
-            statements,
+            statements: list,
             until,
-        } => repeated(
-            statements,
-            parts,
-            emit_context,
-            enclosing,
-            *level,
-            until.get(),
-        ),
+        } => repeated(list, parts, emit_context, enclosing, *level, until.get()),
         ResolvedStatement::For {
             level,
             head,
-            statements,
-        } => over_rows(
-            statements,
-            parts,
-            emit_context,
-            enclosing,
-            *level,
-            head.get(),
-        ),
+            statements: list,
+        } => over_rows(list, parts, emit_context, enclosing, *level, head.get()),
         ResolvedStatement::If {
             branches: list,
-            otherwise,
-        } => {
-            branches(list, parts, emit_context, enclosing)?;
-            statements(otherwise, parts, emit_context, enclosing)
-        }
+            otherwise: last,
+        } => conditional(list, parts, emit_context, enclosing, last),
         ResolvedStatement::Case {
             operand,
             branches: list,
             otherwise: last,
-        } => match operand {
-            None => {
-                branches(list, parts, emit_context, enclosing)?;
-                otherwise(last, parts, emit_context, enclosing)
-            }
-            Some(e) => {
-                evaluated(parts, emit_context, e.get(), Letter::N)?;
-                comparisons(list, parts, emit_context, enclosing)?;
-                take(parts, emit_context, Op::Drop)?;
-                otherwise(last, parts, emit_context, enclosing)
-            }
-        },
+        } => cases(list, parts, emit_context, enclosing, operand, last),
         ResolvedStatement::Simple(s) => simple(parts, emit_context, enclosing, s.get()),
+    }
+}
+
+#[cycle(stating)]
+fn conditional(
+    list: &List<Boxed<ResolvedBranch>>,
+    parts: &mut FunctionBuilder,
+    emit_context: EmitContext<'_>,
+    enclosing: &[EnclosingBlock],
+    last: &List<Boxed<ResolvedStatement>>,
+) -> Result<(), AllocError>
+    ensures { IfOk result (λ _. DraftedParts (λ σ. WritesForm emit_context.entry.known.now emit_context.entry.context (σ emit_context.entry.resume) (map (patched_block σ) enclosing.now) (layers.If list.now last.now)) parts.old parts.new) }
+{
+    branches(list, parts, emit_context, enclosing)?;
+    statements(last, parts, emit_context, enclosing)
+}
+
+#[cycle(stating)]
+fn cases(
+    list: &List<Boxed<ResolvedBranch>>,
+    parts: &mut FunctionBuilder,
+    emit_context: EmitContext<'_>,
+    enclosing: &[EnclosingBlock],
+    operand: &Option<Boxed<ResolvedExpr>>,
+    last: &List<Boxed<ResolvedStatement>>,
+) -> Result<(), AllocError>
+    ensures { IfOk result (λ _. DraftedParts (λ σ. WritesForm emit_context.entry.known.now emit_context.entry.context (σ emit_context.entry.resume) (map (patched_block σ) enclosing.now) (layers.Case operand.now list.now last.now)) parts.old parts.new) }
+{
+    match operand {
+        None => {
+            branches(list, parts, emit_context, enclosing)?;
+            otherwise(last, parts, emit_context, enclosing)
+        }
+        Some(e) => {
+            evaluated(parts, emit_context, e.get(), Letter::N)?;
+            comparisons(list, parts, emit_context, enclosing)?;
+            take(parts, emit_context, Op::Drop)?;
+            otherwise(last, parts, emit_context, enclosing)
+        }
     }
 }
 
@@ -250,7 +254,7 @@ fn over_rows(
         context: inner,
         resume: out,
     };
-    open(parts, inner, out, &head.cursor)?;
+    open(parts, within_rows, &head.cursor)?;
     let again = parts.label_here()?;
     parts.plain(inner, Instruction::Turn)?;
     fetch_row(parts, within_rows, head)?;
@@ -307,7 +311,7 @@ fn otherwise(
     ensures { IfOk result (λ _. DraftedParts (λ σ. WritesElse emit_context.entry.known.now emit_context.entry.context (map (patched_block σ) enclosing.now) list.now) parts.old parts.new) }
 {
     if list.items().is_empty() {
-        no_case(parts, emit_context.context)
+        no_case(parts, emit_context)
     } else {
         statements(list, parts, emit_context, enclosing)
     }

@@ -1,23 +1,21 @@
 //! Steps of statements that have statements, which write no statement.
 ghost use Rattle.std.specs.Prelude.{◌≡◌, ◌∷◌, [], map, suc, IfOk};
 ghost use Rattle.psm_code.specs.declared.instruction.Instruction.TheVariants as instruction;
-ghost use Rattle.psm_codegen.specs.Exprs.{Writes};
+ghost use Rattle.psm_exprgen.specs.Exprs.{Writes};
+ghost use Rattle.psm_exprgen.specs.Labels.{Drafted};
+ghost use Rattle.psm_exprgen.specs.Written.{applied, taken, takes};
 ghost use Rattle.psm_codegen.specs.FunctionBuilder.{FunctionBuilder as Whole, at, block_entered, next_context, with_code};
-ghost use Rattle.psm_codegen.specs.Labels.{Drafted, DraftedParts};
+ghost use Rattle.psm_codegen.specs.Labels.{DraftedParts};
 ghost use Rattle.psm_codegen.specs.Simples.{Declares};
 ghost use Rattle.psm_codegen.specs.Statements.{WritesCursors, fetched, jumped, passed};
-ghost use Rattle.psm_codegen.specs.Written.{applied, taken, takes};
 
 use crate::calling::declares;
-use crate::emit_context::EmitContext;
 use crate::enclosing::EnclosingBlock;
-use crate::exprs::expr;
-use crate::letters::item_letters;
 use crate::parts::FunctionBuilder;
-use crate::queries::query_code;
 use crate::storing::stores;
 use psm_code::Instruction;
 use psm_exprcode::{Letter, Op};
+use psm_exprgen::{EmitContext, expr, item_letters, query_code};
 use psm_list::{Boxed, List};
 use psm_resolved::{
     ResolvedCursor, ResolvedDeclaration, ResolvedExpr, ResolvedFor, ResolvedHandler,
@@ -80,9 +78,7 @@ pub(crate) fn take(
 ) -> Result<(), AllocError>
     ensures { IfOk result (λ _. parts.new ≡ with_code (taken emit_context.entry.context emit_context.entry.resume op parts.old.code) parts.old) }
 {
-    parts
-        .code
-        .taken(emit_context.context, emit_context.resume, op)
+    parts.code.taken(emit_context, op)
 }
 
 /// Writes an operation that takes n operands and puts one.
@@ -95,7 +91,7 @@ pub(crate) fn apply(
 ) -> Result<(), AllocError>
     ensures { IfOk result (λ _. parts.new ≡ with_code (applied emit_context.entry.context emit_context.entry.resume op count letter parts.old.code) parts.old) }
 {
-    parts.code.applied(emit_context.context, emit_context.resume, op, count, letter)
+    parts.code.applied(emit_context, op, count, letter)
 }
 
 /// Writes cursors, with their queries.
@@ -174,15 +170,14 @@ pub(crate) fn pass(
 /// Opens the cursor of a FOR statement.
 pub(crate) fn open(
     parts: &mut FunctionBuilder,
-    context: u32,
-    exit: u32,
+    emit_context: EmitContext<'_>,
     x: &ResolvedCursor,
 ) -> Result<(), AllocError>
-    ensures { IfOk result (λ _. parts.new ≡ with_code (takes context exit (instruction.Open x.now.number) 0 parts.old.code) parts.old) }
+    ensures { IfOk result (λ _. parts.new ≡ with_code (takes emit_context.entry.context emit_context.entry.resume (instruction.Open x.now.number) 0 parts.old.code) parts.old) }
 {
     parts
         .code
-        .takes(context, exit, Instruction::Open(x.number), 0)
+        .takes(emit_context, Instruction::Open(x.number), 0)
 }
 
 /// Fetches the next row of a FOR statement into its variables.
@@ -197,21 +192,25 @@ pub(crate) fn fetch_row(
         cursor: head.cursor.number,
         end: emit_context.resume,
     };
-    parts.puts_row(
-        emit_context.context,
-        emit_context.resume,
-        next,
-        head.cursor.number,
-    )?;
+    parts.puts_row(emit_context, next, head.cursor.number)?;
     stores(&mut parts.code, emit_context, &head.slots)
 }
 
 /// Raises the condition of a CASE without ELSE.
-pub(crate) fn no_case(parts: &mut FunctionBuilder, context: u32) -> Result<(), AllocError>
-    ensures { IfOk result (λ _. DraftedParts (λ σ p q. q ≡ with_code (takes context (suc (at p)) instruction.NoCase 0 p.code) p) parts.old parts.new) }
+pub(crate) fn no_case(
+    parts: &mut FunctionBuilder,
+    emit_context: EmitContext<'_>,
+) -> Result<(), AllocError>
+    ensures { IfOk result (λ _. DraftedParts (λ σ p q. q ≡ with_code (takes emit_context.entry.context (suc (at p)) instruction.NoCase 0 p.code) p) parts.old parts.new) }
 {
     let resume = parts.label()?;
-    parts.code.takes(context, resume, Instruction::NoCase, 0)?;
+    let raising = EmitContext {
+        alloc: emit_context.alloc,
+        known: emit_context.known,
+        context: emit_context.context,
+        resume,
+    };
+    parts.code.takes(raising, Instruction::NoCase, 0)?;
     parts.bind(resume)
 }
 

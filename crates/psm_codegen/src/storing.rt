@@ -3,13 +3,12 @@ ghost use Rattle.std.specs.Prelude.{◌≡◌, IfOk};
 ghost use Rattle.psm_code.specs.declared.instruction.Instruction.TheVariants as instruction;
 ghost use Rattle.psm_simulation.specs.Scheme.{slots_given};
 ghost use Rattle.psm_exprcode.specs.declared.op.Op.TheVariants as op;
+ghost use Rattle.psm_exprgen.specs.Written.{applied, last_letter, takes};
 ghost use Rattle.psm_codegen.specs.Simples.{copied, retrieved, stored};
-ghost use Rattle.psm_codegen.specs.Written.{applied, last_letter, takes};
 
-use crate::emit_context::EmitContext;
-use crate::writer::Writer;
 use psm_code::Instruction;
 use psm_exprcode::Op;
+use psm_exprgen::{EmitContext, Writer};
 use psm_list::List;
 use psm_resolved::ResolvedArgument;
 use std::alloc::AllocError;
@@ -23,12 +22,7 @@ pub(crate) fn stores(
     ensures { IfOk result (λ _. out.new ≡ stored emit_context.entry.context emit_context.entry.resume (λ slot. instruction.Store slot) slots.now out.old) }
 {
     for slot in slots.items() {
-        out.takes(
-            emit_context.context,
-            emit_context.resume,
-            Instruction::Store(*slot),
-            1,
-        )?;
+        out.takes(emit_context, Instruction::Store(*slot), 1)?;
     }
     Ok(())
 }
@@ -42,19 +36,9 @@ pub(crate) fn retrieves(
     ensures { IfOk result (λ _. out.new ≡ retrieved emit_context.entry.context emit_context.entry.resume slots.now out.old) }
 {
     for slot in slots.items() {
-        out.takes(
-            emit_context.context,
-            emit_context.resume,
-            Instruction::FetchStore(*slot),
-            1,
-        )?;
+        out.takes(emit_context, Instruction::FetchStore(*slot), 1)?;
     }
-    out.takes(
-        emit_context.context,
-        emit_context.resume,
-        Instruction::Warn,
-        0,
-    )
+    out.takes(emit_context, Instruction::Warn, 0)
 }
 
 /// Stores the values that a procedure gives back.
@@ -69,12 +53,7 @@ pub(crate) fn gives(
         match argument {
             ResolvedArgument::In(_) => {}
             ResolvedArgument::Out { slot } | ResolvedArgument::InOut { slot } => {
-                out.takes(
-                    emit_context.context,
-                    emit_context.resume,
-                    Instruction::Store(*slot),
-                    1,
-                )?;
+                out.takes(emit_context, Instruction::Store(*slot), 1)?;
             }
         }
     }
@@ -90,17 +69,12 @@ pub(crate) fn copies(
     ensures { IfOk result (λ _. out.new ≡ copied emit_context.entry.context emit_context.entry.resume slots.now out.old) }
 {
     match slots.items().split_last() {
-        None => out.taken(emit_context.context, emit_context.resume, Op::Drop),
+        None => out.taken(emit_context, Op::Drop),
         Some((last, others)) => {
             for slot in others {
                 copy(out, emit_context, *slot)?;
             }
-            out.takes(
-                emit_context.context,
-                emit_context.resume,
-                Instruction::Store(*last),
-                1,
-            )
+            out.takes(emit_context, Instruction::Store(*last), 1)
         }
     }
 }
@@ -110,17 +84,6 @@ fn copy(out: &mut Writer, emit_context: EmitContext<'_>, slot: u32) -> Result<()
     ensures { IfOk result (λ _. out.new ≡ takes emit_context.entry.context emit_context.entry.resume (instruction.Store slot) 1 (applied emit_context.entry.context emit_context.entry.resume op.Duplicate 0 (last_letter out.old) out.old)) }
 {
     let letter = out.last_letter();
-    out.applied(
-        emit_context.context,
-        emit_context.resume,
-        Op::Duplicate,
-        0,
-        letter,
-    )?;
-    out.takes(
-        emit_context.context,
-        emit_context.resume,
-        Instruction::Store(slot),
-        1,
-    )
+    out.applied(emit_context, Op::Duplicate, 0, letter)?;
+    out.takes(emit_context, Instruction::Store(slot), 1)
 }

@@ -1,9 +1,9 @@
 //! The code of tables.
 ghost use Rattle.std.specs.Prelude.{IfOk};
-ghost use Rattle.psm_codegen.specs.Queries.{TableMade, TablesMade};
+ghost use Rattle.psm_exprgen.specs.Queries.{TableMade, TablesMade};
 
-use crate::rows::tests;
 use psm_code::CodeTable;
+use psm_exprgen::tests;
 use psm_list::List;
 use psm_resolved::ResolvedTable;
 use psm_tablecode::column_letters;

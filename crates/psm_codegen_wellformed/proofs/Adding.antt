@@ -26,17 +26,17 @@ use Rattle.psm_code.specs.declared.instruction.Instruction.TheVariants as instru
 use Rattle.psm_code.specs.Instructions.{statement_letter}
 use Rattle.psm_code.specs.PlanRules.{cursor_fault, plan_faults, query_faults}
 use Rattle.psm_simulation.specs.Scheme.{slots_given}
+use Rattle.psm_exprgen.specs.declared.known.Known.{Known}
+use Rattle.psm_exprgen.specs.Queries.{TestMade, item_letters}
+use Rattle.psm_exprgen.specs.Written.{Written, applied, last_letter, letters_at, plain, puts, takes, with_query}
+use Rattle.psm_exprgen.specs.Writing.{BeginsWith}
+use Rattle.psm_exprgen.proofs.Growth.{begins-before}
 use Rattle.psm_codegen.specs.declared.enclosing.EnclosingBlock.{EnclosingBlock}
 use Rattle.psm_codegen.specs.declared.enclosing.EnclosingBlock.TheVariants.{Loop, Block as WithinBlock, Rows}
-use Rattle.psm_codegen.specs.declared.known.Known.{Known}
 use Rattle.psm_codegen.specs.FunctionBuilder.{FunctionBuilder, iterates, leaves}
-use Rattle.psm_codegen.specs.Queries.{TestMade, item_letters}
 use Rattle.psm_codegen.specs.Simples.{CallArguments, Declares, Default, Deletes, Signals, Updates, WritesRows, WritesSimple, cleared, condition_items, copied, item_stored, more_operands, number_op, procedure_number, statement_items, stored}
 use Rattle.psm_codegen.specs.Simples as written
-use Rattle.psm_codegen.specs.Written.{Written, applied, last_letter, letters_at, plain, puts, takes, with_query}
-use Rattle.psm_codegen.specs.Writing.{BeginsWith}
 use Rattle.psm_codegen.proofs.Growing.{Grown}
-use Rattle.psm_codegen.proofs.Growth.{begins-before}
 use Rattle.psm_codegen.proofs.There.{there_at}
 use Rattle.psm_wellformed.specs.Expressions.{PerhapsWellFormed}
 use Rattle.psm_wellformed.specs.Simples.{AreSets, WellFormedArguments, WellFormedSimple, WellFormedWhere, RowOf}

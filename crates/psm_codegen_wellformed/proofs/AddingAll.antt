@@ -13,18 +13,18 @@ use Rattle.psm_code.specs.declared.code.RawCode.{RawCode}
 use Rattle.psm_code.specs.declared.code.RawRoutine.{RawRoutine}
 use Rattle.psm_code.specs.declared.instruction.Instruction.TheVariants as instruction
 use Rattle.psm_code.specs.PlanRules.{cursor_fault}
+use Rattle.psm_exprgen.specs.declared.known.Known.{Known}
+use Rattle.psm_exprgen.specs.Queries.{cursor_of}
+use Rattle.psm_exprgen.specs.Writing.{BeginsWith}
+use Rattle.psm_exprgen.specs.Written.{letters_at, puts}
+use Rattle.psm_exprgen.proofs.Growth.{begins-before, grows-writes}
 use Rattle.psm_codegen.specs.declared.enclosing.EnclosingBlock.{EnclosingBlock}
-use Rattle.psm_codegen.specs.declared.known.Known.{Known}
 use Rattle.psm_codegen.specs.FunctionBuilder.{FunctionBuilder, at, block_entered, next_context}
-use Rattle.psm_codegen.specs.Queries.{cursor_of}
 use Rattle.psm_codegen.specs.Standing.{CountsUp, Layer, cursors_of, numbers_of}
 use Rattle.psm_codegen.specs.Statements.{WritesBranches, WritesComparisons, WritesCursors, WritesElse, WritesHandlers, WritesStatement, WritesStatements, opened, passed, with_cursor}
 use Rattle.psm_codegen.specs.Statements as written
-use Rattle.psm_codegen.specs.Writing.{BeginsWith}
-use Rattle.psm_codegen.specs.Written.{letters_at, puts}
 use Rattle.psm_codegen.proofs.Growing.{grown-cursors, grown-passed, length-snoc, no_context}
 use Rattle.psm_codegen.proofs.GrowingAll.{grown-all, grown-branches, grown-comparisons, grown-else, grown-handlers}
-use Rattle.psm_codegen.proofs.Growth.{begins-before, grows-writes}
 use Rattle.psm_codegen.proofs.Numbering.{block_cursors-out, branch_cursors-out, counted, counted-all, counted-branches, counted-comparisons, counted-cursors, counted-handlers, counts-split, cursors-out, cursors_in, cursors_in_branches, cursors_in_handlers, cursors_of_branch, cursors_of_handler, handler_cursors-out, passed-cursors}
 use Rattle.psm_codegen.proofs.There.{there_at}
 use Rattle.psm_wellformed.specs.Statements.{AreActions, AreBranches, AreWellFormed, IsWellFormed, Letters, WellFormedCursor}

@@ -10,16 +10,16 @@ use Rattle.psm_resolved.specs.declared.statement.ResolvedStatement.{ResolvedStat
 use Rattle.psm_code.specs.declared.code.RawRoutine.{RawRoutine}
 use Rattle.psm_code.specs.declared.instruction.Instruction.TheVariants as instruction
 use Rattle.psm_code.specs.TableRules.{are_there}
+use Rattle.psm_exprgen.specs.declared.known.Known.{Known}
+use Rattle.psm_exprgen.specs.Written.{applied, last_letter, taken}
+use Rattle.psm_exprgen.proofs.Growth.{grows-applied, grows-on, grows-taken, grows-writes}
 use Rattle.psm_codegen.specs.declared.enclosing.EnclosingBlock.{EnclosingBlock}
-use Rattle.psm_codegen.specs.declared.known.Known.{Known}
 use Rattle.psm_codegen.specs.FunctionBuilder.{FunctionBuilder, at, with_code}
 use Rattle.psm_codegen.specs.Standing.{cursors_of}
 use Rattle.psm_codegen.specs.Statements.{WritesBranches, WritesComparisons, WritesElse, WritesHandlers, WritesStatement, WritesStatements, jumped, unless_true}
 use Rattle.psm_codegen.specs.Statements as written
-use Rattle.psm_codegen.specs.Written.{applied, last_letter, taken}
 use Rattle.psm_codegen.proofs.Growing.{Grown, grown-code, grown-on, grown-plain, no_context}
 use Rattle.psm_codegen.proofs.GrowingAll.{grown-all, grown-branches, grown-comparisons, grown-else, grown-handlers, grown-statement}
-use Rattle.psm_codegen.proofs.Growth.{grows-applied, grows-on, grows-taken, grows-writes}
 use Rattle.psm_codegen.proofs.Numbering.{block_cursors-out, branch_cursors-out, cursors-out, cursors_in, cursors_in_branches, cursors_in_handlers, cursors_of_branch, cursors_of_handler, handler_cursors-out}
 use Rattle.psm_typing.specs.TypingContext.{Each, TypingContext}
 use Rattle.psm_wellformed.specs.Statements.{Letters, MayHandle}

@@ -12,10 +12,10 @@ use Rattle.psm_code.specs.declared.code.RawCode.{RawCode}
 use Rattle.psm_code.specs.declared.code.RawRoutine.{RawRoutine}
 use Rattle.psm_code.specs.RoutineRules.{context_there, line_faults}
 use Rattle.psm_simulation.specs.Simulation.{last_instruction}
+use Rattle.psm_exprgen.specs.Written.{Written, here}
+use Rattle.psm_exprgen.specs.Writing.{BeginsWith}
 use Rattle.psm_codegen.specs.Files.{FileWritten, RoutineWritten, known_of, no_parts}
 use Rattle.psm_codegen.specs.FunctionBuilder.{at}
-use Rattle.psm_codegen.specs.Written.{Written, here}
-use Rattle.psm_codegen.specs.Writing.{BeginsWith}
 use Rattle.psm_codegen.proofs.Growing.{length-snoc}
 use Rattle.psm_codegen.proofs.GrowingAll.{grown-statement}
 use Rattle.psm_codegen.proofs.There.{line_of}

@@ -15,11 +15,11 @@ use Rattle.psm_code.specs.declared.code.RawCode.{RawCode}
 use Rattle.psm_code.specs.declared.code.RawRoutine.{RawRoutine}
 use Rattle.psm_code.specs.PlanRules.{query_faults}
 use Rattle.psm_simulation.specs.Expressions.{Layer, operations_of, operands_of, scaling}
-use Rattle.psm_codegen.specs.declared.known.Known.{Known}
-use Rattle.psm_codegen.specs.Exprs.{Arguments, Compares, Firsts, Joins, ChainLinks, Otherwise, Whens, Writes, WritesAll, straight_letter}
-use Rattle.psm_codegen.specs.Exprs as written
-use Rattle.psm_codegen.specs.Queries.{QueryMade}
-use Rattle.psm_codegen.specs.Written.{Written, all_applied, applied, with_query}
+use Rattle.psm_exprgen.specs.declared.known.Known.{Known}
+use Rattle.psm_exprgen.specs.Exprs.{Arguments, Compares, Firsts, Joins, ChainLinks, Otherwise, Whens, Writes, WritesAll, straight_letter}
+use Rattle.psm_exprgen.specs.Exprs as written
+use Rattle.psm_exprgen.specs.Queries.{QueryMade}
+use Rattle.psm_exprgen.specs.Written.{Written, all_applied, applied, with_query}
 use Rattle.psm_wellformed.specs.Expressions.{AllWellFormed, LayerWellFormed, ChainLinksWellFormed, PerhapsWellFormed, WellFormed, WhensWellFormed}
 use Rattle.psm_wellformed.specs.Expressions as parts
 use Rattle.psm_wellformed.specs.Queries.{WellFormedQuery}

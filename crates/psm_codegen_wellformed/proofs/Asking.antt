@@ -12,8 +12,8 @@ use Rattle.psm_code.specs.declared.code.RawRoutine.{RawRoutine}
 use Rattle.psm_code.specs.declared.instruction.Instruction.TheVariants as instruction
 use Rattle.psm_code.specs.Instructions.{function_effect, letters_of_query, of_routine, returning_effect, scalar_effect}
 use Rattle.psm_code.specs.Rules.{there, where_there}
-use Rattle.psm_codegen.specs.declared.known.Known.{Known}
-use Rattle.psm_codegen.specs.Written.{letter_at}
+use Rattle.psm_exprgen.specs.declared.known.Known.{Known}
+use Rattle.psm_exprgen.specs.Written.{letter_at}
 use Rattle.psm_codegen_wellformed.specs.Kept.{KeepsFunction}
 use Rattle.psm_codegen_wellformed.proofs.Lines.{Does}
 use Rattle.psm_codegen_wellformed.proofs.Putting.{Calm}

@@ -16,16 +16,16 @@ use Rattle.psm_code.specs.declared.instruction.Instruction.TheVariants as instru
 use Rattle.psm_code.specs.Parts.{block_of_context}
 use Rattle.psm_code.specs.Rules.{there}
 use Rattle.psm_code.specs.RoutineRules.{context_there, is_action_context, parent_of_context}
+use Rattle.psm_exprgen.specs.declared.known.Known.{Known}
+use Rattle.psm_exprgen.specs.Written.{Written, here}
+use Rattle.psm_exprgen.specs.Writing.{Begins, BeginsWith}
+use Rattle.psm_exprgen.proofs.Counts.{here-plain}
 use Rattle.psm_codegen.specs.declared.enclosing.EnclosingBlock.{EnclosingBlock}
 use Rattle.psm_codegen.specs.declared.enclosing.EnclosingBlock.TheVariants.{Block}
-use Rattle.psm_codegen.specs.declared.known.Known.{Known}
 use Rattle.psm_codegen.specs.FunctionBuilder.{FunctionBuilder, at, block_entered, next_context, with_code, with_handler, with_plain}
 use Rattle.psm_codegen.specs.Simples.{Declares}
 use Rattle.psm_codegen.specs.Statements.{WritesCursors, WritesHandlers, WritesStatements, passed}
 use Rattle.psm_codegen.specs.Statements as written
-use Rattle.psm_codegen.specs.Written.{Written, here}
-use Rattle.psm_codegen.specs.Writing.{Begins, BeginsWith}
-use Rattle.psm_codegen.proofs.Counts.{here-plain}
 use Rattle.psm_codegen.proofs.Growing.{Grown, begins-length, grown-cursors, grown-entered, grown-passed, grown-plain, length-snoc, no_context}
 use Rattle.psm_codegen.proofs.GrowingAll.{grown-all, grown-handlers}
 use Rattle.psm_codegen.proofs.Placing.{Kept, context-there, kept-earlier}

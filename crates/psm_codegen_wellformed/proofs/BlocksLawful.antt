@@ -10,12 +10,12 @@ use Rattle.psm_code.specs.declared.instruction.Instruction.TheVariants as instru
 use Rattle.psm_code.specs.Parts.{line_at}
 use Rattle.psm_code.specs.RoutineRules.{are_new}
 use Rattle.psm_code.specs.TableRules.{are_there}
-use Rattle.psm_codegen.specs.declared.known.Known.{Known}
+use Rattle.psm_exprgen.specs.declared.known.Known.{Known}
+use Rattle.psm_exprgen.specs.Written.{Written}
+use Rattle.psm_exprgen.proofs.Counts.{here-plain}
 use Rattle.psm_codegen.specs.FunctionBuilder.{FunctionBuilder, at, block_entered, next_context, with_code, with_handler, with_plain}
 use Rattle.psm_codegen.specs.Simples.{Declares}
 use Rattle.psm_codegen.specs.Statements.{WritesCursors, WritesStatement, fetched, jumped, opened, passed}
-use Rattle.psm_codegen.specs.Written.{Written}
-use Rattle.psm_codegen.proofs.Counts.{here-plain}
 use Rattle.psm_codegen.proofs.Growing.{Grown, begins-length, grown-any, grown-code, grown-cursors, grown-entered, grown-fetched, grown-handler, grown-here, grown-on, grown-opened, grown-passed, grown-plain, next-entered, next-handler, no_context, own_in}
 use Rattle.psm_codegen.proofs.GrowingAll.{grown-statement, high-context}
 use Rattle.psm_codegen.proofs.GrowthSimples.{grows-declares}

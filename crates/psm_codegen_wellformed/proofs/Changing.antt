@@ -15,10 +15,10 @@ use Rattle.psm_code.specs.declared.instruction.Instruction.TheVariants as instru
 use Rattle.psm_code.specs.Instructions.{cursor_letters, letters_in, of_plan, plan_letters, putting, table_letters, values_letters}
 use Rattle.psm_code.specs.Rules.{is_there, there}
 use Rattle.psm_meaning.specs.Calls.{returns}
-use Rattle.psm_codegen.specs.declared.known.Known.{Known}
+use Rattle.psm_exprgen.specs.declared.known.Known.{Known}
+use Rattle.psm_exprgen.specs.Written.{Written, letters_at, puts, takes, with_query}
 use Rattle.psm_codegen.specs.FunctionBuilder.{FunctionBuilder, with_code}
 use Rattle.psm_codegen.specs.Simples.{WritesRows, changed, cleared, letters_of_columns, more_operands, retrieved}
-use Rattle.psm_codegen.specs.Written.{Written, letters_at, puts, takes, with_query}
 use Rattle.psm_typing.specs.TypingContext.{Each, TypingContext}
 use Rattle.psm_codegen_wellformed.specs.Frame.{WellFormedLines}
 use Rattle.psm_wellformed.specs.Slots.{AreSlots}

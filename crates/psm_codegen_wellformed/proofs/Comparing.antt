@@ -10,16 +10,16 @@ use Rattle.psm_code.specs.declared.code.RawCode.{RawCode}
 use Rattle.psm_code.specs.declared.code.RawRoutine.{RawRoutine}
 use Rattle.psm_code.specs.declared.instruction.Instruction.TheVariants as instruction
 use Rattle.psm_code.specs.RoutineRules.{context_there}
+use Rattle.psm_exprgen.specs.declared.known.Known.{Known}
+use Rattle.psm_exprgen.specs.Exprs.{Writes}
+use Rattle.psm_exprgen.specs.Written.{Written, applied, here, last_letter, taken}
+use Rattle.psm_exprgen.specs.Writing.{Begins, Grows}
+use Rattle.psm_exprgen.proofs.Counts.{here-applied, here-taken}
+use Rattle.psm_exprgen.proofs.Growth.{begins-earlier, grows-applied, grows-on, grows-taken, grows-writes}
 use Rattle.psm_codegen.specs.declared.enclosing.EnclosingBlock.{EnclosingBlock}
-use Rattle.psm_codegen.specs.declared.known.Known.{Known}
-use Rattle.psm_codegen.specs.Exprs.{Writes}
 use Rattle.psm_codegen.specs.FunctionBuilder.{FunctionBuilder, at, with_code}
 use Rattle.psm_codegen.specs.Statements.{unless_true}
-use Rattle.psm_codegen.specs.Written.{Written, applied, here, last_letter, taken}
-use Rattle.psm_codegen.specs.Writing.{Begins, Grows}
-use Rattle.psm_codegen.proofs.Counts.{here-applied, here-taken}
 use Rattle.psm_codegen.proofs.Growing.{Grown, grown-code, no_context}
-use Rattle.psm_codegen.proofs.Growth.{begins-earlier, grows-applied, grows-on, grows-taken, grows-writes}
 use Rattle.psm_codegen.proofs.Placing.{Kept, kept-earlier}
 use Rattle.psm_typing.specs.TypingContext.{TypingContext}
 use Rattle.psm_codegen_wellformed.specs.Frame.{Follows, Free, WellFormedLines}

@@ -7,13 +7,13 @@ use Rattle.psm_code.specs.declared.code.RawRoutine.{RawRoutine}
 use Rattle.psm_code.specs.declared.code.RawCode.{RawCode}
 use Rattle.psm_resolved.specs.declared.expr.ResolvedExpr.{ResolvedExpr}
 use Rattle.psm_resolved.specs.declared.statement.ResolvedDeclaration.{ResolvedDeclaration}
-use Rattle.psm_codegen.specs.declared.known.Known.{Known}
+use Rattle.psm_exprgen.specs.declared.known.Known.{Known}
+use Rattle.psm_exprgen.specs.Written.{Written, applied, here, last_letter, takes}
+use Rattle.psm_exprgen.specs.Writing.{Begins}
 use Rattle.psm_codegen.specs.Simples.{Declares, Default, copied}
 use Rattle.psm_codegen.specs.Simples as written
-use Rattle.psm_codegen.specs.Written.{Written, applied, here, last_letter, takes}
-use Rattle.psm_codegen.specs.Writing.{Begins}
 use Rattle.psm_code.specs.declared.instruction.Instruction.TheVariants as instruction
-use Rattle.psm_codegen.proofs.Growth.{begins-earlier, grows-on, grows-takes}
+use Rattle.psm_exprgen.proofs.Growth.{begins-earlier, grows-on, grows-takes}
 use Rattle.psm_codegen.proofs.GrowthSimples.{grows-copied, grows-declares}
 use Rattle.psm_typing.specs.TypingContext.{Each, TypingContext}
 use Rattle.psm_typing.specs.Statements.{IsDeclaration, IsDefault}

@@ -14,16 +14,16 @@ use Rattle.psm_code.specs.declared.instruction.Instruction.TheVariants as instru
 use Rattle.psm_code.specs.Instructions.{plan_letters}
 use Rattle.psm_code.specs.Rules.{is_there, there}
 use Rattle.psm_code.specs.RoutineRules.{context_there}
+use Rattle.psm_exprgen.specs.declared.known.Known.{Known}
+use Rattle.psm_exprgen.specs.Queries.{item_letters}
+use Rattle.psm_exprgen.specs.Written.{puts, with_query}
+use Rattle.psm_exprgen.specs.Writing.{BeginsWith}
+use Rattle.psm_exprgen.proofs.Growth.{begins-before}
 use Rattle.psm_codegen.specs.declared.enclosing.EnclosingBlock.{EnclosingBlock}
-use Rattle.psm_codegen.specs.declared.known.Known.{Known}
 use Rattle.psm_codegen.specs.FunctionBuilder.{FunctionBuilder, at}
-use Rattle.psm_codegen.specs.Queries.{item_letters}
 use Rattle.psm_codegen.specs.Simples.{Deletes, Updates, WritesSimple, cleared, condition_number, declared_with, procedure_number}
 use Rattle.psm_codegen.specs.Simples as written
 use Rattle.psm_codegen.specs.Standing.{is_among}
-use Rattle.psm_codegen.specs.Written.{puts, with_query}
-use Rattle.psm_codegen.specs.Writing.{BeginsWith}
-use Rattle.psm_codegen.proofs.Growth.{begins-before}
 use Rattle.psm_codegen.proofs.GrowthSimples.{grows-retrieved}
 use Rattle.psm_codegen.proofs.Placing.{Kept}
 use Rattle.psm_codegen.proofs.There.{there_at}

@@ -14,20 +14,20 @@ use Rattle.psm_code.specs.declared.code.RawRoutine.{RawRoutine}
 use Rattle.psm_code.specs.declared.instruction.Instruction.TheVariants as instruction
 use Rattle.psm_code.specs.Instructions.{statement_letter}
 use Rattle.psm_simulation.specs.Scheme.{slots_given}
+use Rattle.psm_exprgen.specs.declared.known.Known.{Known}
+use Rattle.psm_exprgen.specs.Queries.{item_letters}
+use Rattle.psm_exprgen.specs.Written.{Written, applied, here, last_letter, letters_at, plain, puts, takes, with_query}
+use Rattle.psm_exprgen.specs.Writing.{Begins, Grows}
+use Rattle.psm_exprgen.proofs.Growth.{begins-earlier, grows-applied, grows-on, grows-plain, grows-puts, grows-query, grows-taken, grows-takes, grows-writes}
 use Rattle.psm_codegen.specs.declared.enclosing.EnclosingBlock.{EnclosingBlock}
 use Rattle.psm_codegen.specs.declared.enclosing.EnclosingBlock.TheVariants.{Loop, Block, Rows}
-use Rattle.psm_codegen.specs.declared.known.Known.{Known}
 use Rattle.psm_codegen.specs.FunctionBuilder.{FunctionBuilder, at, block_entered, iterates, leaves, next_context, with_plain}
-use Rattle.psm_codegen.specs.Queries.{item_letters}
 use Rattle.psm_codegen.specs.Simples.{WritesSimple, cleared, more_operands, number_op, procedure_number, statement_items}
 use Rattle.psm_codegen.specs.Simples as simple
 use Rattle.psm_codegen.specs.Statements.{WritesBranches, WritesComparisons, WritesCursors, WritesElse, WritesStatement, WritesStatements, jumped, opened, passed, unless_true}
 use Rattle.psm_codegen.specs.Statements as written
-use Rattle.psm_codegen.specs.Written.{Written, applied, here, last_letter, letters_at, plain, puts, takes, with_query}
-use Rattle.psm_codegen.specs.Writing.{Begins, Grows}
 use Rattle.psm_codegen.proofs.Growing.{Grown, grown-cursors, grown-entered, grown-fetched, grown-on, grown-opened, grown-passed, grown-plain, no_context}
 use Rattle.psm_codegen.proofs.GrowingAll.{grown-all, grown-branches, grown-comparisons, grown-else, grown-handlers}
-use Rattle.psm_codegen.proofs.Growth.{begins-earlier, grows-applied, grows-on, grows-plain, grows-puts, grows-query, grows-taken, grows-takes, grows-writes}
 use Rattle.psm_codegen.proofs.GrowthSimples.{grows-call, grows-condition_items, grows-iterates, grows-leaves, grows-retrieved, grows-rows, grows-signals, grows-statement_items, grows-stored}
 use Rattle.psm_codegen_wellformed.specs.Frame.{Follows}
 use Rattle.psm_codegen_wellformed.proofs.Declaring.{declares-starts}

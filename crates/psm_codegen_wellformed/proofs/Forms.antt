@@ -34,9 +34,9 @@ use Rattle.psm_code.specs.Parts.{slots_of}
 use Rattle.psm_code.specs.RoutineRules.{constant_fits, jump_of, may_stand, names_there}
 use Rattle.psm_code.specs.Rules.{is_some, there}
 use Rattle.psm_simulation.specs.Expressions.{Layer, is_straight, negating, operands_of, operations_of, scaling}
-use Rattle.psm_codegen.specs.declared.known.Known.{Known}
-use Rattle.psm_codegen.specs.Exprs.{straight_letter}
-use Rattle.psm_codegen.specs.Written.{Written}
+use Rattle.psm_exprgen.specs.declared.known.Known.{Known}
+use Rattle.psm_exprgen.specs.Exprs.{straight_letter}
+use Rattle.psm_exprgen.specs.Written.{Written}
 use Rattle.psm_typing.specs.Expressions.{AreExprs}
 use Rattle.psm_typing.specs.Expressions as well_typed
 use Rattle.psm_typing.specs.TypingContext.{TypingContext}

@@ -21,14 +21,14 @@ use Rattle.psm_resolved.specs.declared.expr.ResolvedWhen.{ResolvedWhen, out-Reso
 use Rattle.psm_resolved.specs.RowType as row_types
 use Rattle.psm_resolved.specs.Written.{letter_of_operator, op_of_logical_operator, op_of_operator}
 use Rattle.psm_simulation.specs.Expressions.{Layer, operands_of, operations_of, scaling}
-use Rattle.psm_codegen.specs.declared.known.Known.{Known}
-use Rattle.psm_codegen.specs.Exprs.{Arguments, Compares, Firsts, Joins, ChainLinks, Otherwise, Whens, Writes, WritesAll, function_number, straight_letter}
-use Rattle.psm_codegen.specs.Exprs as written
-use Rattle.psm_codegen.specs.Queries.{item_letters}
-use Rattle.psm_codegen.specs.Written.{Written, all_applied, applied, here, last_letter, letter_at, taken, with_query}
-use Rattle.psm_codegen.specs.Writing.{Begins}
-use Rattle.psm_codegen.proofs.Counts.{here-applied, here-taken}
-use Rattle.psm_codegen.proofs.Growth.{begins-earlier, grows-all, grows-all_applied, grows-applied, grows-arguments, grows-compares, grows-firsts, grows-joins, grows-chain_links, grows-otherwise, grows-puts, grows-taken, grows-whens, grows-writes}
+use Rattle.psm_exprgen.specs.declared.known.Known.{Known}
+use Rattle.psm_exprgen.specs.Exprs.{Arguments, Compares, Firsts, Joins, ChainLinks, Otherwise, Whens, Writes, WritesAll, function_number, straight_letter}
+use Rattle.psm_exprgen.specs.Exprs as written
+use Rattle.psm_exprgen.specs.Queries.{item_letters}
+use Rattle.psm_exprgen.specs.Written.{Written, all_applied, applied, here, last_letter, letter_at, taken, with_query}
+use Rattle.psm_exprgen.specs.Writing.{Begins}
+use Rattle.psm_exprgen.proofs.Counts.{here-applied, here-taken}
+use Rattle.psm_exprgen.proofs.Growth.{begins-earlier, grows-all, grows-all_applied, grows-applied, grows-arguments, grows-compares, grows-firsts, grows-joins, grows-chain_links, grows-otherwise, grows-puts, grows-taken, grows-whens, grows-writes}
 use Rattle.psm_codegen.proofs.There.{there_at}
 use Rattle.psm_typing.specs.Expressions.{AreAll, AreExprs, AreChainLinks, AreWhens, IsElse, IsExpr}
 use Rattle.psm_typing.specs.Expressions as well_typed

@@ -23,10 +23,10 @@ use Rattle.psm_code.specs.Parts.{block_at, block_of_context, line_at}
 use Rattle.psm_code.specs.RoutineRules.{are_new, context_fault, context_there, exits, handler_fault, is_action_context, is_action_line, is_exit_of, is_parent, is_named, is_undo, is_value_well_formed, value_there, values_in}
 use Rattle.psm_code.specs.Rules.{first_of, is_some, there, unless, where_there}
 use Rattle.psm_code.specs.TableRules.{are_there}
+use Rattle.psm_exprgen.specs.Writing.{BeginsWith}
+use Rattle.psm_exprgen.proofs.Growth.{begins-before, begins-more}
 use Rattle.psm_codegen.specs.FunctionBuilder.{FunctionBuilder, at, block_entered, next_context, several_values, with_handler}
-use Rattle.psm_codegen.specs.Writing.{BeginsWith}
 use Rattle.psm_codegen.proofs.Growing.{begins-length, length-snoc}
-use Rattle.psm_codegen.proofs.Growth.{begins-before, begins-more}
 use Rattle.psm_codegen.proofs.Placing.{context-there}
 use Rattle.psm_codegen.proofs.There.{there_at}
 use Rattle.psm_typing.specs.TypingContext.{Each, IsThere, TypingContext}

@@ -18,7 +18,7 @@ use Rattle.psm_code.specs.Parts.{gives}
 use Rattle.psm_code.specs.RoutineRules.{are_apart, are_distinct_of, are_same_kinds, parameter_fault, routine_fault, same_truth, type_fault}
 use Rattle.psm_code.specs.Rules.{each_after, first_of, is_same, is_some, there, unless, where_there}
 use Rattle.psm_simulation.specs.Simulation.{mode_of, parameter_of}
-use Rattle.psm_codegen.specs.declared.known.Known.{Known}
+use Rattle.psm_exprgen.specs.declared.known.Known.{Known}
 use Rattle.psm_codegen.specs.Files.{RoutineWritten, RoutinesWritten, gives_back, is_function, known_of}
 use Rattle.psm_wellformed.specs.Files.{WellFormedRoutine, are_new_names, are_distinct, is_apart_from, is_name_among, is_passed}
 use Rattle.psm_typing.specs.TypingContext.{Begin, Each}

@@ -31,10 +31,10 @@ use Rattle.psm_code.specs.Instructions.{parameter_letters}
 use Rattle.psm_code.specs.Parts.{slots_of}
 use Rattle.psm_simulation.specs.Expressions.{wants}
 use Rattle.psm_simulation.specs.Simulation.{parameter_of}
-use Rattle.psm_codegen.specs.Exprs.{function_number}
+use Rattle.psm_exprgen.specs.Exprs.{function_number}
+use Rattle.psm_exprgen.specs.Queries.{Layer, are_items, column_letters, is_query, is_test_perhaps, is_value_of, is_value_perhaps, item_letters, letter_of_set, letter_of_row_type, letters_of_layer}
+use Rattle.psm_exprgen.specs.Written.{letters_at, letters_or}
 use Rattle.psm_codegen.specs.Files.{FileWritten, RoutineWritten, RoutinesWritten, gives_back, known_of, letter_of_result, letters_of}
-use Rattle.psm_codegen.specs.Queries.{Layer, are_items, column_letters, is_query, is_test_perhaps, is_value_of, is_value_perhaps, item_letters, letter_of_set, letter_of_row_type, letters_of_layer}
-use Rattle.psm_codegen.specs.Written.{letters_at, letters_or}
 use Rattle.psm_resolved.specs.Written.{letter_or}
 use Rattle.psm_codegen.proofs.Numbers.{known_functions}
 use Rattle.psm_typing.specs.Queries.{AreItems, AreRowValues, AreSets, IsOperand, IsQuery}

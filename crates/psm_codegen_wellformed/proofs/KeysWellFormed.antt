@@ -9,8 +9,8 @@ use Rattle.psm_code.specs.declared.code.RawCode.{RawCode}
 use Rattle.psm_code.specs.declared.rule.CodeRule.TheVariants.{Definition}
 use Rattle.psm_code.specs.Rules.{unless}
 use Rattle.psm_code.specs.TableRules.{are_in_turn, foreign_key_fault, foreign_key_to, keys_from, pair_fault}
+use Rattle.psm_exprgen.specs.Queries.{TablesMade}
 use Rattle.psm_codegen.specs.Files.{FileWritten}
-use Rattle.psm_codegen.specs.Queries.{TablesMade}
 use Rattle.psm_wellformed.specs.Files.{WellFormedFile, WellFormedKey}
 use Rattle.psm_typing.specs.TypingContext.{Each}
 use Rattle.psm_codegen_wellformed.proofs.Faultless.{Faultless}

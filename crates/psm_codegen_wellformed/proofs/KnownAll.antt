@@ -23,14 +23,14 @@ use Rattle.psm_code.specs.Instructions.{column_letters, letters_in, table_letter
 use Rattle.psm_code.specs.Instructions as code_of
 use Rattle.psm_code.specs.Rules.{is_there, there}
 use Rattle.psm_code.specs.TableRules.{are_there}
-use Rattle.psm_codegen.specs.declared.known.Known.{Known}
+use Rattle.psm_exprgen.specs.declared.known.Known.{Known}
+use Rattle.psm_exprgen.specs.Queries.{TablesMade}
+use Rattle.psm_exprgen.specs.Queries as known_letters
+use Rattle.psm_exprgen.specs.Writing.{BeginsWith}
+use Rattle.psm_exprgen.specs.Written.{letter_at, letters_at, letters_or}
 use Rattle.psm_codegen.specs.Files.{known_of}
 use Rattle.psm_codegen.specs.FunctionBuilder.{FunctionBuilder}
-use Rattle.psm_codegen.specs.Queries.{TablesMade}
-use Rattle.psm_codegen.specs.Queries as known_letters
 use Rattle.psm_codegen.specs.Simples.{letters_of_columns}
-use Rattle.psm_codegen.specs.Writing.{BeginsWith}
-use Rattle.psm_codegen.specs.Written.{letter_at, letters_at, letters_or}
 use Rattle.psm_typing.specs.TypingContext.{IsThere, TypingContext}
 use Rattle.psm_typing.specs.Statements.{IsCondition, IsSimple, StatementScope}
 use Rattle.psm_wellformed.specs.Simples.{WellFormedSimple}

@@ -6,14 +6,14 @@ use Rattle.psm_code.specs.declared.code.RawCode.{RawCode}
 use Rattle.psm_code.specs.declared.code.RawRoutine.{RawRoutine}
 use Rattle.psm_code.specs.declared.instruction.Instruction.TheVariants as instruction
 use Rattle.psm_code.specs.RoutineRules.{context_there}
+use Rattle.psm_exprgen.specs.Written.{Written, here, plain}
+use Rattle.psm_exprgen.specs.Writing.{Begins, Grows}
+use Rattle.psm_exprgen.proofs.Counts.{here-plain}
+use Rattle.psm_exprgen.proofs.Growth.{begins-earlier, grows-on, grows-plain}
 use Rattle.psm_codegen.specs.declared.enclosing.EnclosingBlock.{EnclosingBlock}
 use Rattle.psm_codegen.specs.declared.enclosing.EnclosingBlock.TheVariants.{Loop, Block, Rows}
 use Rattle.psm_codegen.specs.FunctionBuilder.{iterates, leaves}
 use Rattle.psm_codegen.specs.Standing.{is_among}
-use Rattle.psm_codegen.specs.Written.{Written, here, plain}
-use Rattle.psm_codegen.specs.Writing.{Begins, Grows}
-use Rattle.psm_codegen.proofs.Counts.{here-plain}
-use Rattle.psm_codegen.proofs.Growth.{begins-earlier, grows-on, grows-plain}
 use Rattle.psm_codegen.proofs.Scoping.{labels_of, loops_of}
 use Rattle.psm_codegen_wellformed.specs.Frame.{Follows, Free}
 use Rattle.psm_codegen_wellformed.proofs.Frees.{free-as}

@@ -8,17 +8,17 @@ use Rattle.psm_resolved.specs.declared.statement.ResolvedHandler.{ResolvedHandle
 use Rattle.psm_resolved.specs.declared.statement.ResolvedSimple.{ResolvedSimple}
 use Rattle.psm_resolved.specs.declared.statement.ResolvedStatement.{ResolvedStatement}
 use Rattle.psm_code.specs.declared.code.CodeCursor.{CodeCursor}
+use Rattle.psm_exprgen.specs.declared.known.Known.{Known}
+use Rattle.psm_exprgen.specs.Queries.{cursor_of, item_letters}
+use Rattle.psm_exprgen.specs.Writing.{BeginsWith}
+use Rattle.psm_exprgen.proofs.Growth.{begins-before, begins-here, begins-more}
 use Rattle.psm_codegen.specs.declared.enclosing.EnclosingBlock.{EnclosingBlock}
-use Rattle.psm_codegen.specs.declared.known.Known.{Known}
 use Rattle.psm_codegen.specs.FunctionBuilder.{FunctionBuilder, at, block_entered, next_context}
-use Rattle.psm_codegen.specs.Queries.{cursor_of, item_letters}
 use Rattle.psm_codegen.specs.Simples.{WritesSimple}
 use Rattle.psm_codegen.specs.Simples as simple
 use Rattle.psm_codegen.specs.Statements.{WritesBranches, WritesComparisons, WritesCursors, WritesElse, WritesHandlers, WritesStatement, WritesStatements, passed}
 use Rattle.psm_codegen.specs.Statements as written
-use Rattle.psm_codegen.specs.Writing.{BeginsWith}
 use Rattle.psm_codegen.proofs.Growing.{length-snoc}
-use Rattle.psm_codegen.proofs.Growth.{begins-before, begins-here, begins-more}
 
 -- from lists of letters and of cursors to others
 pub record Lettering (ls : List (List Letter)) (cs : List CodeCursor) (ms : List (List Letter)) (ds : List CodeCursor) : Type 0 where

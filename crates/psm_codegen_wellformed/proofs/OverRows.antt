@@ -11,16 +11,16 @@ use Rattle.psm_code.specs.declared.instruction.Instruction.TheVariants as instru
 use Rattle.psm_code.specs.Instructions.{cursor_letters, next_effect}
 use Rattle.psm_code.specs.Rules.{is_there}
 use Rattle.psm_code.specs.RoutineRules.{context_there}
+use Rattle.psm_exprgen.specs.declared.known.Known.{Known}
+use Rattle.psm_exprgen.specs.Written.{Written, here, letters_at, plain, puts, takes}
+use Rattle.psm_exprgen.specs.Writing.{Begins, BeginsWith}
+use Rattle.psm_exprgen.proofs.Counts.{here-plain, here-puts, here-takes}
+use Rattle.psm_exprgen.proofs.Growth.{begins-earlier, grows-plain, grows-puts}
 use Rattle.psm_codegen.specs.declared.enclosing.EnclosingBlock.{EnclosingBlock}
 use Rattle.psm_codegen.specs.declared.enclosing.EnclosingBlock.TheVariants.{Loop, Rows}
-use Rattle.psm_codegen.specs.declared.known.Known.{Known}
 use Rattle.psm_codegen.specs.FunctionBuilder.{FunctionBuilder, at, block_entered, next_context, with_plain}
 use Rattle.psm_codegen.specs.Statements.{WritesCursors, fetched, jumped, opened}
-use Rattle.psm_codegen.specs.Written.{Written, here, letters_at, plain, puts, takes}
-use Rattle.psm_codegen.specs.Writing.{Begins, BeginsWith}
-use Rattle.psm_codegen.proofs.Counts.{here-plain, here-puts, here-takes}
 use Rattle.psm_codegen.proofs.Growing.{Grown, grown-fetched, grown-opened, grown-plain, no_context}
-use Rattle.psm_codegen.proofs.Growth.{begins-earlier, grows-plain, grows-puts}
 use Rattle.psm_codegen.proofs.Placing.{Kept, kept-earlier}
 use Rattle.psm_codegen.proofs.There.{line_of}
 use Rattle.psm_typing.specs.TypingContext.{TypingContext}

@@ -2,9 +2,9 @@
 use Rattle.std.proofs.Common.{◌≡◌, List, [], ◌∙◌, sym, append-nil}
 use Rattle.psm_resolved.specs.declared.file.ResolvedRoutine.{ResolvedRoutine}
 use Rattle.psm_code.specs.declared.code.RawRoutine.{RawRoutine}
-use Rattle.psm_codegen.specs.declared.known.Known.{Known}
+use Rattle.psm_exprgen.specs.declared.known.Known.{Known}
+use Rattle.psm_exprgen.specs.Writing.{BeginsWith}
 use Rattle.psm_codegen.specs.Files.{RoutineWritten}
-use Rattle.psm_codegen.specs.Writing.{BeginsWith}
 use Rattle.psm_codegen.proofs.Placing.{Kept}
 
 pub begins-same : {A : Type 0} {xs ys : List A} → ys ≡ xs → BeginsWith xs ys

@@ -19,14 +19,14 @@ use Rattle.psm_code.specs.Parts.{line_at}
 use Rattle.psm_code.specs.RoutineRules.{is_bare, stands_alone}
 use Rattle.psm_code.specs.Rules.{is_some, unless}
 use Rattle.psm_code.specs.TableRules.{are_there}
+use Rattle.psm_exprgen.specs.declared.known.Known.{Known}
+use Rattle.psm_exprgen.specs.Written.{Written, here}
+use Rattle.psm_exprgen.specs.Writing.{BeginsWith}
 use Rattle.psm_codegen.specs.declared.enclosing.EnclosingBlock.{EnclosingBlock}
-use Rattle.psm_codegen.specs.declared.known.Known.{Known}
 use Rattle.psm_codegen.specs.FunctionBuilder.{FunctionBuilder}
 use Rattle.psm_codegen.specs.Simples.{WritesSimple, declared_with}
 use Rattle.psm_codegen.specs.Simples as simple
 use Rattle.psm_codegen.specs.Statements.{passed}
-use Rattle.psm_codegen.specs.Written.{Written, here}
-use Rattle.psm_codegen.specs.Writing.{BeginsWith}
 use Rattle.psm_codegen.proofs.Growing.{Grown, begins-length, no_context, own_in}
 use Rattle.psm_codegen.proofs.Placing.{Kept, kept-earlier}
 use Rattle.psm_codegen.proofs.There.{line_of, there_at}

@@ -17,8 +17,8 @@ use Rattle.psm_code.specs.Instructions.{last}
 use Rattle.psm_code.specs.Parts.{block_at, line_at}
 use Rattle.psm_code.specs.Rules.{is_some, is_there, there, where_there}
 use Rattle.psm_code.specs.RoutineRules.{context_after, context_there, is_action_context, is_in, is_turn, jump_of, parent_of_context, stands_alone, stands_well_formed, uses_turn, wants_resume}
-use Rattle.psm_codegen.specs.Written.{Written, here}
-use Rattle.psm_codegen.specs.Writing.{BeginsWith}
+use Rattle.psm_exprgen.specs.Written.{Written, here}
+use Rattle.psm_exprgen.specs.Writing.{BeginsWith}
 use Rattle.psm_codegen.proofs.There.{line_of, there_at}
 use Rattle.psm_codegen_wellformed.specs.Frame.{Follows, Free}
 use Rattle.psm_codegen_wellformed.proofs.Lines.{Ahead, Away, Does, both, follows-inside, follows-stated, follows-there, free-one, goes-fall_through, line-well_formed, never-fall_through, no-jump, or_first, or_second, resumes-never}

@@ -21,10 +21,10 @@ use Rattle.psm_code.specs.Instructions.{columns_at, letters_of_query, variables_
 use Rattle.psm_code.specs.PlanRules.{are_items, columns_there, cursor_table, expr_in, fits_columns, is_column_letter, is_positioned, or_none, plan_faults, set_faults, sets_in, table_of_query, test_in}
 use Rattle.psm_code.specs.Rules.{are_distinct, each_after, is_among, is_some, is_there, there, where_there}
 use Rattle.psm_code.specs.TableRules.{are_there, is_column_list}
-use Rattle.psm_codegen.specs.declared.known.Known.{Known}
-use Rattle.psm_codegen.specs.Queries.{QueryMade, RowTestFits, SetsMade, SourcesFit, TestMade, cursor_of, item_letters}
+use Rattle.psm_exprgen.specs.declared.known.Known.{Known}
+use Rattle.psm_exprgen.specs.Queries.{QueryMade, RowTestFits, SetsMade, SourcesFit, TestMade, cursor_of, item_letters}
+use Rattle.psm_exprgen.specs.Written.{letter_at, letters_at}
 use Rattle.psm_codegen.specs.Simples.{letters_of_columns}
-use Rattle.psm_codegen.specs.Written.{letter_at, letters_at}
 use Rattle.psm_wellformed.specs.Simples.{AreColumns, AreSets, MayChange}
 use Rattle.psm_typing.specs.TypingContext.{Each, TypingContext}
 use Rattle.psm_typing.specs.Statements.{StatementScope}

@@ -19,11 +19,11 @@ use Rattle.psm_code.specs.Parts.{gives, giving, takes, taking}
 use Rattle.psm_simulation.specs.Expressions.{wants}
 use Rattle.psm_simulation.specs.Scheme.{slots_given}
 use Rattle.psm_simulation.specs.Simulation.{mode_of, parameter_of}
-use Rattle.psm_codegen.specs.declared.known.Known.{Known}
+use Rattle.psm_exprgen.specs.declared.known.Known.{Known}
 use Rattle.psm_codegen.specs.Files.{FileWritten, RoutineWritten, gives_back, is_function, known_of, letters_of}
 use Rattle.psm_meaning.specs.Calls.{procedure_at, returns}
+use Rattle.psm_exprgen.specs.Written.{letters_or}
 use Rattle.psm_codegen.specs.Simples.{procedure_number}
-use Rattle.psm_codegen.specs.Written.{letters_or}
 use Rattle.psm_codegen.proofs.Numbers.{known_procedures}
 use Rattle.psm_typing.specs.TypingContext.{Begin, TypingContext, taken_by}
 use Rattle.psm_typing.specs.TypingContext as typing_contexts

@@ -19,10 +19,10 @@ use Rattle.psm_code.specs.declared.lines.CodeLine.{CodeLine}
 use Rattle.psm_code.specs.Parts.{line_at}
 use Rattle.psm_code.specs.Rules.{is_some}
 use Rattle.psm_code.specs.RoutineRules.{context_after, context_there, jump_of, stands_alone, stands_well_formed}
-use Rattle.psm_codegen.specs.Written.{Written, all_applied, applied, here, puts, taken}
-use Rattle.psm_codegen.specs.Writing.{Begins, BeginsWith, Grows}
-use Rattle.psm_codegen.proofs.Counts.{here-puts}
-use Rattle.psm_codegen.proofs.Growth.{begins-earlier, grows-all_applied}
+use Rattle.psm_exprgen.specs.Written.{Written, all_applied, applied, here, puts, taken}
+use Rattle.psm_exprgen.specs.Writing.{Begins, BeginsWith, Grows}
+use Rattle.psm_exprgen.proofs.Counts.{here-puts}
+use Rattle.psm_exprgen.proofs.Growth.{begins-earlier, grows-all_applied}
 use Rattle.psm_codegen.proofs.There.{line_of, there_at}
 use Rattle.psm_codegen_wellformed.specs.Frame.{Ends, Follows, Free}
 use Rattle.psm_codegen_wellformed.proofs.Lines.{Ahead, Away, Does, free-join, free-none, free-one, goes-fall_through, jumps-on, line-well_formed, never-fall_through, no-jump, or_first, resumes-following}

@@ -27,9 +27,9 @@ use Rattle.psm_code.specs.declared.rule.CodeRule.TheVariants.{Range, Definition}
 use Rattle.psm_code.specs.Instructions.{columns_at, variables_of}
 use Rattle.psm_code.specs.PlanRules.{cursor_fault, expr_in, has_items, has_operand, has_rows, is_due, item_in, items_in, operand_in, query_faults, set_in, test_in}
 use Rattle.psm_code.specs.Rules.{is_some, is_there, there, where_there}
-use Rattle.psm_codegen.specs.declared.known.Known.{Known}
-use Rattle.psm_codegen.specs.Queries.{AggregatesFit, ExprsFit, ItemsFit, Layer, OperandFits, QueryMade, RowTestFits, are_items, is_test_perhaps, is_value_of, letter_of_row_type}
-use Rattle.psm_codegen.specs.Written.{letters_at}
+use Rattle.psm_exprgen.specs.declared.known.Known.{Known}
+use Rattle.psm_exprgen.specs.Queries.{AggregatesFit, ExprsFit, ItemsFit, Layer, OperandFits, QueryMade, RowTestFits, are_items, is_test_perhaps, is_value_of, letter_of_row_type}
+use Rattle.psm_exprgen.specs.Written.{letters_at}
 use Rattle.psm_wellformed.specs.Queries.{WellFormedQuery, are_well_formed, is_operand, is_set_function, items_of}
 use Rattle.psm_wellformed.specs.Queries as well_formed
 use Rattle.psm_typing.specs.Queries.{IsQuery}

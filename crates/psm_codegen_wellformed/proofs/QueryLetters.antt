@@ -23,9 +23,9 @@ use Rattle.psm_code.specs.declared.code.RawCode.{RawCode}
 use Rattle.psm_code.specs.declared.code.RawRoutine.{RawRoutine}
 use Rattle.psm_code.specs.Instructions.{columns_at, columns_of_table, letters_of_query, set_letter, variables_of}
 use Rattle.psm_code.specs.Instructions as code_letters
-use Rattle.psm_codegen.specs.declared.known.Known.{Known}
-use Rattle.psm_codegen.specs.Queries.{AggregatesFit, ExprsFit, ItemsFit, Layer, OperandFits, QueryMade, TablesMade, column_letters, item_letters, letter_of_item, letter_of_set, letter_of_row_type, letters_of_layer}
-use Rattle.psm_codegen.specs.Written.{letters_at}
+use Rattle.psm_exprgen.specs.declared.known.Known.{Known}
+use Rattle.psm_exprgen.specs.Queries.{AggregatesFit, ExprsFit, ItemsFit, Layer, OperandFits, QueryMade, TablesMade, column_letters, item_letters, letter_of_item, letter_of_set, letter_of_row_type, letters_of_layer}
+use Rattle.psm_exprgen.specs.Written.{letters_at}
 use Rattle.psm_codegen_wellformed.specs.Kept.{QueriesKeep}
 use Rattle.psm_codegen_wellformed.proofs.RowLines.{fit-letter}
 

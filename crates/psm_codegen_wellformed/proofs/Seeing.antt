@@ -10,15 +10,15 @@ use Rattle.psm_code.specs.declared.code.RawCode.{RawCode}
 use Rattle.psm_code.specs.declared.code.RawRoutine.{RawRoutine}
 use Rattle.psm_code.specs.Instructions.{cursor_letters, letters_of_query, of_cursor, query_letters}
 use Rattle.psm_code.specs.Rules.{is_there, there}
+use Rattle.psm_exprgen.specs.declared.known.Known.{Known}
+use Rattle.psm_exprgen.specs.Queries.{cursor_of, item_letters}
+use Rattle.psm_exprgen.specs.Writing.{BeginsWith}
+use Rattle.psm_exprgen.specs.Written.{letters_at, letters_or}
 use Rattle.psm_codegen.specs.declared.enclosing.EnclosingBlock.{EnclosingBlock}
-use Rattle.psm_codegen.specs.declared.known.Known.{Known}
 use Rattle.psm_codegen.specs.FunctionBuilder.{FunctionBuilder}
-use Rattle.psm_codegen.specs.Queries.{cursor_of, item_letters}
 use Rattle.psm_codegen.specs.Standing.{CountsUp, is_among, numbers_of}
 use Rattle.psm_codegen.specs.Statements.{WritesCursors, with_cursor}
 use Rattle.psm_codegen.specs.Statements as written
-use Rattle.psm_codegen.specs.Writing.{BeginsWith}
-use Rattle.psm_codegen.specs.Written.{letters_at, letters_or}
 use Rattle.psm_codegen.proofs.Growing.{grown-cursors, length-snoc, no_context}
 use Rattle.psm_codegen.proofs.Placing.{Kept, kept-earlier}
 use Rattle.psm_codegen.proofs.Scoping.{labels_of, loops_of}

@@ -9,10 +9,10 @@ use Rattle.psm_code.specs.declared.code.RawCode.{RawCode}
 use Rattle.psm_code.specs.declared.code.RawRoutine.{RawRoutine}
 use Rattle.psm_code.specs.Instructions.{cursor_letters, letters_in, table_letters}
 use Rattle.psm_code.specs.Rules.{is_there}
-use Rattle.psm_codegen.specs.declared.known.Known.{Known}
+use Rattle.psm_exprgen.specs.declared.known.Known.{Known}
+use Rattle.psm_exprgen.specs.Written.{letters_at}
 use Rattle.psm_codegen.specs.FunctionBuilder.{FunctionBuilder}
 use Rattle.psm_codegen.specs.Simples.{letters_of_columns}
-use Rattle.psm_codegen.specs.Written.{letters_at}
 use Rattle.psm_typing.specs.TypingContext.{TypingContext}
 use Rattle.psm_wellformed.specs.Slots.{AreSlots}
 

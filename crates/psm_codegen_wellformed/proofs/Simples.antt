@@ -29,11 +29,11 @@ use Rattle.psm_code.specs.declared.instruction.Instruction.TheVariants as instru
 use Rattle.psm_code.specs.Instructions.{condition_letter, condition_mnemonic, statement_letter, statement_mnemonic}
 use Rattle.psm_code.specs.Rules.{is_some}
 use Rattle.psm_code.specs.RoutineRules.{jump_of}
-use Rattle.psm_codegen.specs.declared.known.Known.{Known}
-use Rattle.psm_codegen.specs.Exprs.{Writes}
+use Rattle.psm_exprgen.specs.declared.known.Known.{Known}
+use Rattle.psm_exprgen.specs.Exprs.{Writes}
+use Rattle.psm_exprgen.specs.Written.{Written, applied, letter_at, puts, takes}
 use Rattle.psm_codegen.specs.Simples.{CallArguments, Declares, Default, Signals, WritesRows, condition_items, item_stored, letter_of_slots, number_op, statement_items}
 use Rattle.psm_codegen.specs.Simples as written
-use Rattle.psm_codegen.specs.Written.{Written, applied, letter_at, puts, takes}
 use Rattle.psm_typing.specs.TypingContext.{Each, TypingContext, letters_of, taken_by, with_taken}
 use Rattle.psm_typing.specs.Statements.{AreArguments, IsDeclaration, IsDefault, IsMessage}
 use Rattle.psm_codegen_wellformed.specs.Frame.{WellFormedLines}

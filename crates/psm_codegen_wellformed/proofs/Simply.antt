@@ -22,13 +22,13 @@ use Rattle.psm_code.specs.Parts.{giving, routine_at}
 use Rattle.psm_code.specs.Rules.{is_some, is_there, there, where_there}
 use Rattle.psm_meaning.specs.Calls.{returns}
 use Rattle.psm_simulation.specs.Scheme.{slots_given}
-use Rattle.psm_codegen.specs.declared.known.Known.{Known}
-use Rattle.psm_codegen.specs.Exprs.{Writes}
+use Rattle.psm_exprgen.specs.declared.known.Known.{Known}
+use Rattle.psm_exprgen.specs.Exprs.{Writes}
+use Rattle.psm_exprgen.specs.Queries.{QueryMade, is_query, item_letters}
+use Rattle.psm_exprgen.specs.Written.{Written, applied, letter_at, letters_at, puts, takes, with_query}
 use Rattle.psm_codegen.specs.Files.{letter_of_result}
 use Rattle.psm_codegen.specs.FunctionBuilder.{FunctionBuilder}
-use Rattle.psm_codegen.specs.Queries.{QueryMade, is_query, item_letters}
 use Rattle.psm_codegen.specs.Simples.{CallArguments, Signals, cleared, condition_items, more_operands, number_op, retrieved, statement_items, stored}
-use Rattle.psm_codegen.specs.Written.{Written, applied, letter_at, letters_at, puts, takes, with_query}
 use Rattle.psm_typing.specs.Expressions.{IsExpr}
 use Rattle.psm_typing.specs.TypingContext.{TypingContext, letters_of, taken_by}
 use Rattle.psm_typing.specs.Statements.{AreArguments, IsFor, IsMessage}

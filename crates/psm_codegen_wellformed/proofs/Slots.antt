@@ -14,9 +14,9 @@ use Rattle.psm_code.specs.declared.code.RawRoutine.{RawRoutine}
 use Rattle.psm_code.specs.declared.instruction.Instruction.TheVariants as instruction
 use Rattle.psm_code.specs.Instructions.{slot_letter, taking_from}
 use Rattle.psm_code.specs.Parts.{slots_of}
-use Rattle.psm_codegen.specs.declared.known.Known.{Known}
+use Rattle.psm_exprgen.specs.declared.known.Known.{Known}
+use Rattle.psm_exprgen.specs.Written.{Written, applied, last_letter, takes}
 use Rattle.psm_codegen.specs.Simples.{copied, retrieved, stored}
-use Rattle.psm_codegen.specs.Written.{Written, applied, last_letter, takes}
 use Rattle.psm_typing.specs.TypingContext.{TypingContext}
 use Rattle.psm_codegen_wellformed.specs.Frame.{WellFormedLines}
 use Rattle.psm_wellformed.specs.Slots.{AreSlots, EachOf, SlotOf}

@@ -5,10 +5,10 @@ use Rattle.psm_resolved.specs.declared.expr.ResolvedExpr.{ResolvedExpr}
 use Rattle.psm_code.specs.declared.code.RawCode.{RawCode}
 use Rattle.psm_code.specs.declared.code.RawRoutine.{RawRoutine}
 use Rattle.psm_code.specs.RoutineRules.{context_there}
-use Rattle.psm_codegen.specs.declared.known.Known.{Known}
-use Rattle.psm_codegen.specs.Exprs.{Writes}
-use Rattle.psm_codegen.specs.Written.{Written, here}
-use Rattle.psm_codegen.specs.Writing.{Begins}
+use Rattle.psm_exprgen.specs.declared.known.Known.{Known}
+use Rattle.psm_exprgen.specs.Exprs.{Writes}
+use Rattle.psm_exprgen.specs.Written.{Written, here}
+use Rattle.psm_exprgen.specs.Writing.{Begins}
 use Rattle.psm_typing.specs.Expressions.{IsExpr}
 use Rattle.psm_typing.specs.TypingContext.{TypingContext}
 use Rattle.psm_codegen_wellformed.specs.Frame.{Ends, Follows, Free}

@@ -16,10 +16,10 @@ use Rattle.psm_resolved.specs.declared.expr.ResolvedWhen.{ResolvedWhen, out-Reso
 use Rattle.psm_resolved.specs.RowType as row_types
 use Rattle.psm_resolved.specs.Written.{letter_of_operator, letter_or}
 use Rattle.psm_simulation.specs.Expressions.{Layer, operands_of, operations_of, scaling}
-use Rattle.psm_codegen.specs.declared.known.Known.{Known}
-use Rattle.psm_codegen.specs.Exprs.{Arguments, Compares, Firsts, Joins, ChainLinks, Otherwise, Whens, Writes, WritesAll}
-use Rattle.psm_codegen.specs.Exprs as written
-use Rattle.psm_codegen.specs.Written.{Written, all_applied, last_letter, letter_at}
+use Rattle.psm_exprgen.specs.declared.known.Known.{Known}
+use Rattle.psm_exprgen.specs.Exprs.{Arguments, Compares, Firsts, Joins, ChainLinks, Otherwise, Whens, Writes, WritesAll}
+use Rattle.psm_exprgen.specs.Exprs as written
+use Rattle.psm_exprgen.specs.Written.{Written, all_applied, last_letter, letter_at}
 use Rattle.psm_typing.specs.Expressions.{AreAll, AreExprs, AreChainLinks, AreWhens, IsElse, IsExpr}
 use Rattle.psm_typing.specs.Expressions as well_typed
 use Rattle.psm_typing.specs.TypingContext.{TypingContext, letters_of, taken_by}

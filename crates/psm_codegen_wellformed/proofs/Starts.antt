@@ -11,12 +11,12 @@ use Rattle.psm_resolved.specs.declared.expr.ResolvedWhen.{ResolvedWhen}
 use Rattle.psm_resolved.specs.Written.{letter_of_operator, op_of_logical_operator, op_of_operator}
 use Rattle.psm_simulation.specs.Expressions.{operands_of, operations_of, scaling}
 use Rattle.std.specs.Prelude.{length}
-use Rattle.psm_codegen.specs.declared.known.Known.{Known}
-use Rattle.psm_codegen.specs.Exprs.{Arguments, Compares, Firsts, Joins, ChainLinks, Otherwise, Whens, Writes, WritesAll, straight_letter}
-use Rattle.psm_codegen.specs.Exprs as written
-use Rattle.psm_codegen.specs.Written.{Written, applied, here, last_letter, taken}
-use Rattle.psm_codegen.specs.Writing.{Begins}
-use Rattle.psm_codegen.proofs.Growth.{begins-earlier, grows-all, grows-all_applied, grows-applied, grows-arguments, grows-compares, grows-firsts, grows-joins, grows-line, grows-chain_links, grows-otherwise, grows-taken, grows-whens, grows-writes}
+use Rattle.psm_exprgen.specs.declared.known.Known.{Known}
+use Rattle.psm_exprgen.specs.Exprs.{Arguments, Compares, Firsts, Joins, ChainLinks, Otherwise, Whens, Writes, WritesAll, straight_letter}
+use Rattle.psm_exprgen.specs.Exprs as written
+use Rattle.psm_exprgen.specs.Written.{Written, applied, here, last_letter, taken}
+use Rattle.psm_exprgen.specs.Writing.{Begins}
+use Rattle.psm_exprgen.proofs.Growth.{begins-earlier, grows-all, grows-all_applied, grows-applied, grows-arguments, grows-compares, grows-firsts, grows-joins, grows-line, grows-chain_links, grows-otherwise, grows-taken, grows-whens, grows-writes}
 use Rattle.psm_codegen_wellformed.specs.Frame.{Follows}
 use Rattle.psm_codegen_wellformed.proofs.Putting.{all_applied-starts, line-starts}
 

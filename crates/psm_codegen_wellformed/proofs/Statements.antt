@@ -12,17 +12,17 @@ use Rattle.psm_code.specs.declared.instruction.Instruction.TheVariants as instru
 use Rattle.psm_code.specs.declared.lines.CodeLine.{CodeLine}
 use Rattle.psm_code.specs.Instructions.{last}
 use Rattle.psm_code.specs.RoutineRules.{context_there}
+use Rattle.psm_exprgen.specs.declared.known.Known.{Known}
+use Rattle.psm_exprgen.specs.Exprs.{Writes}
+use Rattle.psm_exprgen.specs.Written.{Written, here, takes}
+use Rattle.psm_exprgen.specs.Writing.{Begins}
+use Rattle.psm_exprgen.proofs.Counts.{here-plain, here-taken, here-takes}
+use Rattle.psm_exprgen.proofs.Growth.{begins-earlier, grows-on, grows-taken, grows-writes}
 use Rattle.psm_codegen.specs.declared.enclosing.EnclosingBlock.{EnclosingBlock}
 use Rattle.psm_codegen.specs.declared.enclosing.EnclosingBlock.TheVariants.{Loop}
-use Rattle.psm_codegen.specs.declared.known.Known.{Known}
-use Rattle.psm_codegen.specs.Exprs.{Writes}
 use Rattle.psm_codegen.specs.FunctionBuilder.{FunctionBuilder, at, with_code, with_plain}
 use Rattle.psm_codegen.specs.Statements.{jumped, unless_true}
-use Rattle.psm_codegen.specs.Written.{Written, here, takes}
-use Rattle.psm_codegen.specs.Writing.{Begins}
-use Rattle.psm_codegen.proofs.Counts.{here-plain, here-taken, here-takes}
 use Rattle.psm_codegen.proofs.Growing.{Grown, grown-code, grown-plain, no_context}
-use Rattle.psm_codegen.proofs.Growth.{begins-earlier, grows-on, grows-taken, grows-writes}
 use Rattle.psm_codegen.proofs.Placing.{Kept, kept-earlier}
 use Rattle.psm_codegen.proofs.There.{line_of, there_at}
 use Rattle.psm_typing.specs.TypingContext.{TypingContext}

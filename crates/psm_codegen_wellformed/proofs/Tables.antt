@@ -12,9 +12,9 @@ use Rattle.psm_code.specs.Instructions as code_letters
 use Rattle.psm_code.specs.PlanRules.{columns_there}
 use Rattle.psm_code.specs.Rules.{is_there, there, where_there}
 use Rattle.psm_code.specs.TableRules.{are_there}
-use Rattle.psm_codegen.specs.declared.known.Known.{Known}
+use Rattle.psm_exprgen.specs.declared.known.Known.{Known}
+use Rattle.psm_exprgen.specs.Written.{letter_at, letters_at}
 use Rattle.psm_codegen.specs.Simples.{letters_of_columns}
-use Rattle.psm_codegen.specs.Written.{letter_at, letters_at}
 use Rattle.psm_typing.specs.TypingContext.{TypingContext}
 use Rattle.psm_codegen_wellformed.proofs.KnownAll.{columns-letters as known-letters}
 use Rattle.psm_codegen_wellformed.proofs.Lines.{both}

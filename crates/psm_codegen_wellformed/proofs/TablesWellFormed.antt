@@ -17,8 +17,8 @@ use Rattle.psm_code.specs.declared.rule.CodeRule.{CodeRule}
 use Rattle.psm_code.specs.declared.rule.CodeRule.TheVariants.{Definition}
 use Rattle.psm_code.specs.Rules.{each_after, is_same}
 use Rattle.psm_code.specs.TableRules.{column_fault, expr_faults, foreign_key_fault, key_fault, keys_from, name_fault, table_faults, unique_fault}
+use Rattle.psm_exprgen.specs.Queries.{ChecksFit, TableMade, TablesMade}
 use Rattle.psm_codegen.specs.Files.{FileWritten}
-use Rattle.psm_codegen.specs.Queries.{ChecksFit, TableMade, TablesMade}
 use Rattle.psm_wellformed.specs.Files.{WellFormedFile, WellFormedTable, are_new_names, is_name_among}
 use Rattle.psm_typing.specs.TypingContext.{Each}
 use Rattle.psm_codegen_wellformed.proofs.Faultless.{Faultless, faultless-append, faultless-map}

@@ -13,18 +13,18 @@ use Rattle.psm_resolved.specs.declared.statement.ResolvedStatement.{ResolvedStat
 use Rattle.psm_code.specs.declared.code.RawCode.{RawCode}
 use Rattle.psm_code.specs.declared.code.RawRoutine.{RawRoutine}
 use Rattle.psm_code.specs.declared.instruction.Instruction.TheVariants as instruction
+use Rattle.psm_exprgen.specs.declared.known.Known.{Known}
+use Rattle.psm_exprgen.specs.Exprs.{Writes}
+use Rattle.psm_exprgen.specs.Written.{Written, last_letter, letters_or, taken}
+use Rattle.psm_exprgen.proofs.Growth.{grows-applied, grows-on, grows-taken, grows-writes}
 use Rattle.psm_codegen.specs.declared.enclosing.EnclosingBlock.{EnclosingBlock}
 use Rattle.psm_codegen.specs.declared.enclosing.EnclosingBlock.TheVariants.{Loop, Block, Rows}
-use Rattle.psm_codegen.specs.declared.known.Known.{Known}
 use Rattle.psm_codegen.specs.FunctionBuilder.{FunctionBuilder, at, block_entered, next_context, with_code}
 use Rattle.psm_codegen.specs.Standing.{CountsUp, cursors_of, numbers_of}
 use Rattle.psm_codegen.specs.Statements.{WritesBranches, WritesComparisons, WritesElse, WritesHandlers, WritesStatement, WritesStatements, fetched, jumped, opened, passed, unless_true}
 use Rattle.psm_codegen.specs.Statements as written
-use Rattle.psm_codegen.specs.Exprs.{Writes}
-use Rattle.psm_codegen.specs.Written.{Written, last_letter, letters_or, taken}
 use Rattle.psm_codegen.proofs.Growing.{Grown, grown-code, grown-entered, grown-fetched, grown-opened, grown-passed, grown-plain, no_context}
 use Rattle.psm_codegen.proofs.GrowingAll.{grown-all, grown-branches, grown-comparisons, grown-else, grown-handlers, grown-statement}
-use Rattle.psm_codegen.proofs.Growth.{grows-applied, grows-on, grows-taken, grows-writes}
 use Rattle.psm_codegen.proofs.Numbering.{block_cursors-out, branch_cursors-out, counted, counted-all, counted-branches, counted-comparisons, counted-cursors, counted-handlers, counts-split, cursors-out, cursors_in, cursors_in_branches, cursors_in_handlers, cursors_of_branch, cursors_of_handler, handler_cursors-out, passed-cursors}
 use Rattle.psm_codegen.proofs.Placing.{Kept, kept-earlier}
 use Rattle.psm_typing.specs.TypingContext.{TypingContext}

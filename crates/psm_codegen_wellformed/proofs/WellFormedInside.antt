@@ -7,7 +7,7 @@ use Rattle.psm_resolved.specs.declared.statement.ResolvedCursor.{ResolvedCursor}
 use Rattle.psm_resolved.specs.declared.statement.ResolvedHandler.{ResolvedHandler, out-ResolvedHandler}
 use Rattle.psm_resolved.specs.declared.statement.ResolvedStatement.{ResolvedStatement, out-ResolvedStatement}
 use Rattle.psm_resolved.specs.declared.statement.ResolvedStatement.TheOpen as layers
-use Rattle.psm_codegen.specs.declared.known.Known.{Known}
+use Rattle.psm_exprgen.specs.declared.known.Known.{Known}
 use Rattle.psm_codegen.specs.Standing.{Layer}
 use Rattle.psm_typing.specs.TypingContext.{Each, TypingContext}
 use Rattle.psm_typing.specs.Statements.{StatementScope}

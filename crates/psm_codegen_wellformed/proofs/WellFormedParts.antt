@@ -12,8 +12,8 @@ use Rattle.psm_resolved.specs.declared.expr.ResolvedQuery.{ResolvedQuery}
 use Rattle.psm_resolved.specs.declared.expr.ResolvedWhen.{ResolvedWhen, out-ResolvedWhen}
 use Rattle.psm_resolved.specs.RowValue.{listed}
 use Rattle.psm_simulation.specs.Expressions.{Layer, is_straight, operands_of}
-use Rattle.psm_codegen.specs.declared.known.Known.{Known}
-use Rattle.psm_codegen.specs.Queries.{is_query}
+use Rattle.psm_exprgen.specs.declared.known.Known.{Known}
+use Rattle.psm_exprgen.specs.Queries.{is_query}
 use Rattle.psm_typing.specs.Expressions.{AreExprs}
 use Rattle.psm_typing.specs.Expressions as well_typed
 use Rattle.psm_typing.specs.TypingContext.{TypingContext}

@@ -17,11 +17,11 @@ use Rattle.psm_code.specs.Instructions.{last}
 use Rattle.psm_code.specs.Rules.{is_some}
 use Rattle.psm_code.specs.RoutineRules.{context_after, falls_through, jump_of, stands_alone, stands_well_formed}
 use Rattle.psm_resolved.specs.declared.expr.ResolvedExpr.{ResolvedExpr}
-use Rattle.psm_codegen.specs.declared.known.Known.{Known}
-use Rattle.psm_codegen.specs.Exprs.{Arguments, Writes}
-use Rattle.psm_codegen.specs.Written.{Written, applied, last_letter, plain, puts, takes, with_query}
-use Rattle.psm_codegen.proofs.Counts.{here-applied, here-plain, here-puts, here-takes}
-use Rattle.psm_codegen.proofs.Growth.{begins-earlier, grows-applied, grows-arguments, grows-here, grows-on, grows-plain, grows-puts, grows-query, grows-takes, grows-writes}
+use Rattle.psm_exprgen.specs.declared.known.Known.{Known}
+use Rattle.psm_exprgen.specs.Exprs.{Arguments, Writes}
+use Rattle.psm_exprgen.specs.Written.{Written, applied, last_letter, plain, puts, takes, with_query}
+use Rattle.psm_exprgen.proofs.Counts.{here-applied, here-plain, here-puts, here-takes}
+use Rattle.psm_exprgen.proofs.Growth.{begins-earlier, grows-applied, grows-arguments, grows-here, grows-on, grows-plain, grows-puts, grows-query, grows-takes, grows-writes}
 use Rattle.psm_codegen.proofs.There.{line_of, there_at}
 use Rattle.psm_typing.specs.Expressions.{AreExprs, IsExpr}
 use Rattle.psm_typing.specs.TypingContext.{TypingContext}

@@ -6,8 +6,8 @@ use Rattle.psm_code.specs.declared.code.RawRoutine.{RawRoutine}
 use Rattle.psm_code.specs.declared.lines.CodeLine.{CodeLine}
 use Rattle.psm_code.specs.Parts.{line_at}
 use Rattle.psm_code.specs.RoutineRules.{context_there, line_fault}
-use Rattle.psm_codegen.specs.Written.{Written, here}
-use Rattle.psm_codegen.specs.Writing.{Begins, Grows}
+use Rattle.psm_exprgen.specs.Written.{Written, here}
+use Rattle.psm_exprgen.specs.Writing.{Begins, Grows}
 
 -- the lines from a line on, up to another one, are well-formed
 pub record Free (code : RawCode) (r : RawRoutine) (from to : ℕ) : Type 0 where

@@ -13,12 +13,12 @@ use Rattle.psm_code.specs.declared.code.RawCode.{RawCode}
 use Rattle.psm_code.specs.declared.code.RawRoutine.{RawRoutine}
 use Rattle.psm_code.specs.Instructions.{letters_of_query, parameter_letters, variables_of}
 use Rattle.psm_code.specs.Parts.{giving, routine_at, taking}
-use Rattle.psm_codegen.specs.declared.known.Known.{Known}
-use Rattle.psm_codegen.specs.Exprs.{function_number}
+use Rattle.psm_exprgen.specs.declared.known.Known.{Known}
+use Rattle.psm_exprgen.specs.Exprs.{function_number}
+use Rattle.psm_exprgen.specs.Queries.{QueryMade, is_query, item_letters}
+use Rattle.psm_exprgen.specs.Written.{letter_at, letters_at}
 use Rattle.psm_codegen.specs.Files.{gives_back, is_function, letter_of_result}
-use Rattle.psm_codegen.specs.Queries.{QueryMade, is_query, item_letters}
 use Rattle.psm_codegen.specs.Simples.{procedure_number}
-use Rattle.psm_codegen.specs.Written.{letter_at, letters_at}
 use Rattle.psm_typing.specs.Queries.{IsQuery}
 use Rattle.psm_typing.specs.TypingContext.{TypingContext, letters_of, taken_by}
 use Rattle.psm_typing.specs.TypingContext as typing_contexts

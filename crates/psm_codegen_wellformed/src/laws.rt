@@ -7,11 +7,11 @@ ghost use Rattle.psm_resolved.specs.declared.file.ResolvedRoutine.{ResolvedRouti
 ghost use Rattle.psm_code.specs.declared.code.RawCode.{RawCode};
 ghost use Rattle.psm_code.specs.declared.code.RawRoutine.{RawRoutine};
 ghost use Rattle.psm_code.specs.RoutineRules.{context_there, first_fault};
-ghost use Rattle.psm_codegen.specs.declared.known.Known.{Known};
-ghost use Rattle.psm_codegen.specs.Exprs.{Writes};
+ghost use Rattle.psm_exprgen.specs.declared.known.Known.{Known};
+ghost use Rattle.psm_exprgen.specs.Exprs.{Writes};
+ghost use Rattle.psm_exprgen.specs.Written.{Written, here};
+ghost use Rattle.psm_exprgen.specs.Writing.{Begins};
 ghost use Rattle.psm_codegen.specs.Files.{FileWritten, RoutineWritten, known_of};
-ghost use Rattle.psm_codegen.specs.Written.{Written, here};
-ghost use Rattle.psm_codegen.specs.Writing.{Begins};
 ghost use Rattle.psm_typing.specs.Expressions.{IsExpr};
 ghost use Rattle.psm_typing.specs.TypingContext.{TypingContext};
 ghost use Rattle.psm_codegen_wellformed.specs.Frame.{Ends, Follows, Free};

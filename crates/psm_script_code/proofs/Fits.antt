@@ -22,9 +22,9 @@ use Rattle.psm_resolved.specs.declared.file.ResolvedTable.{ResolvedTable}
 use Rattle.psm_tree.specs.declared.script.ScriptTree.{ScriptTree}
 use Rattle.psm_meaning.specs.Session.{Command, Call, Insert, Select, Commit, Rollback}
 use Rattle.psm_machine.specs.Running.{Takes}
+use Rattle.psm_exprgen.specs.Queries.{QueryMade, column_letters, is_query}
+use Rattle.psm_exprgen.specs.Written.{letters_at}
 use Rattle.psm_codegen.specs.Files.{FileWritten, known_of}
-use Rattle.psm_codegen.specs.Queries.{QueryMade, column_letters, is_query}
-use Rattle.psm_codegen.specs.Written.{letters_at}
 use Rattle.psm_typing.specs.TypingContext.{Each}
 use Rattle.psm_typing.specs.Scripts.{no_routine}
 use Rattle.psm_wellformed.specs.Files.{WellFormedFile}

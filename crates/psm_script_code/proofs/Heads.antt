@@ -16,8 +16,8 @@ use Rattle.psm_code.specs.declared.code.CodeTable.{CodeTable}
 use Rattle.psm_code.specs.declared.code.RawCode.{RawCode}
 use Rattle.psm_code.specs.declared.code.RawRoutine.{RawRoutine}
 use Rattle.psm_simulation.specs.Simulation as lowered
+use Rattle.psm_exprgen.specs.Queries.{TablesMade}
 use Rattle.psm_codegen.specs.Files.{FileWritten, RoutinesWritten, is_function}
-use Rattle.psm_codegen.specs.Queries.{TablesMade}
 use Rattle.psm_check_script.specs.Known as checked
 use Rattle.psm_check_script.specs.Known.{Keys, Procedures, Tables, key_names, known_of, with_columns}
 use Rattle.psm_script_code.specs.FileKnown.{known_of_file, mode_of, next_procedure, parameter_of, with_key, with_keys, with_routine, with_routines, with_table, with_tables}

@@ -7,8 +7,8 @@ use Rattle.std.proofs.lemmas.List.Elements.{recursion_from_All}
 use Rattle.psm_code.specs.declared.code.RawCode.{RawCode}
 use Rattle.psm_code.specs.declared.code.RawRoutine.{RawRoutine}
 use Rattle.psm_meaning.specs.Session.{Command, Call, Insert, Select, Commit, Rollback}
-use Rattle.psm_codegen.specs.declared.known.Known.{Known}
-use Rattle.psm_codegen.specs.Written.{number_at}
+use Rattle.psm_exprgen.specs.declared.known.Known.{Known}
+use Rattle.psm_exprgen.specs.Written.{number_at}
 use Rattle.psm_check_script.specs.Seen.{command_seen, commands_seen}
 use Rattle.psm_check_script.specs.declared.command.ResolvedCommand.{ResolvedCommand}
 use Rattle.psm_check_script.specs.There.{IsThere, procedures_in}

@@ -16,10 +16,10 @@ use Rattle.psm_resolved.specs.declared.file.ResolvedFile.{ResolvedFile}
 use Rattle.psm_resolve_expr.specs.Exprs.{resolve_query}
 use Rattle.psm_meaning.specs.Rows as rows
 use Rattle.psm_meaning.specs.Session.{Command, Call, Insert, Select, Commit, Rollback}
-use Rattle.psm_codegen.specs.declared.known.Known as emitted
+use Rattle.psm_exprgen.specs.declared.known.Known as emitted
+use Rattle.psm_exprgen.specs.Queries.{are_items, is_test_perhaps, item_letters}
+use Rattle.psm_exprgen.specs.Written.{letters_at}
 use Rattle.psm_codegen.specs.Files.{known_of}
-use Rattle.psm_codegen.specs.Queries.{are_items, is_test_perhaps, item_letters}
-use Rattle.psm_codegen.specs.Written.{letters_at}
 use Rattle.psm_typing.specs.Queries.{AreItems, IsQuery, IsRowTest}
 use Rattle.psm_typing.specs.TypingContext.{Each, TypingContext, columns_of, variables_of}
 use Rattle.psm_typing.specs.Scripts.{no_routine, outside}

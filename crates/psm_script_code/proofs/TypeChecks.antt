@@ -21,9 +21,9 @@ use Rattle.psm_resolved.specs.declared.expr.ResolvedItem.{ResolvedItem, out-Reso
 use Rattle.psm_resolved.specs.declared.expr.ResolvedQuery.{ResolvedQuery, out-ResolvedQuery}
 use Rattle.psm_resolved.specs.RowType.{RowType, Wrong, Untyped, Of, is_of, row_type_of}
 use Rattle.psm_code.specs.PlanRules.{is_due}
-use Rattle.psm_codegen.specs.declared.known.Known.{Known}
-use Rattle.psm_codegen.specs.Queries.{AggregatesFit, ExprsFit, ItemsFit, Layer, OperandFits, QueryMade, RowTestFits, are_items, is_test_perhaps, is_value_of, letter_of_row_type}
-use Rattle.psm_codegen.specs.Written.{letters_at}
+use Rattle.psm_exprgen.specs.declared.known.Known.{Known}
+use Rattle.psm_exprgen.specs.Queries.{AggregatesFit, ExprsFit, ItemsFit, Layer, OperandFits, QueryMade, RowTestFits, are_items, is_test_perhaps, is_value_of, letter_of_row_type}
+use Rattle.psm_exprgen.specs.Written.{letters_at}
 use Rattle.psm_wellformed.specs.Queries.{WellFormedQuery, are_well_formed, is_operand, is_set_function, items_of}
 
 first_true : (a b : Bool) → (a && b) ≡ true → a ≡ true

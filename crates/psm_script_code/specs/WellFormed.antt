@@ -4,8 +4,8 @@ use Rattle.std.specs.Prelude.{◌≡◌, true}
 use Rattle.psm_code.specs.declared.code.RawCode.{RawCode}
 use Rattle.psm_resolved.specs.declared.file.ResolvedFile.{ResolvedFile}
 use Rattle.psm_meaning.specs.Session.{Command, Call, Insert, Select, Commit, Rollback}
+use Rattle.psm_exprgen.specs.Queries.{is_query}
 use Rattle.psm_codegen.specs.Files.{known_of}
-use Rattle.psm_codegen.specs.Queries.{is_query}
 use Rattle.psm_typing.specs.Scripts.{no_routine}
 use Rattle.psm_wellformed.specs.Queries.{WellFormedQuery}
 use Rattle.psm_script_code.specs.Made.{known_of_tables}

@@ -4,7 +4,7 @@ ghost use Rattle.psm_check_script.specs.Seen.{command_seen, commands_seen};
 ghost use Rattle.psm_script_code.specs.Lowered.{AllLowered, Lowered, routine_of};
 
 use psm_check_script::ResolvedCommand;
-use psm_codegen::{Known, query_code};
+use psm_exprgen::{Known, query_code};
 use psm_list::List;
 use psm_session::ScriptCommand;
 use psm_store::Row;

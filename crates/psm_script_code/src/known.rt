@@ -5,8 +5,8 @@ ghost use Rattle.psm_script_code.specs.Lowered.{procedure_numbers};
 ghost use Rattle.psm_script_code.specs.Made.{known_of_tables};
 
 use psm_code::{CodeTable, RawCode, RawRoutine};
-use psm_codegen::Known;
 use psm_exprcode::Letter;
+use psm_exprgen::Known;
 use psm_list::List;
 use psm_symbols::next_number;
 use psm_tablecode::column_letters;

@@ -14,7 +14,7 @@ use Rattle.psm_resolved.specs.declared.file.ParameterMode.{ParameterMode}
 use Rattle.psm_resolved.specs.declared.file.ParameterMode.TheVariants as modes
 use Rattle.psm_resolved.specs.declared.file.ResolvedParameter.{ResolvedParameter}
 use Rattle.psm_simulation.specs.Expressions.{Layer, is_straight, operands_of, wants}
-use Rattle.psm_codegen.specs.declared.known.Known.{Known}
+use Rattle.psm_exprgen.specs.declared.known.Known.{Known}
 use Rattle.psm_codegen.specs.Outside as outside
 use Rattle.psm_codegen.specs.Outside.{AllOutside, LayerOutside, ChainLinksOutside, Outside, PerhapsOutside, WhensOutside}
 use Rattle.psm_typing.specs.Expressions as well_typed

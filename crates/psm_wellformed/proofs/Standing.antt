@@ -21,13 +21,13 @@ use Rattle.psm_resolved.specs.declared.statement.ResolvedSimple.TheVariants as s
 use Rattle.psm_resolved.specs.declared.statement.ResolvedWhere.{ResolvedWhere}
 use Rattle.psm_resolved.specs.declared.statement.ResolvedWhere.TheVariants as which
 use Rattle.psm_simulation.specs.Scheme.{AreFor}
-use Rattle.psm_codegen.specs.declared.known.Known.{Known}
+use Rattle.psm_exprgen.specs.declared.known.Known.{Known}
+use Rattle.psm_exprgen.specs.Queries.{is_query, is_set, is_test}
+use Rattle.psm_exprgen.specs.Written.{letters_at}
 use Rattle.psm_codegen.specs.Files.{known_of}
 use Rattle.psm_codegen.specs.Outside.{ArgumentsOutside, DefaultsOutside, PerhapsOutside, RowsOutside}
 use Rattle.psm_codegen.specs.Outside as outside
-use Rattle.psm_codegen.specs.Queries.{is_query, is_set, is_test}
 use Rattle.psm_codegen.specs.Simples.{letters_of_columns}
-use Rattle.psm_codegen.specs.Written.{letters_at}
 use Rattle.psm_codegen.specs.Standing as fit
 use Rattle.psm_codegen.specs.Standing.{ConditionFits, CursorsFit, SeesCursor, SignalFits, SimpleFits, WhereFits, is_among}
 use Rattle.psm_typing.specs.TypingContext.{Among, Each, IsThere, TypingContext}

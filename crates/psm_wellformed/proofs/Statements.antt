@@ -16,11 +16,11 @@ use Rattle.psm_resolved.specs.declared.statement.ResolvedHandler.{ResolvedHandle
 use Rattle.psm_resolved.specs.declared.statement.ResolvedStatement.{ResolvedStatement, out-ResolvedStatement}
 use Rattle.psm_exprcode.specs.declared.op.Letter.{Letter}
 use Rattle.psm_code.specs.Rules.{is_some}
-use Rattle.psm_codegen.specs.declared.known.Known.{Known}
+use Rattle.psm_exprgen.specs.declared.known.Known.{Known}
+use Rattle.psm_exprgen.specs.Queries.{column_letters, is_query, is_test}
 use Rattle.psm_codegen.specs.Files.{known_of}
 use Rattle.psm_codegen.specs.Outside.{Outside, DefaultsOutside}
 use Rattle.psm_codegen.specs.Outside as outside
-use Rattle.psm_codegen.specs.Queries.{column_letters, is_query, is_test}
 use Rattle.psm_codegen.specs.Standing as fit
 use Rattle.psm_codegen.specs.Standing.{AllFit, BranchesFit, CanStand, Fits, HandlersFit, HasSome, IsNewLevel, LayerFits, RoutineFits, RoutinesFit, in_action, in_block, in_for, in_loop, is_among}
 use Rattle.psm_typing.specs.TypingContext.{Among, Begin, Each, TypingContext}

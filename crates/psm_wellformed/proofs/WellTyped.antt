@@ -7,7 +7,7 @@ use Rattle.psm_resolved.specs.declared.statement.ResolvedBranch.{ResolvedBranch}
 use Rattle.psm_resolved.specs.declared.statement.ResolvedCursor.{ResolvedCursor}
 use Rattle.psm_resolved.specs.declared.statement.ResolvedHandler.{ResolvedHandler}
 use Rattle.psm_resolved.specs.declared.statement.ResolvedStatement.{ResolvedStatement}
-use Rattle.psm_codegen.specs.declared.known.Known.{Known}
+use Rattle.psm_exprgen.specs.declared.known.Known.{Known}
 use Rattle.psm_typing.specs.Files.{IsRoutine, IsWellTyped}
 use Rattle.psm_typing.specs.TypingContext.{Each, TypingContext}
 use Rattle.psm_typing.specs.Statements as well_typed

@@ -12,7 +12,7 @@ use Rattle.psm_resolved.specs.declared.expr.ResolvedWhen.{ResolvedWhen, out-Reso
 use Rattle.psm_resolved.specs.RowValue.{listed}
 use Rattle.psm_resolved.specs.RowType.{is_scale}
 use Rattle.psm_simulation.specs.Expressions.{Layer, is_straight, operands_of}
-use Rattle.psm_codegen.specs.declared.known.Known.{Known}
+use Rattle.psm_exprgen.specs.declared.known.Known.{Known}
 use Rattle.psm_wellformed.specs.Queries.{WellFormedQuery}
 
 -- whether it may stand where NULL may, or may not

@@ -13,8 +13,8 @@ use Rattle.psm_code.specs.Rules.{each_after, is_same, where_there}
 use Rattle.psm_code.specs.TableRules.{are_in_turn, column_fault, key_fault, pair_fault, unique_fault}
 use Rattle.psm_code.specs.declared.rule.CodeRule.{CodeRule}
 use Rattle.psm_simulation.specs.Simulation.{parameter_of}
+use Rattle.psm_exprgen.specs.Queries.{column_letters, is_test}
 use Rattle.psm_codegen.specs.Files.{gives_back, is_function, known_of}
-use Rattle.psm_codegen.specs.Queries.{column_letters, is_test}
 use Rattle.psm_codegen.specs.Standing.{CountsUp, cursors_of}
 use Rattle.psm_typing.specs.TypingContext.{Begin, Each, TypingContext, Shape}
 use Rattle.psm_typing.specs.Statements.{StatementScope}

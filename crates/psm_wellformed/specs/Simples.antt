@@ -33,10 +33,10 @@ use Rattle.psm_code.specs.RoutineRules.{is_condition}
 use Rattle.psm_code.specs.Rules.{is_some}
 use Rattle.psm_code.specs.TableRules.{are_there, is_column_list}
 use Rattle.psm_simulation.specs.Changes.{IsOver}
-use Rattle.psm_codegen.specs.declared.known.Known.{Known}
-use Rattle.psm_codegen.specs.Queries.{is_set, is_test, item_letters}
+use Rattle.psm_exprgen.specs.declared.known.Known.{Known}
+use Rattle.psm_exprgen.specs.Queries.{is_set, is_test, item_letters}
+use Rattle.psm_exprgen.specs.Written.{letters_at}
 use Rattle.psm_codegen.specs.Simples.{letters_of_columns}
-use Rattle.psm_codegen.specs.Written.{letters_at}
 use Rattle.psm_typing.specs.Expressions.{AreExprs}
 use Rattle.psm_typing.specs.TypingContext.{Each, TypingContext}
 use Rattle.psm_typing.specs.Statements.{StatementScope}

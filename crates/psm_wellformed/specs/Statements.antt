@@ -18,8 +18,8 @@ use Rattle.psm_resolved.specs.declared.statement.ResolvedStatement.{ResolvedStat
 use Rattle.psm_resolved.specs.declared.statement.ResolvedStatement.TheOpen as layers
 use Rattle.psm_code.specs.RoutineRules.{are_new, is_condition, is_undo}
 use Rattle.psm_code.specs.Rules.{is_some}
-use Rattle.psm_codegen.specs.declared.known.Known.{Known}
-use Rattle.psm_codegen.specs.Queries.{item_letters}
+use Rattle.psm_exprgen.specs.declared.known.Known.{Known}
+use Rattle.psm_exprgen.specs.Queries.{item_letters}
 use Rattle.psm_typing.specs.Expressions.{IsExpr}
 use Rattle.psm_typing.specs.TypingContext.{Each, IsThere, TypingContext}
 use Rattle.psm_typing.specs.Statements.{AreForItems, IsCursor, IsDeclaration, IsSimple, StatementScope, in_action, inside, looping, over_rows}

@@ -1,8 +1,8 @@
 use Rattle.std.proofs.Common.{ap, ◌∙◌}
-use Rattle.psm_codegen.specs.Written.{letter_at}
+use Rattle.psm_exprgen.specs.Written.{letter_at}
+use Rattle.psm_exprgen.proofs.Drafts.{one}
 use Rattle.psm_codegen.proofs.CallForms.{in_written}
 use Rattle.psm_codegen.proofs.DraftCalls.{inout_drafted, out_drafted}
-use Rattle.psm_codegen.proofs.Drafts.{one}
 use Rattle.psm_codegen.proofs.calling.call_argument.Goals as goal
 
 pub returns-in_ok-expr-in-In-clause-written : goal.returns-in_ok-expr-in-In-clause-written

@@ -1,7 +1,7 @@
 use Rattle.std.proofs.Common.{drop, ◌≤◌}
-use Rattle.psm_codegen.specs.Labels.{Drafted}
+use Rattle.psm_exprgen.specs.Labels.{Drafted}
+use Rattle.psm_exprgen.specs.Written.{Written}
 use Rattle.psm_codegen.specs.Simples.{CallArguments}
-use Rattle.psm_codegen.specs.Written.{Written}
 use Rattle.psm_codegen.proofs.calling.call_arguments.Given as goal
 
 abbrev pub invariant-loop-argument : goal.invariant-loop-argument

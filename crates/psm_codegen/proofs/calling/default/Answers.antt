@@ -1,6 +1,6 @@
+use Rattle.psm_exprgen.proofs.Drafts.{one}
 use Rattle.psm_codegen.proofs.CallForms.{default_value, ok_as}
 use Rattle.psm_codegen.proofs.DraftCalls.{default_null_drafted}
-use Rattle.psm_codegen.proofs.Drafts.{one}
 use Rattle.psm_codegen.proofs.calling.default.Goals as goal
 
 pub returns-in-None : goal.returns-in-None

@@ -1,8 +1,8 @@
 use Rattle.std.proofs.Common.{refl}
+use Rattle.psm_exprgen.proofs.Drafts.{one}
 use Rattle.psm_codegen.specs.Simples.{WritesRows, no_row}
 use Rattle.psm_codegen.proofs.CallForms.{row_written}
 use Rattle.psm_codegen.proofs.DraftLists.{all_left, next_left, none_left}
-use Rattle.psm_codegen.proofs.Drafts.{one}
 use Rattle.psm_codegen.proofs.calling.rows.Goals as goal
 
 pub loop-row-init : goal.loop-row-init

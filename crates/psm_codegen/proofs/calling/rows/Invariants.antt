@@ -1,7 +1,7 @@
 use Rattle.std.proofs.Common.{drop}
-use Rattle.psm_codegen.specs.Labels.{Drafted}
+use Rattle.psm_exprgen.specs.Labels.{Drafted}
+use Rattle.psm_exprgen.specs.Written.{Written}
 use Rattle.psm_codegen.specs.Simples.{WritesRows}
-use Rattle.psm_codegen.specs.Written.{Written}
 use Rattle.psm_codegen.proofs.calling.rows.Given as goal
 
 abbrev pub invariant-loop-row : goal.invariant-loop-row

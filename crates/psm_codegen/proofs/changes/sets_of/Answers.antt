@@ -1,7 +1,7 @@
 use Rattle.std.proofs.Common.{arith, sym}
-use Rattle.psm_codegen.specs.Queries.{SourcesFit, is_set}
-use Rattle.psm_codegen.proofs.Codes.{sets_all, sets_next}
-use Rattle.psm_codegen.proofs.Lists.{makes_all, makes_next}
+use Rattle.psm_exprgen.specs.Queries.{SourcesFit, is_set}
+use Rattle.psm_exprgen.proofs.Codes.{sets_all, sets_next}
+use Rattle.psm_exprgen.proofs.Lists.{makes_all, makes_next}
 use Rattle.psm_codegen.proofs.changes.sets_of.Goals as goal
 
 pub loop-set-preserved : goal.loop-set-preserved

@@ -1,5 +1,5 @@
-use Rattle.psm_codegen.specs.Queries.{SetsAre, SourcesFit, is_set}
-use Rattle.psm_codegen.proofs.Lists.{Makes, Where}
+use Rattle.psm_exprgen.specs.Queries.{SetsAre, SourcesFit, is_set}
+use Rattle.psm_exprgen.proofs.Lists.{Makes, Where}
 use Rattle.psm_codegen.proofs.changes.sets_of.Given as goal
 
 abbrev pub invariant-loop-set : goal.invariant-loop-set

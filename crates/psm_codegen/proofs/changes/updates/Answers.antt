@@ -1,7 +1,7 @@
 use Rattle.std.proofs.Common.{Some, None, sym, subst}
 use Rattle.psm_code.specs.declared.code.Plan.TheVariants as plans
+use Rattle.psm_exprgen.specs.Queries.{TestMade}
 use Rattle.psm_codegen.specs.Simples.{Updates, update_all, update_current, update_where}
-use Rattle.psm_codegen.specs.Queries.{TestMade}
 use Rattle.psm_codegen.proofs.changes.updates.Goals as goal
 
 pub returns-in-All : goal.returns-in-All

@@ -1,5 +1,5 @@
 use Rattle.std.proofs.Common.{◌≡◌, take, map}
-use Rattle.psm_codegen.specs.Queries.{column_letters}
+use Rattle.psm_exprgen.specs.Queries.{column_letters}
 use Rattle.psm_codegen.proofs.declared_letters.columns_of.Given as goal
 
 abbrev pub invariant-loop-table : goal.invariant-loop-table

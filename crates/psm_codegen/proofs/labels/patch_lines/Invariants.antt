@@ -1,5 +1,6 @@
 use Rattle.std.proofs.Common.{◌≡◌, length}
-use Rattle.psm_codegen.specs.Labels.{line_of, patched_line}
+use Rattle.psm_exprgen.specs.Labels.{patched_line}
+use Rattle.psm_codegen.specs.Labels.{line_of}
 use Rattle.psm_codegen.specs.Patching.{map_from}
 use Rattle.psm_codegen.proofs.labels.patch_lines.Given as goal
 

@@ -4,10 +4,10 @@ use Rattle.std.specs.List.{All}
 use Rattle.std.specs.Prelude.{IsTrue}
 use Rattle.psm_cond.specs.WellFormed.{is_numbered}
 use Rattle.psm_code.specs.declared.code.RawRoutine.{RawRoutine}
+use Rattle.psm_exprgen.proofs.Lists.{makes_all, makes_next}
 use Rattle.psm_codegen.specs.FileKnown.{with_routine}
 use Rattle.psm_codegen.specs.Files.{RoutineWritten, RoutinesWritten}
 use Rattle.psm_codegen.proofs.FileKnowns.{known_first}
-use Rattle.psm_codegen.proofs.Lists.{makes_all, makes_next}
 use Rattle.psm_codegen.proofs.lowering.routines_code.Goals as goal
 
 abbrev numbered : RawRoutine → Type 0

@@ -3,9 +3,9 @@ use Rattle.std.specs.List.{All}
 use Rattle.std.specs.Prelude.{IsTrue}
 use Rattle.psm_cond.specs.WellFormed.{is_numbered}
 use Rattle.psm_resolved.specs.declared.file.ResolvedRoutine.{ResolvedRoutine}
+use Rattle.psm_exprgen.proofs.Lists.{Makes}
 use Rattle.psm_codegen.specs.FileKnown.{with_routine}
 use Rattle.psm_codegen.specs.Files.{RoutinesWritten, known_of}
-use Rattle.psm_codegen.proofs.Lists.{Makes}
 use Rattle.psm_codegen.proofs.lowering.routines_code.Given as goal
 
 abbrev pub invariant-loop-routine : goal.invariant-loop-routine

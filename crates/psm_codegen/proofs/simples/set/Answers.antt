@@ -1,5 +1,5 @@
 use Rattle.std.proofs.Common.{ap, ◌∙◌}
-use Rattle.psm_codegen.specs.Written.{letter_at}
+use Rattle.psm_exprgen.specs.Written.{letter_at}
 use Rattle.psm_codegen.proofs.CallForms.{ok_as}
 use Rattle.psm_codegen.proofs.DraftSimples.{set_drafted}
 use Rattle.psm_codegen.proofs.simples.set.Goals as goal

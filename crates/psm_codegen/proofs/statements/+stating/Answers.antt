@@ -1,12 +1,13 @@
 use Rattle.std.proofs.Common.{◌∷◌, ap, map, sym, ◌∙◌, None, Some}
 use Rattle.psm_resolved.specs.declared.statement.ResolvedStatement.{ResolvedStatement, out-ResolvedStatement}
+use Rattle.psm_resolved.specs.declared.statement.ResolvedStatement.TheOpen as layers
 use Rattle.psm_resolved.specs.declared.statement.ResolvedStatement.TheVariants as statements
+use Rattle.psm_exprgen.proofs.Drafts.{one, two}
 use Rattle.psm_codegen.specs.declared.enclosing.EnclosingBlock.TheVariants.{Loop}
 use Rattle.psm_codegen.specs.Labels.{patched_block}
 use Rattle.psm_codegen.specs.Statements.{WritesBranches, WritesComparisons, WritesHandlers, WritesStatements, more, none, no_branch, no_comparison, no_handler}
 use Rattle.psm_codegen.proofs.CallForms.{ok_as}
 use Rattle.psm_codegen.proofs.DraftLists.{all_left, next_left, none_left}
-use Rattle.psm_codegen.proofs.Drafts.{one, two}
 use Rattle.psm_codegen.proofs.DraftStatements.{branch_drafted, compared_drafted, comparison_drafted, compound_drafted, for_drafted, handler_drafted, loop_drafted, repeat_drafted, statement_drafted, while_drafted}
 use Rattle.psm_codegen.proofs.StatementForms.{case_written, else_none, else_some, if_written, simple_written, within_same}
 use Rattle.psm_codegen.proofs.statements.+stating.Goals as goal
@@ -21,25 +22,31 @@ pub form-returns-in-Loop : goal.form-returns-in-Loop
 form-returns-in-Loop t c = ok_as c.looped.result (λ a. one a (λ σ f. f c.args.s.now (ap out-ResolvedStatement c.in-Loop.is ∙ statements.outs-Loop c.in-Loop.level c.in-Loop.statements))) c.looped.ensures
 
 pub form-returns-in-While : goal.form-returns-in-While
-form-returns-in-While t c = ok_as c.whiled.result (λ a. one a (λ σ f. f c.args.s.now (ap out-ResolvedStatement (c.in-While.is ∙ ap (λ e. statements.While c.in-While.level e c.in-While.statements) (sym c.get-in-While.ensures)) ∙ statements.outs-While c.in-While.level c.get-in-While.result.now c.in-While.statements))) c.whiled.ensures
+form-returns-in-While t c = ok_as c.whiled.result (λ a. one a (λ σ f. f c.args.s.now (ap out-ResolvedStatement (c.in-While.is ∙ ap (λ e. statements.While c.in-While.level e c.in-While.list) (sym c.get-in-While.ensures)) ∙ statements.outs-While c.in-While.level c.get-in-While.result.now c.in-While.list))) c.whiled.ensures
 
 pub form-returns-in-Repeat : goal.form-returns-in-Repeat
-form-returns-in-Repeat t c = ok_as c.repeated.result (λ a. one a (λ σ f. f c.args.s.now (ap out-ResolvedStatement (c.in-Repeat.is ∙ ap (statements.Repeat c.in-Repeat.level c.in-Repeat.statements) (sym c.get-in-Repeat.ensures)) ∙ statements.outs-Repeat c.in-Repeat.level c.in-Repeat.statements c.get-in-Repeat.result.now))) c.repeated.ensures
+form-returns-in-Repeat t c = ok_as c.repeated.result (λ a. one a (λ σ f. f c.args.s.now (ap out-ResolvedStatement (c.in-Repeat.is ∙ ap (statements.Repeat c.in-Repeat.level c.in-Repeat.list) (sym c.get-in-Repeat.ensures)) ∙ statements.outs-Repeat c.in-Repeat.level c.in-Repeat.list c.get-in-Repeat.result.now))) c.repeated.ensures
 
 pub form-returns-in-For : goal.form-returns-in-For
-form-returns-in-For t c = ok_as c.over_rows.result (λ a. one a (λ σ f. f c.args.s.now (ap out-ResolvedStatement (c.in-For.is ∙ ap (λ h. statements.For c.in-For.level h c.in-For.statements) (sym c.get-in-For.ensures)) ∙ statements.outs-For c.in-For.level c.get-in-For.result.now c.in-For.statements))) c.over_rows.ensures
+form-returns-in-For t c = ok_as c.over_rows.result (λ a. one a (λ σ f. f c.args.s.now (ap out-ResolvedStatement (c.in-For.is ∙ ap (λ h. statements.For c.in-For.level h c.in-For.list) (sym c.get-in-For.ensures)) ∙ statements.outs-For c.in-For.level c.get-in-For.result.now c.in-For.list))) c.over_rows.ensures
 
-pub form-returns-in_ok-branches-in-If : goal.form-returns-in_ok-branches-in-If
-form-returns-in_ok-branches-in-If t c = ok_as c.statements.result (λ a. two c.in_ok-branches-in-If.ensures a (λ σ x y. if_written c.in-If.list c.in-If.otherwise x y c.args.s.now (ap out-ResolvedStatement c.in-If.is ∙ statements.outs-If c.in-If.list c.in-If.otherwise))) c.statements.ensures
+pub form-returns-in-If : goal.form-returns-in-If
+form-returns-in-If t c = ok_as c.conditional.result (λ a. one a (λ σ f. f c.args.s.now (ap out-ResolvedStatement c.in-If.is ∙ statements.outs-If c.in-If.list c.in-If.last))) c.conditional.ensures
 
-pub form-returns-in_ok-branches-in-None : goal.form-returns-in_ok-branches-in-None
-form-returns-in_ok-branches-in-None t c = ok_as c.otherwise.result (λ a. two c.in_ok-branches-in-None.ensures a (λ σ x y. case_written c.in-Case.list c.in-Case.last x y c.args.s.now (ap out-ResolvedStatement (c.in-Case.is ∙ ap (λ o. statements.Case o c.in-Case.list c.in-Case.last) c.in-None.is) ∙ statements.outs-Case None c.in-Case.list c.in-Case.last))) c.otherwise.ensures
-
-pub form-returns-in_ok-take-in-Some : goal.form-returns-in_ok-take-in-Some
-form-returns-in_ok-take-in-Some t c = ok_as c.otherwise-in-Some.result (λ a. one (compared_drafted c.args.enclosing.now c.in-Some.e c.get-in-Some.result.now c.in-Case.list c.in-Case.last c.get-in-Some.ensures c.in_ok-evaluated-in-Some.ensures.written c.in_ok-evaluated-in-Some.ensures.alone c.in_ok-comparisons-in-Some.ensures c.in_ok-take-in-Some.ensures a) (λ σ f. f c.args.s.now (ap out-ResolvedStatement (c.in-Case.is ∙ ap (λ o. statements.Case o c.in-Case.list c.in-Case.last) c.in-Some.is) ∙ statements.outs-Case (Some c.in-Some.e) c.in-Case.list c.in-Case.last))) c.otherwise-in-Some.ensures
+pub form-returns-in-Case : goal.form-returns-in-Case
+form-returns-in-Case t c = ok_as c.cases.result (λ a. one a (λ σ f. f c.args.s.now (ap out-ResolvedStatement c.in-Case.is ∙ statements.outs-Case c.in-Case.operand c.in-Case.list c.in-Case.last))) c.cases.ensures
 
 pub form-returns-in-Simple : goal.form-returns-in-Simple
 form-returns-in-Simple t c = ok_as c.simple.result (λ a. one a (λ σ x. simple_written c.in-Simple.s c.get-in-Simple.result.now c.get-in-Simple.ensures x c.args.s.now (ap out-ResolvedStatement c.in-Simple.is ∙ statements.outs-Simple c.in-Simple.s))) c.simple.ensures
+
+pub conditional-returns : goal.conditional-returns
+conditional-returns t c = ok_as c.statements.result (λ a. two c.in_ok-branches.ensures a (λ σ x y. if_written c.args.list.now c.args.last.now x y)) c.statements.ensures
+
+pub cases-returns-in-None : goal.cases-returns-in-None
+cases-returns-in-None t c = ok_as c.otherwise.result (λ a. two c.in_ok-branches.ensures a (λ σ x y s q. case_written c.args.list.now c.args.last.now x y s (q ∙ ap (λ o. layers.Case o c.args.list.now c.args.last.now) c.in-None.is))) c.otherwise.ensures
+
+pub cases-returns-in-Some : goal.cases-returns-in-Some
+cases-returns-in-Some t c = ok_as c.otherwise-in-Some.result (λ a. one (compared_drafted c.args.enclosing.now c.in-Some.e c.get.result.now c.args.list.now c.args.last.now c.get.ensures c.in_ok-evaluated.ensures.written c.in_ok-evaluated.ensures.alone c.in_ok-comparisons.ensures c.in_ok-take.ensures a) (λ σ f s q. f s (q ∙ ap (λ o. layers.Case o c.args.list.now c.args.last.now) c.in-Some.is))) c.otherwise-in-Some.ensures
 
 pub compound-returns : goal.compound-returns
 compound-returns t c = ok_as c.plain.result (λ a. compound_drafted c.args.enclosing.now c.args.level c.args.block.now c.in_ok-declared.ensures.written c.in_ok-declared.ensures.alone c.in_ok-cursors.ensures c.in_ok-numbers.ensures c.in_ok-exit.ensures.number c.in_ok-exit.ensures.labels c.in_ok-inner.ensures.number c.in_ok-inner.ensures.entered c.in_ok-start.ensures.number c.in_ok-start.ensures.labels c.in_ok-pass.ensures c.in_ok-handlers.ensures c.in_ok-bind.ensures c.in_ok-within.ensures c.in_ok-bind-2.ensures a) c.plain.ensures

@@ -1,5 +1,5 @@
 use Rattle.std.proofs.Common.{arith, sym}
-use Rattle.psm_codegen.proofs.Codes.{tables_all, tables_next}
+use Rattle.psm_exprgen.proofs.Codes.{tables_all, tables_next}
 use Rattle.psm_codegen.proofs.tables.tables_code.Goals as goal
 
 pub loop-table-preserved : goal.loop-table-preserved

@@ -1,5 +1,5 @@
-use Rattle.psm_codegen.specs.Queries.{TablesMade}
-use Rattle.psm_codegen.proofs.Lists.{Makes}
+use Rattle.psm_exprgen.specs.Queries.{TablesMade}
+use Rattle.psm_exprgen.proofs.Lists.{Makes}
 use Rattle.psm_codegen.proofs.tables.tables_code.Given as goal
 
 abbrev pub invariant-loop-table : goal.invariant-loop-table

@@ -1,9 +1,0 @@
--- Which row expression an expression is, as it is told.
-use Rattle.psm_resolved.specs.RowType as row_types
-use Rattle.psm_codegen.specs.declared.row_types.RowType.{RowType}
-use Rattle.psm_codegen.specs.declared.row_types.RowType.TheVariants.{Wrong, Untyped, Of}
-
-abbrev pub seen : RowType → row_types.RowType
-seen Wrong = row_types.Wrong
-seen Untyped = row_types.Untyped
-seen (Of k) = row_types.Of k

@@ -1,0 +1,23 @@
+use Rattle.std.proofs.Common.{◌≡◌, true, arith, subst, sym}
+use Rattle.psm_exprgen.specs.Queries.{ExprIs, is_test}
+use Rattle.psm_exprgen.proofs.Codes.{RowTestsMade, exprs_all, exprs_next}
+use Rattle.psm_exprgen.proofs.Lists.{makes_all, makes_next}
+use Rattle.psm_exprgen.proofs.rows.tests.Goals as goal
+
+pub loop-e-preserved : goal.loop-e-preserved
+loop-e-preserved c = record {
+  value = exprs_next (is_test c.args.columns.now c.args.variables.now) c.items-e-items.result.now c.loop-e.e-index c.e-item.result c.loop-e.codes.items c.in_ok-test.field-0 c.push.new.self.items
+      (subst (λ x. is_test c.args.columns.now c.args.variables.now x ≡ true → ExprIs x c.in_ok-test.field-0) c.get.ensures c.in_ok-test.ensures.value) (omega arith) c.e-item.is c.in_ok-push.ensures.items c.loop-e.invariant.value;
+  fits = makes_next (RowTestsMade c.args.columns.now c.args.variables.now) c.items-e-items.result.now c.loop-e.e-index c.e-item.result c.loop-e.codes.items c.in_ok-test.field-0 c.push.new.self.items
+      (λ others more m. (c.in_ok-test.ensures.fits, m)) (omega arith) c.e-item.is c.in_ok-push.ensures.items c.loop-e.invariant.fits;
+}
+
+pub returns-clause-value : goal.returns-clause-value
+returns-clause-value c =
+    exprs_all (is_test c.args.columns.now c.args.variables.now) c.items-e-items.result.now c.args.es.now c.loop-e.e-index c.loop-e.codes.items c.of.result
+    (sym c.items-e-items.ensures) (omega arith) c.of.ensures c.loop-e.invariant.value
+
+pub returns-clause-fits : goal.returns-clause-fits
+returns-clause-fits c =
+    makes_all (RowTestsMade c.args.columns.now c.args.variables.now) c.items-e-items.result.now c.args.es.now c.loop-e.e-index c.loop-e.codes.items c.of.result
+    (sym c.items-e-items.ensures) (omega arith) c.of.ensures tt c.loop-e.invariant.fits

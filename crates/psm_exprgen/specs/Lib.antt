@@ -1,0 +1,7 @@
+pub mod Written
+pub mod Queries
+pub mod Seen
+pub mod Nulls
+pub mod Exprs
+pub mod Writing
+pub mod Labels
