@@ -34,7 +34,7 @@ def options(words):
     sizes = parser.add_mutually_exclusive_group()
     sizes.add_argument("--largest", metavar="N", type=int, help="N as the largest size of each kind, or the kind's limit if that is lower")
     sizes.add_argument("--limits", action="store_true", help="the limit of each kind as its largest size")
-    parser.add_argument("--seconds", metavar="N", type=int, default=60, help="stop a run after so many processor seconds (60)")
+    parser.add_argument("--seconds", metavar="N", type=int, default=60, help="stop a run after N processor seconds (60)")
     parser.add_argument("--memory", metavar="MB", type=int, default=4000, help="refuse a run more memory than this (4000)")
     parser.add_argument("--write", metavar="FOLDER", help="only write the files, and print their bytes and tokens")
     parser.add_argument("--list", action="store_true", help="only print the kinds")

@@ -15,7 +15,7 @@
 #     --kinds NAME,..   only these kinds; * and ? are patterns
 #     --largest N       N as the largest size of each kind, or the kind's limit if that is lower
 #     --limits          the limit of each kind as its largest size; this takes much more than a minute
-#     --seconds N       stop a run after so many processor seconds, 60 if it is not said
+#     --seconds N       stop a run after N processor seconds, 60 if it is not said
 #     --memory MB       refuse a run more memory than this, 4000 if it is not said
 #     --write FOLDER    only write the files to FOLDER/KIND/SIZE, and print their bytes and tokens
 #     --list            only print the kinds, with their largest sizes

@@ -348,7 +348,7 @@ END;"""
 
 
 def first_lists(n, firsts, kinds, lengths):
-    """The first n lists of one of `firsts` and then so many of `kinds`, for each of the lengths."""
+    """The first n lists of one of `firsts` and then of that many of `kinds`, for each of the lengths."""
     lists = itertools.chain(*(itertools.product(firsts, *[kinds] * rest) for rest in lengths))
     return list(itertools.islice(lists, n))
 

@@ -65,21 +65,21 @@ def measured(folder, words, seconds=0, megabytes=0):
 
 
 def run(program, module, script, turns=None, runs=1):
-    """The run of the module and the script that took the least time by the clock, of so many runs."""
+    """The run of the module and the script that took the least time by the clock, of `runs` runs."""
     with tempfile.TemporaryDirectory(prefix="psm-bench-") as folder:
         write(folder, module, script)
         return min((once(program, folder, turns) for _ in range(runs)), key=lambda each: each.elapsed)
 
 
 def generated(program, calls, runs=1):
-    """The run of `gen` with so many calls that took the least time by the clock, of so many runs."""
+    """The run of `gen` with `calls` calls that took the least time by the clock, of `runs` runs."""
     with tempfile.TemporaryDirectory(prefix="psm-bench-") as folder:
         words = [program, "gen", str(calls)]
         return min((measured(folder, words) for _ in range(runs)), key=lambda each: each.elapsed)
 
 
 def listed(program, module, runs=1):
-    """The run of `compile` on the module that took the least time by the clock, of so many runs, and the bytes of the listing."""
+    """The run of `compile` on the module that took the least time by the clock, of `runs` runs, and the bytes of the listing."""
     with tempfile.TemporaryDirectory(prefix="psm-bench-") as folder:
         write(folder, module, "")
         words = [program, "compile", str(Path(folder) / "module.sql")]

@@ -13,7 +13,7 @@ folder=$(mktemp -d) || exit 1
 trap 'rm -rf "$folder"' EXIT
 status=0
 
-# Prints a text so many times.
+# Prints the first argument as often as the second says.
 times() {
     local i
     for ((i = 0; i < $2; i++)); do printf '%s' "$1"; done

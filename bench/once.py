@@ -2,8 +2,8 @@
 
     python3 -I -S once.py OUTPUT SECONDS MEGABYTES PROGRAM WORD..
 
-What the program writes goes to the file OUTPUT. The program is stopped after so many processor seconds, and memory
-above so many megabytes is refused to it; 0 is no bound. A status below 0 is the number of the signal that ended it.
+What the program writes goes to the file OUTPUT. The program is stopped after that many processor seconds, and memory
+above that many megabytes is refused to it; 0 is no bound. A status below 0 is the number of the signal that ended it.
 
 This is a process of its own because Linux counts the memory of a process before it executes a program as memory of
 the program. So this file imports little, and the peak is about 5 MB at least.

@@ -53,7 +53,7 @@ def options(words):
     parser.add_argument("program", metavar="PSM", nargs="?", help="the program, or - to run the peers alone")
     parser.add_argument("--only", metavar="NAME,..", help="only these workloads")
     parser.add_argument("--peers", metavar="NAME,..", help=f"only these peers, of {', '.join(PEERS)}")
-    parser.add_argument("--repeat", metavar="N", type=int, default=3, help="the quickest of so many runs (3)")
+    parser.add_argument("--repeat", metavar="N", type=int, default=3, help="the quickest of N runs (3)")
     parser.add_argument("--tenth", action="store_true", help="psm with a tenth of the work too, and how the time grows")
     parser.add_argument("--quick", action="store_true", help="a hundredth of the work, to see whether all answer the same")
     parser.add_argument("--write", metavar="FOLDER", help="only write the files of the workloads, to FOLDER/WORKLOAD")

@@ -33,9 +33,9 @@ fn cut(alloc: Global, lines: &str) -> Result<String> {
     let mut count = 0_usize;
     for (number, line) in lines.lines().enumerate() {
         if number > 0 {
-            let told = answer(alloc, text.as_str())?;
-            if told != refused_at(alloc, number)? {
-                return Ok(format!(in alloc; "after line {number}: {told}")?);
+            let reported = answer(alloc, text.as_str())?;
+            if reported != refused_at(alloc, number)? {
+                return Ok(format!(in alloc; "after line {number}: {reported}")?);
             }
             count = number;
         }
@@ -49,9 +49,9 @@ fn cut(alloc: Global, lines: &str) -> Result<String> {
 fn with_blanks(alloc: Global, lines: &str) -> Result<String> {
     let mut count = 0_usize;
     for (number, _) in lines.lines().enumerate() {
-        let told = answer(alloc, with_blank(alloc, lines, number)?.as_str())?;
-        if told != refused_at(alloc, number)? {
-            return Ok(format!(in alloc; "line {}: {told}", number.wrapping_add(1))?);
+        let reported = answer(alloc, with_blank(alloc, lines, number)?.as_str())?;
+        if reported != refused_at(alloc, number)? {
+            return Ok(format!(in alloc; "line {}: {reported}", number.wrapping_add(1))?);
         }
         count = number.wrapping_add(1);
     }
@@ -70,7 +70,7 @@ fn with_blank(alloc: Global, lines: &str, at: usize) -> Result<String, AllocErro
     Ok(text)
 }
 
-// What is told of a text whose line after that many doesn't fit.
+// What is reported of a text whose line after that many doesn't fit.
 fn refused_at(alloc: Global, before: usize) -> Result<String> {
     Ok(format!(in alloc; "object {} not an object text", before.wrapping_add(1))?)
 }

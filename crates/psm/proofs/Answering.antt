@@ -40,22 +40,22 @@ module _ (asked : Asked) (sunk : Sunk) (answer : Status) where
   pub completes_usage : command_in asked.words ≡ None → PutsLine (with_line status.Usage usage) sunk answer → PsmCompletes asked sunk answer
   completes_usage none puts = record {
     misused = λ stayed n. usage_answers puts stayed;
-    commanded = λ command told. absurd (no_command asked.words command told none);
+    commanded = λ command form. absurd (no_command asked.words command form none);
   }
 
-  -- ---- words that tell a command
+  -- ---- words that state a command
 
-  module _ (command : Command) (told : command_in asked.words ≡ Some command) where
+  module _ (command : Command) (form : command_in asked.words ≡ Some command) where
     pub says_command : CommandSays asked.fetches command sunk answer → PsmSays asked sunk answer
     says_command (inl r) = inl (record {
       expected = r.expected;
-      cause = inr (record { command = command; told = told; expected_of = r.cause });
+      cause = inr (record { command = command; form = form; expected_of = r.cause });
       put = r.put;
     })
     says_command (inr r) = inr r
 
     pub completes_command : CommandCompletes asked.fetches command sunk answer → PsmCompletes asked sunk answer
     completes_command completes = record {
-      misused = λ stayed n. absurd (no_command asked.words command told n);
-      commanded = λ other told'. subst (λ (c : Command). CommandCompletes asked.fetches c sunk answer) (one_command asked.words command other told told') completes;
+      misused = λ stayed n. absurd (no_command asked.words command form n);
+      commanded = λ other form'. subst (λ (c : Command). CommandCompletes asked.fetches c sunk answer) (one_command asked.words command other form form') completes;
     }

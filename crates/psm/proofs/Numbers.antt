@@ -1,4 +1,4 @@
--- A word that is a number is read as that number, and a few words tell no command.
+-- A word that is a number is read as that number, and a few words state no command.
 use Rattle.std.proofs.Common.{◌≡◌, ℕ, ◌<◌, ◌≤◌, ◌^◌, Bool, true, false, ◌&&◌, not, List, [], ◌∷◌, length, map, Some, None, Ok, Err, Result, refl, sym, ap, ◌∙◌, arith, rules}
 use Rattle.std.specs.Char.{is_ascii_digit}
 use Rattle.std.specs.List.{list_all}
@@ -9,7 +9,7 @@ use Rattle.std.proofs.lemmas.Bool.{leb-true, ltb-true}
 use Rattle.std.proofs.lemmas.Str.Parse.{IsNumeralModel, digits_value_short, numerals_by_value, parse_gives}
 use Rattle.psm.specs.Words.{begins_with_zero, command_in, is_number, number_of}
 
--- the test tells digits
+-- the test recognizes digits
 own : IsNumeralModel (λ ds. list_all is_ascii_digit ds ≡ true) (digits_value 10)
 own = numerals_by_value (λ ds. list_all is_ascii_digit ds ≡ true) (search rules)
 
@@ -43,7 +43,7 @@ number_refused E bs e h is = absurd (never (parsed bs (Err e) h is))
     never : ◌≡◌ {A = Result ℕ E} (Err e) (Ok (digits_value 10 bs)) → ⊥
     never p = cc
 
--- fewer than two words tell no command
+-- fewer than two words state no command
 pub few_words : (words : List (String Global)) → length words < 2 → command_in (map string_bytes words) ≡ None
 few_words [] h = refl
 few_words (word ∷ []) h = refl

@@ -29,10 +29,10 @@ pub record IsMisused (asked : Asked) (expected : Expected) : Type 0 where
   pub none_failed : NoneFailed asked.fetches
   pub expected_is : expected ≡ with_line status.Usage usage
 
--- the words tell a command, of which this is expected
+-- the words state a command, of which this is expected
 pub record IsCommanded (asked : Asked) (expected : Expected) : Type 0 where
   pub command : Command
-  pub told : command_in asked.words ≡ Some command
+  pub form : command_in asked.words ≡ Some command
   pub expected_of : ForCommand (as_fetched asked.fetches) command expected
 
 abbrev pub IsExpected : Asked → Expected → Type 0
@@ -46,8 +46,8 @@ PsmSays asked = Says (IsExpected asked)
 
 -- ---- completeness
 
--- Words without a form are answered Usage, where no put failed. Where they tell a command, the status that is expected for what the
--- shelf tells of its files is answered, where no put and no fetch of its files failed. Memory may run out in place of both.
+-- Words without a form are answered Usage, where no put failed. Where they state a command, the status that is expected for what the
+-- shelf holds of its files is answered, where no put and no fetch of its files failed. Memory may run out in place of both.
 pub record PsmCompletes (asked : Asked) (sunk : Sunk) (answer : Status) : Type 0 where
   pub misused : Stayed sunk.faults_before sunk.faults_after → command_in asked.words ≡ None → Answers status.Usage answer
   pub commanded : (command : Command) → command_in asked.words ≡ Some command → CommandCompletes asked.fetches command sunk answer

@@ -7,7 +7,7 @@ use Rattle.std.specs.Str.Parse.{digits_value}
 use Rattle.psm_commands.specs.Command.{Command, Files, Run, Compile, Exec, Generate, named}
 use Rattle.psm_commands.specs.Generated.{most_calls}
 
--- the turns where the words tell none
+-- the turns where the words state none
 abbrev pub default_turns : ℕ
 default_turns = 1000000
 
@@ -33,13 +33,13 @@ abbrev pub with_turns : (Files → Command) → List ℕ → List ℕ → Option
 with_turns over c s None = None
 with_turns over c s (Some n) = Some (over (named c s n))
 
--- the command that runs a script, where the first word tells one
+-- the command that runs a script, where the first word states one
 abbrev pub script_with : List ℕ → List ℕ → List ℕ → Option ℕ → Option Command
 script_with word c s turns = if is_word word (codes "run") then with_turns Run c s turns
     else if is_word word (codes "exec") then with_turns Exec c s turns
     else None
 
--- the turns that the words after the names tell
+-- the turns that the words after the names state
 abbrev pub turns_of : List (List ℕ) → Option ℕ
 turns_of [] = Some default_turns
 turns_of (option ∷ []) = None
@@ -63,7 +63,7 @@ short_with word w = if is_word word (codes "compile") then Some (Compile w)
     else if is_word word (codes "gen") then generate_with (bounded (number_of w))
     else None
 
--- ---- the command that the words tell, where they have a form
+-- ---- the command that the words state, where they have a form
 
 abbrev pub command_in : List (List ℕ) → Option Command
 command_in [] = None

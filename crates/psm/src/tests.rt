@@ -57,7 +57,7 @@ fn call(
     )
 }
 
-// The same where the fetches of these numbers fail, and the puts of these numbers, which keep so many bytes.
+// The same where the fetches of these numbers fail, and the puts of these numbers, which keep as many bytes as stand with them.
 fn failing_call(
     alloc: Global,
     given: &str,
@@ -110,7 +110,7 @@ fn a_listing_and_a_script_print_their_lines(rt: HostRuntime) -> Result<(), Fail>
 }
 
 #[test]
-fn the_words_tell_how_many_turns_there_are(rt: HostRuntime) -> Result<(), Fail> {
+fn the_words_state_how_many_turns_there_are(rt: HostRuntime) -> Result<(), Fail> {
     let turning =
         "CREATE MODULE M PROCEDURE p (OUT s INTEGER) BEGIN DECLARE i INTEGER DEFAULT 0; SET s = 0; l: LOOP SET i = i + 1; IF i > 5 THEN LEAVE l; END IF; IF i = 3 THEN ITERATE l; END IF; SET s = s + i; END LOOP l; END; END MODULE";
     let done = "1 CALL P\nS = 12\nOK\n";
@@ -191,7 +191,7 @@ fn a_file_over_the_bound_is_too_long(rt: HostRuntime) -> Result<(), Fail> {
 }
 
 #[test]
-fn a_fetch_that_fails_is_told(rt: HostRuntime) -> Result<(), Fail> {
+fn a_fetch_that_fails_is_reported(rt: HostRuntime) -> Result<(), Fail> {
     let alloc = rt.alloc();
     for (given, fetch, written) in [
         ("run M S", 1, "cannot read M\n"),

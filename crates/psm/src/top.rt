@@ -13,7 +13,7 @@ use psm_files::{Status, put_line};
 use psm_io::{Shelf, Sink};
 use std::alloc::Global;
 
-/// Does what the words after the program's name say, and tells how it ended.
+/// Does what the words after the program's name say, and answers how it ended.
 pub fn psm<F: Shelf, K: Sink>(alloc: Global, words: &[String], shelf: &mut F, out: &mut K) -> Status
     // Each status comes only for its cause, and what is written is what is expected.
     ensures says { PsmSays (asked_of words.now (fetches_of F.held F.faults shelf.old shelf.new))

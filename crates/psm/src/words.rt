@@ -7,14 +7,14 @@ ghost use Rattle.psm.specs.Words.{begins_with_zero, bounded, command_in, generat
 
 use psm_commands::{Command, Files, MOST_CALLS};
 
-/// The turns of a session where the words tell none.
+/// The turns of a session where the words state none.
 const DEFAULT_TURNS: u64 = 1_000_000;
 
-/// The command that the words after the program's name tell, where they have the form `run M S`, `compile M`, `exec O S` or `gen N`;
+/// The command that the words after the program's name state, where they have the form `run M S`, `compile M`, `exec O S` or `gen N`;
 /// `--turns N` may stand after the files of `run` and `exec`.
 pub fn command_in(words: &[String]) -> Option<Command<'_>>
     ensures can { IfSome result CanBeDone }
-    ensures told { MatchOption result (command_in (map string_bytes words.now) ≡ None)
+    ensures form { MatchOption result (command_in (map string_bytes words.now) ≡ None)
         (λ c. command_in (map string_bytes words.now) ≡ Some (command_of c)) }
 {
     match words {
@@ -32,7 +32,7 @@ pub fn command_in(words: &[String]) -> Option<Command<'_>>
 // The command of two words, `compile` or `gen` by the first.
 fn short_for<'a>(word: &str, subject: &'a str) -> Option<Command<'a>>
     ensures can { IfSome result CanBeDone }
-    ensures told { MatchOption result (short_with word.now subject.now ≡ None)
+    ensures form { MatchOption result (short_with word.now subject.now ≡ None)
         (λ c. short_with word.now subject.now ≡ Some (command_of c)) }
 {
     if word == "compile" {
@@ -47,7 +47,7 @@ fn short_for<'a>(word: &str, subject: &'a str) -> Option<Command<'a>>
 // The command `gen` with that number of calls, if there is one and it isn't above the most.
 fn generate_for<'a>(number: Option<u64>) -> Option<Command<'a>>
     ensures can { IfSome result CanBeDone }
-    ensures told { MatchOption result (generate_with (bounded number) ≡ None)
+    ensures form { MatchOption result (generate_with (bounded number) ≡ None)
         (λ c. generate_with (bounded number) ≡ Some (command_of c)) }
 {
     let calls = number?;
@@ -66,7 +66,7 @@ fn script_for<'a>(
     turns: Option<u64>,
 ) -> Option<Command<'a>>
     ensures can { IfSome result CanBeDone }
-    ensures told { MatchOption result (script_with word.now for_code.now for_script.now turns ≡ None)
+    ensures form { MatchOption result (script_with word.now for_code.now for_script.now turns ≡ None)
         (λ c. script_with word.now for_code.now for_script.now turns ≡ Some (command_of c)) }
 {
     let turns = turns?;
@@ -84,7 +84,7 @@ fn script_for<'a>(
     }
 }
 
-// The turns that the words after the names tell.
+// The turns that the words after the names state.
 fn turns_in(options: &[String]) -> Option<u64>
     ensures { result ≡ turns_of (map string_bytes options.now) }
 {

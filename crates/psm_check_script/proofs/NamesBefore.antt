@@ -12,7 +12,7 @@ use Rattle.psm_rules.specs.declared.rule.Rule.TheVariants.{ColumnRepeated}
 use Rattle.psm_rules.specs.Faults.{breaks_if, earlier, first_from}
 use Rattle.psm_rules.specs.StatementFaults.{repeated, repeated_from}
 
--- ---- what an addition tells
+-- ---- what an addition says
 
 -- exactly one name more is seen
 abbrev pub Sees : {A : Type 0} → Spelling → List (Spelling × A) → List (Spelling × A) → Type 0
@@ -47,17 +47,17 @@ sees_more false old new x i a = (a.0, sees_again old new i a.0 a.1)
 
 -- ---- the first fault so far, with those of the rest
 
-pub record Told (A : Type 0) (seen : List (Spelling × A)) (fault : Option Fault) (rest : List Identifier) (all : Option Fault) : Type 0 where
+pub record FaultSoFar (A : Type 0) (seen : List (Spelling × A)) (fault : Option Fault) (rest : List Identifier) (all : Option Fault) : Type 0 where
   pub before : List Spelling
   pub marked : (n : Spelling) → is_some (named n seen) ≡ list_any (is_spelled n) before
   pub found : first_from fault (repeated_from ColumnRepeated before rest) ≡ all
 
-pub told_none : (A : Type 0) (names : List Identifier) → Told A [] None names (repeated ColumnRepeated names)
-told_none A names = record { before = []; marked = λ n. refl; found = refl }
+pub so_far_none : (A : Type 0) (names : List Identifier) → FaultSoFar A [] None names (repeated ColumnRepeated names)
+so_far_none A names = record { before = []; marked = λ n. refl; found = refl }
 
-pub told_next : (A : Type 0) (old new : List (Spelling × A)) (fault next : Option Fault) (i : Identifier) (rest : List Identifier) (all : Option Fault)
-    → next ≡ earlier fault (breaks_if (is_some (named i.name old)) ColumnRepeated i.place) → Sees i.name old new → Told A old fault (i ∷ rest) all → Told A new next rest all
-told_next A old new fault next i rest all e s h = record {
+pub so_far_next : (A : Type 0) (old new : List (Spelling × A)) (fault next : Option Fault) (i : Identifier) (rest : List Identifier) (all : Option Fault)
+    → next ≡ earlier fault (breaks_if (is_some (named i.name old)) ColumnRepeated i.place) → Sees i.name old new → FaultSoFar A old fault (i ∷ rest) all → FaultSoFar A new next rest all
+so_far_next A old new fault next i rest all e s h = record {
   before = i.name ∷ h.before;
   marked = λ n. s n ∙ ap (λ b. is_spelled n i.name || b) (h.marked n);
   found =

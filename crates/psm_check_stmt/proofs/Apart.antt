@@ -1,4 +1,4 @@
--- Routines that can't be told apart, as they are kept.
+-- Routines that can't be distinguished, as they are kept.
 use Rattle.std.proofs.Common.{◌≡◌, Bool, true, false, ◌&&◌, ◌||◌, not, List, [], ◌∷◌, ◌++◌, refl, sym, ap, ◌∙◌}
 use Rattle.std.specs.Prelude.{nat_eq, Option, if◌then◌else◌}
 use Rattle.std.specs.List.{list_any}
@@ -65,7 +65,7 @@ module _ {K : Type 0} (eq : K → K → Bool) (p : K → Bool) (k : K) (same : (
 
 -- ---- the keys of functions
 
--- what the key of a function tells of it
+-- what the key of a function says of it
 module _ (r : Routine) (k : FunctionKey) (name : k.name.name.now ≡ r.name.name) (kinds : cow_slice_items k.kinds ≡ kinds_of r) where
   function_key_is : (q : Routine) → is_function_key q k ≡ same_functions q r
   function_key_is q =
@@ -86,7 +86,7 @@ module _ (functions : List FunctionKey) (procedures : List CallKey) (before : Li
       ∙ ap (λ l. list_any (λ a. pointwise nat_eq r.name.name a.name.name.now && pointwise is_kind l (cow_slice_items a.kinds)) functions) kinds
       ∙ seen_routines.of_functions r
 
-  -- a function whose key is there already can't be told apart
+  -- a function whose key is there already can't be distinguished
   pub function_apart : (added : Bool) → added ≡ not (list_any (same_function k) functions) → (fault : Option Fault) → fault ≡ breaks_if (not added) rule.FunctionsNotDistinct r.name.place → fault ≡ distinct r before
   function_apart added e fault f =
       f

@@ -73,7 +73,7 @@ seen_again {A} old new names i seen there e n = ap (λ l. is_some (named n l)) e
 pub seen_same : {A : Type 0} (old new : List (Spelling × A)) (names : List Identifier) → AreSeen old names → new ≡ old → AreSeen new names
 seen_same old new names seen e n = ap (λ l. is_some (named n l)) e ∙ seen n
 
--- ---- what an addition tells
+-- ---- what an addition says
 
 -- whether it was seen, and what is seen now
 pub added_to : {A : Type 0} (added : Bool) (old new : List (Spelling × A)) (x : A) (names : List Identifier) (i : Identifier)

@@ -1,4 +1,4 @@
-//! Routines that can't be told apart.
+//! Routines that can't be distinguished.
 ghost use Rattle.std.specs.Prelude.{◌≡◌, ◌∷◌, [], true, false, IfOk};
 ghost use Rattle.psm_rules.specs.FileFaults.{is_function, distinct};
 ghost use Rattle.psm_check_stmt.specs.SeenRoutines.{IsFunctionKey};
@@ -92,7 +92,7 @@ impl<'a> SeenRoutines<'a> {
     }
 }
 
-// What tells a function from others: its name and the kinds of its parameters.
+// What distinguishes a function from others: its name and the kinds of its parameters.
 fn function_key<'a>(alloc: Global, r: &'a Routine) -> Result<FunctionKey<'a>, AllocError>
     ensures { IfOk result (λ key. IsFunctionKey r.now key) }
 {

@@ -32,7 +32,7 @@ use Rattle.psm_checker_sound.proofs.Moving.{IsHere}
 use Rattle.psm_checker_sound.proofs.Premises.{PartsWellFormed}
 use Rattle.psm_declare.specs.Declarations.{Numbered, cursors_of, declarations_of, opened, numbered_by, numbered_cursors}
 
--- ---- what is told
+-- ---- what is known
 
 abbrev pub before : Option Spelling → Scopes → Numbering → Numbered
 before label outer n = (opened label outer, n)

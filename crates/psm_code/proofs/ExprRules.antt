@@ -71,7 +71,7 @@ names_are_there c v (op.Variable i) t h = named_in (slice_get v i) t h
 names_are_there c v (op.Column i) t h = named_in (slice_get c i) t h
 names_are_there c v o t h = refl
 
--- ---- the lines from a place on
+-- ---- the lines from an index on
 
 pub record Tail (lines : List Line) (at : ℕ) (rest : List Line) : Type 0 where
   pub same : (d p : ℕ) → p ≡ at + d → slice_get lines p ≡ slice_get rest d
@@ -114,20 +114,20 @@ module _ (lines : List Line) (at : ℕ) (after : List Line) (t : Tail lines (suc
   falls_same k None rest = refl
   falls_same k (Some puts) rest = landed k 0 (suc at) (puts ++ rest) (omega arith) (omega arith)
 
-  abbrev Ahead : ℕ → Type 0
-  Ahead p = (at < p) × (p ≤ length lines)
+  abbrev IsForward : ℕ → Type 0
+  IsForward p = (at < p) × (p ≤ length lines)
 
-  branches_same : (k : Letter) (b : Option (ℕ × List Letter)) (rest : List Letter) → ((p : ℕ) → option_map (λ (j : ℕ × List Letter). j.0) b ≡ Some p → Ahead p)
+  branches_same : (k : Letter) (b : Option (ℕ × List Letter)) (rest : List Letter) → ((p : ℕ) → option_map (λ (j : ℕ × List Letter). j.0) b ≡ Some p → IsForward p)
       → branches k at b rest after ≡ jumps_on (Some k) lines b rest
   branches_same k None rest a = refl
   branches_same k (Some jump) rest a =
-      let h : Ahead jump.0 = a jump.0 refl in
+      let h : IsForward jump.0 = a jump.0 refl in
       let q : jump.0 ≡ suc at + (jump.0 - suc at) = omega (arith, h.0) in
       ap (λ b. b && lands k after (jump.0 - suc at) (jump.1 ++ rest)) (lt-ltb at jump.0 h.0)
       ∙ landed k (jump.0 - suc at) jump.0 (jump.1 ++ rest) q (omega (arith, h.0, h.1, t.long))
 
   -- over a target ahead, and within the lines or at their end
-  leads_same : (k : Letter) (o : Op) (j x : Letter) (s : List Letter) → ((p : ℕ) → target_of o ≡ Some p → Ahead p)
+  leads_same : (k : Letter) (o : Op) (j x : Letter) (s : List Letter) → ((p : ℕ) → target_of o ≡ Some p → IsForward p)
       → leads k at (effect o j x) s after ≡ are_stated_after (Some k) lines at (effect o j x) (left_of (effect o j x).takes s)
   leads_same k o j x s a = by (left_of (effect o j x).takes s) where
     by : (r : Option (List Letter)) → goes_on_with k at (effect o j x) r after ≡ are_stated_after (Some k) lines at (effect o j x) r
@@ -137,7 +137,7 @@ module _ (lines : List Line) (at : ℕ) (after : List Line) (t : Tail lines (suc
         ∙ ap (λ b. falls_on (Some k) lines at (effect o j x).fall_through rest && b)
         (branches_same k (effect o j x).branching rest (λ p q. a p (sym (targets_are o j x) ∙ q)))
 
-  branch_ahead : (k : Letter) (b : Option (ℕ × List Letter)) (rest : List Letter) (p : ℕ) → option_map (λ (j : ℕ × List Letter). j.0) b ≡ Some p → branches k at b rest after ≡ true → Ahead p
+  branch_ahead : (k : Letter) (b : Option (ℕ × List Letter)) (rest : List Letter) (p : ℕ) → option_map (λ (j : ℕ × List Letter). j.0) b ≡ Some p → branches k at b rest after ≡ true → IsForward p
   branch_ahead k None rest p q h = absurd (cc)
   branch_ahead k (Some jump) rest p q h =
       let same : jump.0 ≡ p = cc in
@@ -146,9 +146,9 @@ module _ (lines : List Line) (at : ℕ) (after : List Line) (t : Tail lines (suc
       (omega (arith, same, low), omega (arith, same, low, high, t.long))
 
   -- the target of an operation that leads on
-  target_ahead : (k : Letter) (o : Op) (j x : Letter) (s : List Letter) → leads k at (effect o j x) s after ≡ true → (p : ℕ) → target_of o ≡ Some p → Ahead p
+  target_ahead : (k : Letter) (o : Op) (j x : Letter) (s : List Letter) → leads k at (effect o j x) s after ≡ true → (p : ℕ) → target_of o ≡ Some p → IsForward p
   target_ahead k o j x s h p q = by (left_of (effect o j x).takes s) h where
-    by : (r : Option (List Letter)) → goes_on_with k at (effect o j x) r after ≡ true → Ahead p
+    by : (r : Option (List Letter)) → goes_on_with k at (effect o j x) r after ≡ true → IsForward p
     by None g = absurd (false≢true g)
     by (Some rest) g =
         branch_ahead k (effect o j x).branching rest p (targets_are o j x ∙ q) (and_second (falls_through k (effect o j x).fall_through rest after) (branches k at (effect o j x).branching rest after) g)

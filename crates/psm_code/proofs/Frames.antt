@@ -122,7 +122,7 @@ module _ (code : RawCode) (r : RawRoutine) where
   -- ---- the walk outward
 
   -- a handler that is there, and its block is among the frames
-  pub record Around (p : Numbered) (frames : List Frame) : Type 0 where
+  pub record Encloses (p : Numbered) (frames : List Frame) : Type 0 where
     pub there : handler_at r p.0 ≡ Some p.1
     pub enclosing : list_any (is_block p.1.context) frames ≡ true
 
@@ -143,10 +143,10 @@ module _ (code : RawCode) (r : RawRoutine) where
     module _ (rank : Numbered → ℕ) (p : Numbered) where
       -- what a walk through n contexts finds
       abbrev Found : ℕ → Type 0
-      Found n = (j : ℕ) (rest : List Frame) → Stand code r rest j → chosen rank (scopes_within r.handlers n j) ≡ Some p → Around p rest
+      Found n = (j : ℕ) (rest : List Frame) → Stand code r rest j → chosen rank (scopes_within r.handlers n j) ≡ Some p → Encloses p rest
 
       own_or : (o : Option Numbered) (k j n : ℕ) (found : Option (List Contents)) (rest : List Frame) (parent : ℕ) → j ≡ k → (o ≡ Some p → (handler_at r p.0 ≡ Some p.1) × (p.1.context ≡ k)) → Found n → Stand code r rest parent
-          → or_else o (chosen rank (scopes_within r.handlers n parent)) ≡ Some p → Around p (InBlock j found ∷ rest)
+          → or_else o (chosen rank (scopes_within r.handlers n parent)) ≡ Some p → Encloses p (InBlock j found ∷ rest)
       own_or None k j n found rest parent s h rec st e =
           let f = rec parent rest st e in
           record { there = f.there; enclosing = or_later (nat_eq p.1.context j) (list_any (is_block p.1.context) rest) f.enclosing }
@@ -155,7 +155,7 @@ module _ (code : RawCode) (r : RawRoutine) where
           record { there = f.0; enclosing = or_first (nat_eq p.1.context j) (list_any (is_block p.1.context) rest) (eq-eqb p.1.context j (f.1 ∙ sym s)) }
 
       at_block : (n k parent : ℕ) (b : Block) (frames : List Frame) → Found n → Stand code r frames k → (c : Context) → context_at r.handlers k ≡ Some c → c.kind ≡ kinds.Block b → parent ≡ c.parent
-          → chosen rank (own_handlers r.handlers k ∷ scopes_within r.handlers n parent) ≡ Some p → Around p frames
+          → chosen rank (own_handlers r.handlers k ∷ scopes_within r.handlers n parent) ≡ Some p → Encloses p frames
       at_block n k parent b [] rec h c q kind up e = let none : context_at r.handlers k ≡ None = ap (context_at r.handlers) h in absurd (cc)
       at_block n k parent b (InBlock j found ∷ rest) rec h c q kind up e =
           let same : parent_of (context_at r.handlers k) ≡ parent = ap parent_of q ∙ sym up in
@@ -166,7 +166,7 @@ module _ (code : RawCode) (r : RawRoutine) where
           absurd (cc)
 
       at_action : (n k i : ℕ) (frames : List Frame) → Found n → Stand code r frames k → (c : Context) → context_at r.handlers k ≡ Some c → c.kind ≡ kinds.Action i
-          → chosen rank (scopes_within r.handlers n (outside r.handlers i)) ≡ Some p → Around p frames
+          → chosen rank (scopes_within r.handlers n (outside r.handlers i)) ≡ Some p → Encloses p frames
       at_action n k i [] rec h c q kind e = let none : context_at r.handlers k ≡ None = ap (context_at r.handlers) h in absurd (cc)
       at_action n k i (InBlock j found ∷ rest) rec h c q kind e =
           let block : block_of_kind c.kind ≡ Some h.0.block = ap block_of_context (sym q) ∙ h.0.there in
@@ -186,12 +186,12 @@ module _ (code : RawCode) (r : RawRoutine) where
           record { there = f.there; enclosing = from_enclosing h.handler.context p.1.context rest deep }
 
       by_kind : (n k : ℕ) (frames : List Frame) (kind : ContextKind) → Found n → Stand code r frames k → (c : Context) → context_at r.handlers k ≡ Some c → c.kind ≡ kind
-          → chosen rank (scopes_of_kind r.handlers (scopes_within r.handlers n) k c.parent kind) ≡ Some p → Around p frames
+          → chosen rank (scopes_of_kind r.handlers (scopes_within r.handlers n) k c.parent kind) ≡ Some p → Encloses p frames
       by_kind n k frames (kinds.Block b) rec h c q f e = at_block n k c.parent b frames rec h c q f refl e
       by_kind n k frames (kinds.Action i) rec h c q f e = at_action n k i frames rec h c q f e
 
       by_context : (n k : ℕ) (frames : List Frame) (o : Option Context) → Found n → Stand code r frames k → context_at r.handlers k ≡ o
-          → chosen rank (scopes_from r.handlers (scopes_within r.handlers n) k o) ≡ Some p → Around p frames
+          → chosen rank (scopes_from r.handlers (scopes_within r.handlers n) k o) ≡ Some p → Encloses p frames
       by_context n k frames None rec h q e = absurd (cc)
       by_context n k frames (Some c) rec h q e = by_kind n k frames c.kind rec h c q refl e
 

@@ -27,7 +27,7 @@ get_first [] ys x u (suc j) e = absurd (cc)
 get_first (y ∷ xs) ys x u zero e = e
 get_first (y ∷ xs) ys x u (suc j) e = get_first xs ys x u j e
 
--- the items before one, each at its place in the list, and the lines of that
+-- the items before one, each at its index in the list, and the lines of that
 record Placed {A : Type 0} (f : List A → A → List (Option CodeRule)) (all : List A) (n : ℕ) (x : A) : Type 0 where
   before : List A
   long : length before ≡ n

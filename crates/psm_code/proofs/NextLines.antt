@@ -54,7 +54,7 @@ same_stack-same (k ∷ s) (l ∷ t) h =
 
 -- ---- lines
 
--- the line at a place states these letters, and stands in a context
+-- the line at an index states these letters, and stands in a context
 pub record Next (r : RawRoutine) (at : ℕ) (s : List Letter) (k : ℕ) : Type 0 where
   pub line : CodeLine
   pub there : line_at r at ≡ Some line

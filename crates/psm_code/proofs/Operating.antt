@@ -11,7 +11,7 @@ use Rattle.psm_exprcode.specs.declared.op.Letter.{Letter}
 use Rattle.psm_exprcode.specs.declared.op.Op.{Op}
 use Rattle.psm_exprcode.specs.declared.op.Op.TheVariants as op
 use Rattle.psm_exprcode.specs.declared.operand.Operand.{Operand}
-use Rattle.psm_exprcode.specs.declared.operand.Next.TheVariants.{Ahead, Jump}
+use Rattle.psm_exprcode.specs.declared.operand.Next.TheVariants.{FallThrough, Jump}
 use Rattle.psm_exprcode.specs.Applied.{Applied, Went, Raised, Stuck, applied}
 use Rattle.psm_exprcode.specs.Fits.{Fits}
 use Rattle.psm_exprcode.specs.Kinds.{are_of, has_letter, have, is_value, letter_of}
@@ -117,7 +117,7 @@ module _ (code : RawCode) (well_formed_code : first_fault code ≡ None) (r : Ra
     jump : (j : ℕ × List Letter) → branching ≡ Some j → Next r j.0 (j.1 ++ rest) c
 
   went_fall_through : (m : Machine) (fall_through : Option (List Letter)) (branching : Option (ℕ × List Letter)) (rest : List Letter) (os : List Operand) → Places m.running.line fall_through branching rest → IsAhead fall_through rest os → Body code r Line m
-      → StaysWellFormed code (settled code (applied_as (Went Ahead os) m).given (applied_as (Went Ahead os) m).machine)
+      → StaysWellFormed code (settled code (applied_as (Went FallThrough os) m).given (applied_as (Went FallThrough os) m).machine)
   went_fall_through m None branching rest os p f h = absurd f
   went_fall_through m (Some puts) branching rest os p f h =
       let n = record m { running = record m.running { operands = os } } in
@@ -135,7 +135,7 @@ module _ (code : RawCode) (well_formed_code : first_fault code ≡ None) (r : Ra
 
   evaluates_to : (a : Applied) (m : Machine) (fall_through : Option (List Letter)) (branching : Option (ℕ × List Letter)) (rest : List Letter) → Places m.running.line fall_through branching rest → Leads fall_through branching rest a → Body code r Line m
       → ((state : List ℕ) → a ≡ Raised state → operation_raises o ≡ true) → StaysWellFormed code (settled code (applied_as a m).given (applied_as a m).machine)
-  evaluates_to (Went Ahead os) m fall_through branching rest p f h q = went_fall_through m fall_through branching rest os p f h
+  evaluates_to (Went FallThrough os) m fall_through branching rest p f h q = went_fall_through m fall_through branching rest os p f h
   evaluates_to (Went (Jump i) os) m fall_through branching rest p f h q = went_branch m fall_through branching rest os i p f h
   evaluates_to (Raised state) m fall_through branching rest p f h q = raises code well_formed_code (of_state state) m r Line g h (bears code well_formed_code r g Line m h (λ e. e) (of_state state) (q state refl))
   evaluates_to Stuck m fall_through branching rest p f h q = absurd f

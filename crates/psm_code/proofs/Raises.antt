@@ -52,7 +52,7 @@ block_context : (o : Option Context) (b : Block) → block_of_context o ≡ Some
 block_context None b h = absurd (cc)
 block_context (Some c) b h = (c, refl, block_kind c.kind b h)
 
--- a context that is there has its place
+-- a context that is there has its index
 place_of : (r : RawRoutine) (k : ℕ) (c : Context) → context_at r.handlers k ≡ Some c → (i : ℕ) × (k ≡ suc i) × (slice_get r.handlers.contexts i ≡ Some c)
 place_of r zero c e = absurd (cc)
 place_of r (suc i) c e =

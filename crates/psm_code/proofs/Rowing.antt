@@ -16,7 +16,7 @@ use Rattle.psm_value.specs.Stored.{stored}
 use Rattle.psm_value.proofs.Stable.{stored-of_family}
 use Rattle.psm_table.specs.declared.definition.Column.{Column}
 use Rattle.psm_table.specs.declared.definition.TableDef.{TableDef}
-use Rattle.psm_table.specs.Changing.{all_apart, counting, deleted, deleted_at, divided, ended, has_moved, in_order, inserted, is_before, is_filled, kind_of, moving, new_values, placed_in, rows_but, set_row, stored_row, stored_rows, then_of, updated, updated_at, with_values, Changed, Division, Failure, Moved, Schema, SetItem}
+use Rattle.psm_table.specs.Changing.{all_apart, counting, deleted, deleted_at, divided, ended, has_moved, in_order, inserted, is_before, is_filled, kind_of, moving, new_values, inserted_in, rows_but, set_row, stored_row, stored_rows, then_of, updated, updated_at, with_values, Changed, Division, Failure, Moved, Schema, SetItem}
 use Rattle.psm_table.specs.Definition.{kinds_of, AreOfFamilies, IsRow}
 use Rattle.psm_table.specs.Evaluator.{and_then, mapped, Evaluator}
 use Rattle.psm_table.specs.Key.{row_order, values_at}
@@ -65,16 +65,16 @@ are_rows def (row ∷ rows) w f =
 -- ---- the end of a statement
 
 module _ (P : Row → Type 0) (key : List ℕ) where
-  placed_all : (row : Row) (rows : List Row) → P row → All P rows → All P (placed_in key row rows)
-  placed_all row [] p h = All-cons P row [] p h
-  placed_all row (r ∷ rows) p h = by (is_before key row r) (placed_all row rows p (All-tail P r rows h)) where
-    by : (b : Bool) → All P (placed_in key row rows) → All P (if b then row ∷ r ∷ rows else r ∷ placed_in key row rows)
+  inserted_all : (row : Row) (rows : List Row) → P row → All P rows → All P (inserted_in key row rows)
+  inserted_all row [] p h = All-cons P row [] p h
+  inserted_all row (r ∷ rows) p h = by (is_before key row r) (inserted_all row rows p (All-tail P r rows h)) where
+    by : (b : Bool) → All P (inserted_in key row rows) → All P (if b then row ∷ r ∷ rows else r ∷ inserted_in key row rows)
     by true k = All-cons P row (r ∷ rows) p h
-    by false k = All-cons P r (placed_in key row rows) (All-head P r rows h) k
+    by false k = All-cons P r (inserted_in key row rows) (All-head P r rows h) k
 
   ordered_all : (rows : List Row) → All P rows → All P (in_order key rows)
   ordered_all [] h = h
-  ordered_all (row ∷ rows) h = placed_all row (in_order key rows) (All-head P row rows h) (ordered_all rows (All-tail P row rows h))
+  ordered_all (row ∷ rows) h = inserted_all row (in_order key rows) (All-head P row rows h) (ordered_all rows (All-tail P row rows h))
 
 ended_rows : {E : Type 0} (ev : Evaluator E) (schema : Schema E) (rows after : List Row) → All (Whole schema.def) rows → ended ev schema rows ≡ Ok after → All (IsRow schema.def) after
 ended_rows ev schema rows after w e =

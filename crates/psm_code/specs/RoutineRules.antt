@@ -42,7 +42,7 @@ use Rattle.psm_code.specs.TableRules.{are_in_turn, are_there, is_in_bounds, is_o
 abbrev pub type_fault : SqlType → Option CodeRule
 type_fault t = unless (is_type t) Range
 
--- kinds of types, of which functions of one name are told apart by those of their parameters
+-- kinds of types, of which functions of one name are distinguished by those of their parameters
 abbrev pub is_same_kind : SqlType → SqlType → Bool
 is_same_kind SmallInt SmallInt = true
 is_same_kind Integer Integer = true

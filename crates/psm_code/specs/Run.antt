@@ -52,7 +52,7 @@ then_fall_through act = do
 -- ---- expressions, which see no columns
 
 abbrev pub successor_of : Next → Successor
-successor_of next_line.Ahead = fall_through
+successor_of next_line.FallThrough = fall_through
 successor_of (next_line.Jump line) = at line
 
 abbrev pub applied_as : Applied → Act Successor

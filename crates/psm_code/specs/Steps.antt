@@ -78,7 +78,7 @@ put x = change (with_running (λ a. record a { operands = x ∷ a.operands }))
 abbrev pub put_value : Datum → Act (Unit {0})
 put_value d = put (Value d)
 
--- values, the first of which comes to stand on top
+-- values, the first of which stands on top then
 abbrev pub put_values : List Datum → Act (Unit {0})
 put_values [] = got tt
 put_values (d ∷ ds) = do

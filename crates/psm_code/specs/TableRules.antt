@@ -116,7 +116,7 @@ ends_due columns variables due lines =
     not (at_ends (λ at o s. not (there (op_fault columns variables lines at o s))) (length lines) 0 lines)
     || (not (at_ends (λ at o s. false) (length lines) 0 lines) && some_letter (λ k. due k && all_bring columns variables lines k))
 
--- an expression: its own line, at which it is told that it doesn't end with one operand of a letter that is due, and its lines
+-- an expression: its own line, at which it is reported that it doesn't end with one operand of a letter that is due, and its lines
 abbrev pub expr_faults : List Letter → List Letter → (Letter → Bool) → List Line → List (Option CodeRule)
 expr_faults columns variables due lines = unless (ends_due columns variables due lines) Stack ∷ expr_line_faults columns variables lines 0 lines
 
@@ -171,7 +171,7 @@ unique_fault def columns = first_of (unless (are_there def.columns columns) Rang
 abbrev pub keys_from : List ForeignKey → ℕ → List ForeignKey
 keys_from keys n = filter (λ key. nat_eq key.from n) keys
 
--- whether they stand in the order of the referencing tables, of which there are so many
+-- whether they stand in the order of the referencing tables, which are counted
 abbrev pub are_in_turn : ℕ → ℕ → List ForeignKey → Bool
 are_in_turn at count [] = true
 are_in_turn at count (key ∷ keys) = (nat_le at key.from && nat_lt key.from count) && are_in_turn key.from count keys

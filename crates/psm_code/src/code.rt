@@ -40,7 +40,7 @@ pub struct CodeCursor {
     pub updatable: bool,
 }
 
-/// What a statement changes (ISO/IEC 9075:1992, 13.6 to 13.10). Columns are places among those of the table.
+/// What a statement changes (ISO/IEC 9075:1992, 13.6 to 13.10). A column is its index among those of the table.
 #[derive(Debug, Drop)]
 pub enum Plan {
     /// N rows are put in, of which the columns have values that stand among the operands, the first of all the lowest.

@@ -3,7 +3,7 @@
 use psm_cond::{ConditionItem, DiagnosticsArea, StatementItem};
 use psm_exprcode::Op;
 
-/// What a line of a routine does. A number of a line is its place in the routine, from 0; tables and routines are numbered in the
+/// What a line of a routine does. A number of a line is its index in the routine, from 0; tables and routines are numbered in the
 /// code, and all else in the routine.
 #[derive(Debug, Drop)]
 pub enum Instruction {

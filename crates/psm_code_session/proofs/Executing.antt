@@ -53,10 +53,10 @@ module _ (code : RawCode) (well_formed_code : first_fault code ≡ None) (k : �
       by run.0 run.1 run.2 right.0 right.1
     where
       by : (e : End) (last : Machine) → Ran code n values s.tables s.turns e last → is_due e ≡ true → AreLawful code last.tables → Executed code k s (commands.Call n values)
-      by (Ended ds) last ran due h = goes_on _ (after_run s last) (call takes.there ran) (record { tables = h; committed = kept.committed })
-      by (Raised c) last ran due h = goes_on _ (after_run s last) (call takes.there ran) (record { tables = h; committed = kept.committed })
-      by state.NoTurns last ran due h = runs_out _ (call takes.there ran)
-      by Stuck last ran due h = absurd cc
+      by (Ended ds) last ran expected h = goes_on _ (after_run s last) (call takes.there ran) (record { tables = h; committed = kept.committed })
+      by (Raised c) last ran expected h = goes_on _ (after_run s last) (call takes.there ran) (record { tables = h; committed = kept.committed })
+      by state.NoTurns last ran expected h = runs_out _ (call takes.there ran)
+      by Stuck last ran expected h = absurd cc
 
   -- ---- INSERT
 
@@ -67,13 +67,13 @@ module _ (code : RawCode) (well_formed_code : first_fault code ≡ None) (k : �
     abbrev insert_first : List ℕ
     insert_first = first_line k (command_name code Insert)
 
-    put_executed : (t : CodeTable) (c : Contents) → slice_get code.tables n ≡ Some t → slice_get s.tables n ≡ Some c → (due : Result Changed Failure) → inserted plain (schema_of (are_keyed_with code.keys (rows_in s.tables) n) t) (map (new_row t.definition columns) rows) c.rows ≡ due → Executed code k s Insert
+    put_executed : (t : CodeTable) (c : Contents) → slice_get code.tables n ≡ Some t → slice_get s.tables n ≡ Some c → (expected : Result Changed Failure) → inserted plain (schema_of (are_keyed_with code.keys (rows_in s.tables) n) t) (map (new_row t.definition columns) rows) c.rows ≡ expected → Executed code k s Insert
     put_executed t c there here (Ok change) e =
         goes_on (insert_first ++ ok_line) (with_tables (slice_set s.tables n (record c { rows = change.rows })) s)
-        (subst (λ due. CommandExecutes code k s Insert (put_in insert_first s n t c due)) e (insert there here))
+        (subst (λ expected. CommandExecutes code k s Insert (put_in insert_first s n t c expected)) e (insert there here))
         (record { tables = put_kept code s.tables well_formed_code kept.tables n t c there here columns rows change e; committed = kept.committed })
     put_executed t c there here (Err f) e =
-        goes_on (insert_first ++ condition_lines (condition_of t f)) s (subst (λ due. CommandExecutes code k s Insert (put_in insert_first s n t c due)) e (insert there here)) kept
+        goes_on (insert_first ++ condition_lines (condition_of t f)) s (subst (λ expected. CommandExecutes code k s Insert (put_in insert_first s n t c expected)) e (insert there here)) kept
 
     insert_executed : IsSome (slice_get code.tables n) → Executed code k s Insert
     insert_executed there = by (slice_get code.tables n) refl there

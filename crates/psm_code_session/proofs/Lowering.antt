@@ -130,7 +130,7 @@ procedures_are (x ∷ rs) n r is = by x.is_function refl (λ m at. procedures_ar
 
 abbrev pub AreSame : ScriptCommand → ScriptCommand → Type 0
 AreSame (made.Call n values) (made.Call m others) = (n ≡ m) × (values ≡ others)
-AreSame (made.Insert table columns rows) (made.Insert other places others) = (table ≡ other) × (columns ≡ places) × (rows ≡ others)
+AreSame (made.Insert table columns rows) (made.Insert other indexes others) = (table ≡ other) × (columns ≡ indexes) × (rows ≡ others)
 AreSame (made.Select q) (made.Select r) = (q.table ≡ r.table) × ((rows : List (List Datum)) → answer (over []) (query_of q) rows ≡ answer (over []) (query_of r) rows)
 AreSame made.Commit made.Commit = Unit {0}
 AreSame made.Rollback made.Rollback = Unit {0}
@@ -150,7 +150,7 @@ module _ (code : RawCode) (well_formed_code : first_fault code ≡ None) where
 
   made_same : (c : Command) (d e : ScriptCommand) → IsThere code c → AsksTables code c → CommandMade code c d → CommandMade code c e → AreSame d e
   made_same (Call procedure values) (made.Call n args) (made.Call m others) is asks h k = (call_same procedure n m values is h.0 k.0, h.1 ∙ sym k.1)
-  made_same (Insert table columns rows) (made.Insert at places values) (made.Insert other others lists) is asks h k = (h.0 ∙ sym k.0, h.1 ∙ sym k.1, h.2 ∙ sym k.2)
+  made_same (Insert table columns rows) (made.Insert at indexes values) (made.Insert other others lists) is asks h k = (h.0 ∙ sym k.0, h.1 ∙ sym k.1, h.2 ∙ sym k.2)
   made_same (Select query) (made.Select q) (made.Select r) is asks h k = (
     h.table ∙ sym k.table,
     λ rows. answers-same query q (record { known = known_of_tables code; none = refl; is = asks; made = h }) rows ∙ sym (answers-same query r (record { known = known_of_tables code; none = refl; is = asks; made = k }) rows),
@@ -158,7 +158,7 @@ module _ (code : RawCode) (well_formed_code : first_fault code ≡ None) where
   made_same Commit made.Commit made.Commit is asks h k = tt
   made_same Rollback made.Rollback made.Rollback is asks h k = tt
   made_same (Call procedure values) (made.Call n args) other is asks h k = absurd k
-  made_same (Insert table columns rows) (made.Insert at places values) other is asks h k = absurd k
+  made_same (Insert table columns rows) (made.Insert at indexes values) other is asks h k = absurd k
   made_same (Select query) (made.Select q) other is asks h k = absurd k
   made_same Commit made.Commit other is asks h k = absurd k
   made_same Rollback made.Rollback other is asks h k = absurd k
@@ -182,8 +182,8 @@ module _ (code : RawCode) where
   executes_same : (first : List ℕ) (s : Standing) (d e : ScriptCommand) (p : CommandResult) → AreSame d e → Executes code first s d p → Executes code first s e p
   executes_same first s (made.Call n values) (made.Call m others) p same h =
       subst (λ x. Executes code first s (made.Call m x) p) same.1 (subst (λ x. Executes code first s (made.Call x values) p) same.0 h)
-  executes_same first s (made.Insert table columns rows) (made.Insert other places others) p same h =
-      subst (λ x. Executes code first s (made.Insert other places x) p) same.2
+  executes_same first s (made.Insert table columns rows) (made.Insert other indexes others) p same h =
+      subst (λ x. Executes code first s (made.Insert other indexes x) p) same.2
       (subst (λ x. Executes code first s (made.Insert other x rows) p) same.1 (subst (λ x. Executes code first s (made.Insert x columns rows) p) same.0 h))
   executes_same first s (made.Select q) (made.Select r) p same (select {c = c} at) =
       subst (λ a. Executes code first s (made.Select r) (selected first s a)) (sym (same.1 c.rows)) (select (ap (slice_get s.tables) (sym same.0) ∙ at))
@@ -193,7 +193,7 @@ module _ (code : RawCode) where
 
   name_same : (d e : ScriptCommand) → AreSame d e → command_name code d ≡ command_name code e
   name_same (made.Call n values) (made.Call m others) same = ap (λ x. command_name code (made.Call x [])) same.0
-  name_same (made.Insert table columns rows) (made.Insert other places others) same = ap (λ x. command_name code (made.Insert x [] [])) same.0
+  name_same (made.Insert table columns rows) (made.Insert other indexes others) same = ap (λ x. command_name code (made.Insert x [] [])) same.0
   name_same (made.Select q) (made.Select r) same = refl
   name_same made.Commit made.Commit same = refl
   name_same made.Rollback made.Rollback same = refl

@@ -237,16 +237,16 @@ module _ (columns variables : List Letter) where
 
   -- ---- COALESCE
 
-  others_made : (k : Letter) (rest : List ResolvedExpr) (ys : List E) (places : List ℕ) (old w : Written) → AwaitsOthers columns variables k rest (map (λ y. y.0) ys) places old w → (new : Written) × WritesOthers columns variables k rest old new
-  others_made k rest [] places old w x =
-      let new : Written = record { lines = patched (op.JumpUnlessNull (length w.lines)) places w.lines; stack = w.stack } in
-      (new, others_end columns variables k rest [] places places old w new (Ok tt) refl refl x refl)
-  others_made k rest (y ∷ ys) places old w x =
-      let place : ℕ = length w.lines in
+  others_made : (k : Letter) (rest : List ResolvedExpr) (ys : List E) (indexes : List ℕ) (old w : Written) → AwaitsOthers columns variables k rest (map (λ y. y.0) ys) indexes old w → (new : Written) × WritesOthers columns variables k rest old new
+  others_made k rest [] indexes old w x =
+      let new : Written = record { lines = patched (op.JumpUnlessNull (length w.lines)) indexes w.lines; stack = w.stack } in
+      (new, others_end columns variables k rest [] indexes indexes old w new (Ok tt) refl refl x refl)
+  others_made k rest (y ∷ ys) indexes old w x =
+      let index : ℕ = length w.lines in
       let jumped : Written = with_line w (op.JumpUnlessNull 0) (drop 1 w.stack) in
       let one = source_made k y.0 y.1 jumped in
-      others_made k rest ys (places ++ place ∷ []) old one.0
-      (others_next columns variables k rest y.0 (y.0 ∷ map (λ y. y.0) ys) (map (λ y. y.0) ys) places (places ++ place ∷ []) place old w jumped one.0 refl refl x (refl, refl) one.1)
+      others_made k rest ys (indexes ++ index ∷ []) old one.0
+      (others_next columns variables k rest y.0 (y.0 ∷ map (λ y. y.0) ys) (map (λ y. y.0) ys) indexes (indexes ++ index ∷ []) index old w jumped one.0 refl refl x (refl, refl) one.1)
 
   coalesce_made : (values : Several E) (scale : Option ℕ) → Makes (exprs.Coalesce (several_map (λ e. e.0) values) scale)
   coalesce_made values scale old =
@@ -279,15 +279,15 @@ module _ (columns variables : List Letter) where
       let left : Written = with_line old (op.Jump 0) (drop 1 old.stack) in
       (record { lines = with_op_at left.lines unless (op.JumpUnlessTrue (length left.lines)); stack = left.stack }, (left, (refl, refl), refl))
 
-  whens_made : (k : Letter) (c : Bool) (before : List ResolvedWhen) (ys : List W) (places : List ℕ) (old w : Written) → WritesWhens columns variables k c before places old w
+  whens_made : (k : Letter) (c : Bool) (before : List ResolvedWhen) (ys : List W) (indexes : List ℕ) (old w : Written) → WritesWhens columns variables k c before indexes old w
       → (all : List ℕ) × (new : Written) × WritesWhens columns variables k c (before ++ map (λ y. y.0) ys) all old new
-  whens_made k c before [] places old w x = (places, w, branches_end columns variables k c before (before ++ []) places old w (sym (append-nil before)) x)
-  whens_made k c before (y ∷ ys) places old w x =
+  whens_made k c before [] indexes old w x = (indexes, w, branches_end columns variables k c before (before ++ []) indexes old w (sym (append-nil before)) x)
+  whens_made k c before (y ∷ ys) indexes old w x =
       let one = branch_made k c y w in
-      let place : ℕ = length one.1.lines in
+      let index : ℕ = length one.1.lines in
       let left = leave_made one.0 one.1 in
-      let more = whens_made k c (before ++ y.0 ∷ []) ys (places ++ place ∷ []) old left.0
-      (branches_next columns variables k c before (before ++ y.0 ∷ []) y.0 places (places ++ place ∷ []) one.0 place old w one.1 left.0 refl refl x one.2 left.1) in (
+      let more = whens_made k c (before ++ y.0 ∷ []) ys (indexes ++ index ∷ []) old left.0
+      (branches_next columns variables k c before (before ++ y.0 ∷ []) y.0 indexes (indexes ++ index ∷ []) one.0 index old w one.1 left.0 refl refl x one.2 left.1) in (
         more.0,
         more.1,
         branches_end columns variables k c ((before ++ y.0 ∷ []) ++ map (λ y. y.0) ys) (before ++ y.0 ∷ map (λ y. y.0) ys) more.0 old more.1 (append_assoc before (y.0 ∷ []) (map (λ y. y.0) ys)) more.2,
@@ -296,17 +296,17 @@ module _ (columns variables : List Letter) where
   branches_made : (k : Letter) (c : Bool) (whens : Several W) (old : Written) → (all : List ℕ) × (new : Written) × WritesWhens columns variables k c (listed (several_map (λ w. w.0) whens)) all old new
   branches_made k c whens old =
       let one = branch_made k c whens.first old in
-      let place : ℕ = length one.1.lines in
+      let index : ℕ = length one.1.lines in
       let left = leave_made one.0 one.1 in
-      whens_made k c (whens.first.0 ∷ []) whens.rest (place ∷ []) old left.0
-      (branches_first columns variables k c whens.first.0 whens.first.0 [] one.0 place (place ∷ []) old one.1 left.0 refl refl refl one.2 left.1)
+      whens_made k c (whens.first.0 ∷ []) whens.rest (index ∷ []) old left.0
+      (branches_first columns variables k c whens.first.0 whens.first.0 [] one.0 index (index ∷ []) old one.1 left.0 refl refl refl one.2 left.1)
 
   else_made : (k : Letter) (otherwise : Option E) (old : Written) → (new : Written) × WritesElse columns variables k (option_map (λ e. e.0) otherwise) old new
   else_made k None old = let new : Written = with_op old (op.Constant k data_of.Null) 0 k in (new, else_null columns variables k None old new (Ok tt) refl refl)
   else_made k (Some e) old = let x = source_made k e.0 e.1 old in (x.0, else_given columns variables k (Some e.0) e.0 old x.0 (Ok tt) refl x.1)
 
   abbrev closed : List ℕ → Written → Written
-  closed places w = record { lines = patched (op.Jump (length w.lines)) places w.lines; stack = w.stack }
+  closed indexes w = record { lines = patched (op.Jump (length w.lines)) indexes w.lines; stack = w.stack }
 
   case_made : (operand : Option E) (whens : Several W) (otherwise : Option E) (scale : Option ℕ)
       → Makes (exprs.Case (option_map (λ e. e.0) operand) (several_map (λ w. w.0) whens) (option_map (λ e. e.0) otherwise) scale)

@@ -8,7 +8,7 @@ use Rattle.psm_resolved.specs.declared.file.ResolvedRoutine.{ResolvedRoutine}
 use Rattle.psm_tablecode.proofs.Collecting.{first_of}
 use Rattle.psm_codegen.specs.Files.{numbers_of}
 
--- with those that are there, the numbers from a place on are all
+-- with those that are there, the numbers from an index on are all
 abbrev pub Numbers : (ResolvedRoutine → Bool) → List ResolvedRoutine → ℕ → List ℕ → Type 0
 Numbers test rs at done = done ++ numbers_of test at (drop at rs) ≡ numbers_of test 0 rs
 

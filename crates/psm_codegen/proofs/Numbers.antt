@@ -19,29 +19,29 @@ AreFunctions file known = (function : ℕ) (routine : ResolvedRoutine) → funct
 abbrev pub AreProcedures : ResolvedFile → Known → Type 0
 AreProcedures file known = (procedure : ℕ) (routine : ResolvedRoutine) → procedure_at file procedure ≡ Some routine → slice_get file.routines (procedure_number known procedure) ≡ Some routine
 
--- the number at that place is that of this routine, where the first of the routines has the number n
+-- the number at that index is that of this routine, where the first of the routines has the number n
 abbrev Numbered : List ℕ → List ResolvedRoutine → ℕ → ℕ → ResolvedRoutine → Type 0
-Numbered numbers routines n place routine = (i : ℕ) × (slice_get numbers place ≡ Some (n + i)) × (slice_get routines i ≡ Some routine)
+Numbered numbers routines n index routine = (i : ℕ) × (slice_get numbers index ≡ Some (n + i)) × (slice_get routines i ≡ Some routine)
 
-next : (numbers : List ℕ) (routines : List ResolvedRoutine) (r : ResolvedRoutine) (n place : ℕ) (routine : ResolvedRoutine) → Numbered numbers routines (suc n) place routine → Numbered numbers (r ∷ routines) n place routine
-next numbers routines r n place routine h = (suc h.0, h.1 ∙ ap Some (omega arith), h.2)
+next : (numbers : List ℕ) (routines : List ResolvedRoutine) (r : ResolvedRoutine) (n index : ℕ) (routine : ResolvedRoutine) → Numbered numbers routines (suc n) index routine → Numbered numbers (r ∷ routines) n index routine
+next numbers routines r n index routine h = (suc h.0, h.1 ∙ ap Some (omega arith), h.2)
 
-first : (b : Bool) (numbers : List ℕ) (kept routines : List ResolvedRoutine) (r : ResolvedRoutine) (n place : ℕ) (routine : ResolvedRoutine) → ((p : ℕ) → slice_get kept p ≡ Some routine → Numbered numbers routines (suc n) p routine)
-    → slice_get (if b then r ∷ kept else kept) place ≡ Some routine → Numbered (with_number b n numbers) (r ∷ routines) n place routine
-first false numbers kept routines r n place routine h q = next numbers routines r n place routine (h place q)
+first : (b : Bool) (numbers : List ℕ) (kept routines : List ResolvedRoutine) (r : ResolvedRoutine) (n index : ℕ) (routine : ResolvedRoutine) → ((p : ℕ) → slice_get kept p ≡ Some routine → Numbered numbers routines (suc n) p routine)
+    → slice_get (if b then r ∷ kept else kept) index ≡ Some routine → Numbered (with_number b n numbers) (r ∷ routines) n index routine
+first false numbers kept routines r n index routine h q = next numbers routines r n index routine (h index q)
 first true numbers kept routines r n zero routine h q = (0, ap Some (omega arith), q)
-first true numbers kept routines r n (suc place) routine h q = let k = h place q in (suc k.0, k.1 ∙ ap Some (omega arith), k.2)
+first true numbers kept routines r n (suc index) routine h q = let k = h index q in (suc k.0, k.1 ∙ ap Some (omega arith), k.2)
 
-numbered : (test : ResolvedRoutine → Bool) (routines : List ResolvedRoutine) (n place : ℕ) (routine : ResolvedRoutine) → slice_get (filter test routines) place ≡ Some routine → Numbered (numbers_of test n routines) routines n place routine
-numbered test [] n place routine q = absurd (none-some routine q)
-numbered test (r ∷ routines) n place routine q =
-    first (test r) (numbers_of test (suc n) routines) (filter test routines) routines r n place routine (λ p e. numbered test routines (suc n) p routine e) q
+numbered : (test : ResolvedRoutine → Bool) (routines : List ResolvedRoutine) (n index : ℕ) (routine : ResolvedRoutine) → slice_get (filter test routines) index ≡ Some routine → Numbered (numbers_of test n routines) routines n index routine
+numbered test [] n index routine q = absurd (none-some routine q)
+numbered test (r ∷ routines) n index routine q =
+    first (test r) (numbers_of test (suc n) routines) (filter test routines) routines r n index routine (λ p e. numbered test routines (suc n) p routine e) q
 
-numbered_at : (test : ResolvedRoutine → Bool) (routines : List ResolvedRoutine) (place : ℕ) (routine : ResolvedRoutine) → slice_get (filter test routines) place ≡ Some routine
-    → slice_get routines (number_at (slice_get (numbers_of test 0 routines) place)) ≡ Some routine
-numbered_at test routines place routine q =
-    let k = numbered test routines 0 place routine q in
-    let number : slice_get (numbers_of test 0 routines) place ≡ Some k.0 = k.1 ∙ ap Some (omega arith) in
+numbered_at : (test : ResolvedRoutine → Bool) (routines : List ResolvedRoutine) (index : ℕ) (routine : ResolvedRoutine) → slice_get (filter test routines) index ≡ Some routine
+    → slice_get routines (number_at (slice_get (numbers_of test 0 routines) index)) ≡ Some routine
+numbered_at test routines index routine q =
+    let k = numbered test routines 0 index routine q in
+    let number : slice_get (numbers_of test 0 routines) index ≡ Some k.0 = k.1 ∙ ap Some (omega arith) in
     ap (λ o. slice_get routines (number_at o)) number ∙ k.2
 
 pub known_functions : (file : ResolvedFile) (routine : ResolvedRoutine) → AreFunctions file (known_of file routine)

@@ -1,4 +1,4 @@
--- Lines in which a line stands in place of a label, at one place or from one on.
+-- Lines in which a line stands in place of a label, at one index or from one on.
 use Rattle.std.specs.Prelude.{ℕ, zero, suc, List, [], ◌∷◌, map, Option, Some, None, option_map}
 use Rattle.psm_code.specs.declared.instruction.Instruction.{Instruction}
 use Rattle.psm_code.specs.declared.lines.CodeLine.{CodeLine}

@@ -76,7 +76,7 @@ pub data Declares (known : Known) (context resume : ℕ) : List ResolvedDeclarat
 
 -- ---- CALL
 
--- arguments for parameters that take one, of these letters, from that place on
+-- arguments for parameters that take one, of these letters, from that index on
 pub data CallArguments (known : Known) (context resume : ℕ) (letters : List Letter) : ℕ → List ResolvedArgument → Written → Written → Type 0 where
   no_argument : {n : ℕ} {w : Written} → CallArguments known context resume letters n [] w w
   in_argument : {n : ℕ} {e : ResolvedExpr} {others : List ResolvedArgument} {w u v : Written} → Writes known context resume (letter_at letters n) e w u → CallArguments known context resume letters (suc n) others u v
@@ -127,7 +127,7 @@ number_op (numbers.Variable slot) = op.Variable slot
 
 -- ---- INSERT
 
--- the letter of the column at that place among those that get values
+-- the letter of the column at that index among those that get values
 abbrev pub letters_of_columns : Known → ℕ → List ℕ → List Letter
 letters_of_columns known table [] = []
 letters_of_columns known table (c ∷ cs) = letter_at (letters_at known.columns table) c ∷ letters_of_columns known table cs

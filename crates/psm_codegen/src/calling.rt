@@ -22,36 +22,36 @@ pub(crate) fn call_arguments(
 ) -> Result<(), AllocError>
     ensures { IfOk result (λ _. Drafted (λ σ. CallArguments emit_context.entry.known.now emit_context.entry.context (σ emit_context.entry.resume) letters.now 0 list.now) out.old out.new) }
 {
-    let mut place = 0usize;
+    let mut index = 0usize;
     for argument in list.items() {
-        place = call_argument(out, emit_context, letters, place, argument)?;
+        index = call_argument(out, emit_context, letters, index, argument)?;
     }
     Ok(())
 }
 
-/// Writes an argument for the parameter at a place among those that take one, and gives back the place of the next one.
+/// Writes an argument for the parameter at an index among those that take one, and gives back the index of the next one.
 fn call_argument(
     out: &mut Writer,
     emit_context: EmitContext<'_>,
     letters: &[Letter],
-    place: usize,
+    index: usize,
     argument: &ResolvedArgument,
 ) -> Result<usize, AllocError>
-    requires { place < usize.MAX }
-    ensures written { IfOk result (λ next. Drafted (λ σ w u. (others : _) (v : Written) → CallArguments emit_context.entry.known.now emit_context.entry.context (σ emit_context.entry.resume) letters.now next others u v → CallArguments emit_context.entry.known.now emit_context.entry.context (σ emit_context.entry.resume) letters.now place (argument.now ∷ others) w v) out.old out.new) }
-    ensures near { IfOk result (λ next. next ≤ place + 1) }
+    requires { index < usize.MAX }
+    ensures written { IfOk result (λ next. Drafted (λ σ w u. (others : _) (v : Written) → CallArguments emit_context.entry.known.now emit_context.entry.context (σ emit_context.entry.resume) letters.now next others u v → CallArguments emit_context.entry.known.now emit_context.entry.context (σ emit_context.entry.resume) letters.now index (argument.now ∷ others) w v) out.old out.new) }
+    ensures near { IfOk result (λ next. next ≤ index + 1) }
 {
     match argument {
         ResolvedArgument::In(e) => {
-            let letter = letter_at(letters, place);
+            let letter = letter_at(letters, index);
             expr(out, emit_context, e.get(), letter)?;
-            Ok(place + 1)
+            Ok(index + 1)
         }
-        ResolvedArgument::Out { .. } => Ok(place),
+        ResolvedArgument::Out { .. } => Ok(index),
         ResolvedArgument::InOut { slot } => {
             let letter = letter_at(emit_context.known.variables.items(), *slot as usize);
             out.applied(emit_context, Op::Variable(*slot), 0, letter)?;
-            Ok(place + 1)
+            Ok(index + 1)
         }
     }
 }

@@ -8,7 +8,7 @@ use psm_exprcode::Op;
 use psm_exprgen::Writer;
 use std::alloc::AllocError;
 
-/// Leaves the statement of a level, and the blocks in between. What is around is told innermost first.
+/// Leaves the statement of a level, and the blocks in between. The enclosing blocks are given with the innermost one first.
 pub(crate) fn leaves(
     out: &mut Writer,
     context: u32,
@@ -17,7 +17,7 @@ pub(crate) fn leaves(
 ) -> Result<(), AllocError>
     ensures { IfOk result (λ _. out.new ≡ leaves enclosing.now level context out.old) }
 {
-    let mut place = context;
+    let mut current = context;
     for other in enclosing {
         match *other {
             EnclosingBlock::Loop {
@@ -26,7 +26,7 @@ pub(crate) fn leaves(
                 ..
             } => {
                 if level == own {
-                    return out.plain(place, Instruction::Operation(Op::Jump(to)));
+                    return out.plain(current, Instruction::Operation(Op::Jump(to)));
                 }
             }
             EnclosingBlock::Block {
@@ -36,17 +36,17 @@ pub(crate) fn leaves(
                 exit,
             } => {
                 if level == own {
-                    return out.plain(place, Instruction::Operation(Op::Jump(exit)));
+                    return out.plain(current, Instruction::Operation(Op::Jump(exit)));
                 }
-                out.plain(place, Instruction::Exit(inner))?;
-                place = outer;
+                out.plain(current, Instruction::Exit(inner))?;
+                current = outer;
             }
             EnclosingBlock::Rows {
                 context: inner,
                 outer,
             } => {
-                out.plain(place, Instruction::Exit(inner))?;
-                place = outer;
+                out.plain(current, Instruction::Exit(inner))?;
+                current = outer;
             }
         }
     }
@@ -62,7 +62,7 @@ pub(crate) fn iterates(
 ) -> Result<(), AllocError>
     ensures { IfOk result (λ _. out.new ≡ iterates enclosing.now level context out.old) }
 {
-    let mut place = context;
+    let mut current = context;
     for other in enclosing {
         match *other {
             EnclosingBlock::Loop {
@@ -71,7 +71,7 @@ pub(crate) fn iterates(
                 ..
             } => {
                 if level == own {
-                    return out.plain(place, Instruction::Operation(Op::Jump(again)));
+                    return out.plain(current, Instruction::Operation(Op::Jump(again)));
                 }
             }
             EnclosingBlock::Block {
@@ -83,8 +83,8 @@ pub(crate) fn iterates(
                 context: inner,
                 outer,
             } => {
-                out.plain(place, Instruction::Exit(inner))?;
-                place = outer;
+                out.plain(current, Instruction::Exit(inner))?;
+                current = outer;
             }
         }
     }

@@ -74,13 +74,13 @@ fn routine_code(
 {
     let declared = conditions(alloc, &routine.conditions)?;
     let mut parts = FunctionBuilder::new(alloc, declared);
-    let place = EmitContext {
+    let outer = EmitContext {
         alloc,
         known,
         context: 0,
         resume: 0,
     };
-    statement(routine.body.get(), &mut parts, place, &[])?;
+    statement(routine.body.get(), &mut parts, outer, &[])?;
     parts.plain(0, last_instruction(routine.returns))?;
     finished(alloc, parts, routine)
 }

@@ -59,7 +59,7 @@ impl FunctionBuilder {
 
     /// The number of the line that follows. More lines than fit in 32 bits count as out of memory.
     pub fn at(&self) -> Result<u32, AllocError>
-        ensures { IfOk result (λ place. place ≡ at self.now) }
+        ensures { IfOk result (λ index. index ≡ at self.now) }
     {
         self.code.here()
     }
@@ -297,21 +297,21 @@ fn patched(code: Writer, contexts: Vec<Context>) -> (Lines, List<Query>, Vec<Con
     (lines, queries, contexts)
 }
 
-/// A place in a list as a number. More than fit in 32 bits count as out of memory.
-pub(crate) fn numbered(place: usize) -> Result<u32, AllocError>
-    ensures { IfOk result (λ number. number ≡ place) }
+/// An index in a list as a number. More than fit in 32 bits count as out of memory.
+pub(crate) fn numbered(index: usize) -> Result<u32, AllocError>
+    ensures { IfOk result (λ number. number ≡ index) }
 {
-    match u32::try_from(place) {
+    match u32::try_from(index) {
         Ok(number) => Ok(number),
         Err(_) => Err(AllocError),
     }
 }
 
-/// The number after a place in a list.
-pub(crate) fn following(place: usize) -> Result<u32, AllocError>
-    ensures { IfOk result (λ number. number ≡ suc place) }
+/// The number after an index in a list.
+pub(crate) fn following(index: usize) -> Result<u32, AllocError>
+    ensures { IfOk result (λ number. number ≡ suc index) }
 {
-    match u32::try_from(place) {
+    match u32::try_from(index) {
         Ok(number) if number < u32::MAX => Ok(number + 1),
         _ => Err(AllocError),
     }

@@ -25,7 +25,7 @@ use psm_resolved::{
 use psm_value::Datum;
 use std::alloc::{AllocError, Global};
 
-/// Writes a statement that has no statements. What is around is told innermost first.
+/// Writes a statement that has no statements. The enclosing blocks are given with the innermost one first.
 pub(crate) fn simple(
     parts: &mut FunctionBuilder,
     emit_context: EmitContext<'_>,

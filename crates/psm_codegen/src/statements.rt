@@ -1,4 +1,4 @@
-//! The lines of a statement (ISO/IEC 9075-4:1996). What is around is told innermost first.
+//! The lines of a statement (ISO/IEC 9075-4:1996). The enclosing blocks are given with the innermost one first.
 ghost use Rattle.std.specs.Prelude.{◌≡◌, ◌∷◌, map, None, Some, IfOk};
 ghost use Rattle.psm_resolved.specs.declared.statement.ResolvedStatement.TheOpen as layers;
 ghost use Rattle.psm_codegen.specs.FunctionBuilder.{FunctionBuilder as Whole, at};
@@ -27,16 +27,16 @@ use std::alloc::AllocError;
 pub(crate) fn statement(
     s: &ResolvedStatement,
     parts: &mut FunctionBuilder,
-    place: EmitContext<'_>,
+    outer: EmitContext<'_>,
     enclosing: &[EnclosingBlock],
 ) -> Result<(), AllocError>
-    ensures { IfOk result (λ _. DraftedParts (λ σ. WritesStatement place.entry.known.now place.entry.context (map (patched_block σ) enclosing.now) s.now) parts.old parts.new) }
+    ensures { IfOk result (λ _. DraftedParts (λ σ. WritesStatement outer.entry.known.now outer.entry.context (map (patched_block σ) enclosing.now) s.now) parts.old parts.new) }
 {
     let end = parts.label()?;
     let emit_context = EmitContext {
-        alloc: place.alloc,
-        known: place.known,
-        context: place.context,
+        alloc: outer.alloc,
+        known: outer.known,
+        context: outer.context,
         resume: end,
     };
     form(s, parts, emit_context, enclosing)?;

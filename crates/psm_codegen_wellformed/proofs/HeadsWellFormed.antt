@@ -73,7 +73,7 @@ pub variables-well_formed : (file : ResolvedFile) (routine : ResolvedRoutine) (r
 variables-well_formed file routine r well_formed w =
     subst (λ ts. Faultless (map type_fault ts)) (sym w.variables) (types-faultless (drop (length routine.parameters) routine.slots) (types-following (length routine.parameters) routine.slots well_formed.types))
 
--- ---- routines that are told apart
+-- ---- routines that are distinguished
 
 length-parameters : (ps : List ResolvedParameter) → length (map parameter_of ps) ≡ length ps
 length-parameters [] = refl

@@ -54,7 +54,7 @@ keys-fit ts us m (key ∷ keys) h = (key-fits ts us m key h.0, keys-fit ts us m 
 pub code-keys-fit : (file : ResolvedFile) (code : RawCode) → FileWritten file code → WellFormedFile file → Each (FitsTables code.tables) code.keys
 code-keys-fit file code made accepted = subst (Each (FitsTables code.tables)) (sym made.keys) (keys-fit file.tables code.tables made.tables file.keys accepted.keys)
 
--- ---- those of a table, behind its UNIQUE lists
+-- ---- those of a table, after its UNIQUE lists
 
 table-here : (before us : List CodeTable) (u : CodeTable) → slice_get (before ++ u ∷ us) (length before) ≡ Some u
 table-here [] us u = refl

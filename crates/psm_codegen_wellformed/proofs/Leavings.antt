@@ -1,4 +1,4 @@
--- The lines of LEAVE and ITERATE are well-formed where what stands around them is as it is told.
+-- The lines of LEAVE and ITERATE are well-formed where the enclosing blocks are as they are given.
 use Rattle.std.proofs.Common.{arith, ◌≡◌, ◌≤◌, ◌||◌, ℕ, Bool, true, false, nat_eq, List, [], ◌∷◌, None, if◌then◌else◌, refl, sym}
 use Rattle.std.proofs.lemmas.Bool.{false≢true}
 use Rattle.psm_exprcode.specs.declared.op.Op.TheVariants as op

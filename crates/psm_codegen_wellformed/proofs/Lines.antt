@@ -111,19 +111,19 @@ pub record Does (code : RawCode) (r : RawRoutine) (i : Instruction) (e : Effect)
   pub effect : instruction_effect code r i value other ≡ Some e
 
 -- it goes on at the line that follows as it says, in that context
-pub record Ahead (r : RawRoutine) (at context : ℕ) (i : Instruction) (puts : Option (List Letter)) (rest : List Letter) : Type 0 where
+pub record FallsThrough (r : RawRoutine) (at context : ℕ) (i : Instruction) (puts : Option (List Letter)) (rest : List Letter) : Type 0 where
   pub target : (not (falls_through i) || is_there r.lines (suc at)) ≡ true
   pub inside : (not (falls_through i) || is_in context (line_at r (suc at))) ≡ true
   pub stated : stated_fall_through r at puts rest ≡ true
 
-pub goes-fall_through : {r : RawRoutine} {at context : ℕ} {puts rest : List Letter} (i : Instruction) → Follows r (suc at) context (puts ++ rest) → Ahead r at context i (Some puts) rest
+pub goes-fall_through : {r : RawRoutine} {at context : ℕ} {puts rest : List Letter} (i : Instruction) → Follows r (suc at) context (puts ++ rest) → FallsThrough r at context i (Some puts) rest
 goes-fall_through {r} {at} {context} i f = record {
   target = or_second (not (falls_through i)) (is_there r.lines (suc at)) (follows-there f);
   inside = or_second (not (falls_through i)) (is_in context (line_at r (suc at))) (follows-inside f);
   stated = follows-stated f;
 }
 
-pub never-fall_through : {r : RawRoutine} {at context : ℕ} {rest : List Letter} (i : Instruction) → falls_through i ≡ false → Ahead r at context i None rest
+pub never-fall_through : {r : RawRoutine} {at context : ℕ} {rest : List Letter} (i : Instruction) → falls_through i ≡ false → FallsThrough r at context i None rest
 never-fall_through {r} {at} {context} i h = record {
   target = ap (λ b. not b || is_there r.lines (suc at)) h;
   inside = ap (λ b. not b || is_in context (line_at r (suc at))) h;
@@ -131,13 +131,13 @@ never-fall_through {r} {at} {context} i h = record {
 }
 
 -- and so at the line to which it may jump
-pub record Away (r : RawRoutine) (at context : ℕ) (i : Instruction) (branching : Option (ℕ × List Letter)) (rest : List Letter) : Type 0 where
+pub record Branches (r : RawRoutine) (at context : ℕ) (i : Instruction) (branching : Option (ℕ × List Letter)) (rest : List Letter) : Type 0 where
   pub target : where_there (jump_of i) (is_there r.lines) ≡ true
   pub inside : where_there (jump_of i) (λ p. is_in context (line_at r p)) ≡ true
   pub turn : where_there (jump_of i) (uses_turn r at) ≡ true
   pub stated : stated_branch r branching rest ≡ true
 
-pub no-jump : {r : RawRoutine} {at context : ℕ} {rest : List Letter} (i : Instruction) → jump_of i ≡ None → Away r at context i None rest
+pub no-jump : {r : RawRoutine} {at context : ℕ} {rest : List Letter} (i : Instruction) → jump_of i ≡ None → Branches r at context i None rest
 no-jump {r} {at} {context} i h = record {
   target = ap (λ o. where_there o (is_there r.lines)) h;
   inside = ap (λ o. where_there o (λ p. is_in context (line_at r p))) h;
@@ -145,7 +145,7 @@ no-jump {r} {at} {context} i h = record {
   stated = refl;
 }
 
-pub jumps-on : {r : RawRoutine} {at context p : ℕ} {puts rest : List Letter} (i : Instruction) → jump_of i ≡ Some p → at < p → Follows r p context (puts ++ rest) → Away r at context i (Some (p, puts)) rest
+pub jumps-on : {r : RawRoutine} {at context p : ℕ} {puts rest : List Letter} (i : Instruction) → jump_of i ≡ Some p → at < p → Follows r p context (puts ++ rest) → Branches r at context i (Some (p, puts)) rest
 jumps-on {r} {at} {context} {p} i h following f = record {
   target = ap (λ o. where_there o (is_there r.lines)) h ∙ follows-there f;
   inside = ap (λ o. where_there o (λ p. is_in context (line_at r p))) h ∙ follows-inside f;
@@ -195,7 +195,7 @@ stack-follows {code} {r} at l e rest d s a b =
 -- a line is free of faults
 pub line-well_formed : {code : RawCode} {r : RawRoutine} {at following : ℕ} (l : CodeLine) (e : Effect) (rest : List Letter) → line_at r at ≡ Some l → Follows r 0 0 [] → context_there r l.context ≡ true
     → Does code r l.instruction e → is_bare l ≡ true → stands_well_formed r l l.instruction ≡ true → context_after r l l.instruction ≡ following → reverse l.stack ≡ e.takes ++ rest
-    → Resumes r at l → Ahead r at following l.instruction e.fall_through rest → Away r at l.context l.instruction e.branching rest → line_fault code r at l ≡ None
+    → Resumes r at l → FallsThrough r at following l.instruction e.fall_through rest → Branches r at l.context l.instruction e.branching rest → line_fault code r at l ≡ None
 line-well_formed {code} {r} {at} {following} l e rest q first known d bare stands goes s resumes fall_through branching = rules_hold _ _ _ _ _ _ _
     (both known d.names)
     (both resumes.target (both branching.target fall_through.target))

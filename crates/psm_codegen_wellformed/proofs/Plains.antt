@@ -21,7 +21,7 @@ use Rattle.psm_exprgen.specs.Written.{Written, here}
 use Rattle.psm_exprgen.specs.Writing.{BeginsWith}
 use Rattle.psm_codegen.proofs.There.{line_of, there_at}
 use Rattle.psm_codegen_wellformed.specs.Frame.{Follows, Free}
-use Rattle.psm_codegen_wellformed.proofs.Lines.{Ahead, Away, Does, both, follows-inside, follows-stated, follows-there, free-one, goes-fall_through, line-well_formed, never-fall_through, no-jump, or_first, or_second, resumes-never}
+use Rattle.psm_codegen_wellformed.proofs.Lines.{FallsThrough, Branches, Does, both, follows-inside, follows-stated, follows-there, free-one, goes-fall_through, line-well_formed, never-fall_through, no-jump, or_first, or_second, resumes-never}
 use Rattle.psm_codegen_wellformed.proofs.Putting.{follows-as, line-starts}
 
 -- a line to which a run may go from each line before another one
@@ -53,7 +53,7 @@ pub record IsBlockIn (r : RawRoutine) (inner outer : ℕ) : Type 0 where
 pub no_operand : (b : Bool) (s : List Letter) → s ≡ [] → (not b || not (is_some (reverse s))) ≡ true
 no_operand b s q = or_second (not b) (not (is_some (reverse s))) (ap (λ t. not (is_some (reverse t))) q)
 
-pub jumps-to : {r : RawRoutine} {at context bound p : ℕ} (i : Instruction) → jump_of i ≡ Some p → at < bound → Reaches r bound context p → Away r at context i (Some (p, [])) []
+pub jumps-to : {r : RawRoutine} {at context bound p : ℕ} (i : Instruction) → jump_of i ≡ Some p → at < bound → Reaches r bound context p → Branches r at context i (Some (p, [])) []
 jumps-to {r} {at} {context} {bound} {p} i h following a = record {
   target = ap (λ o. where_there o (is_there r.lines)) h ∙ follows-there a.follows;
   inside = ap (λ o. where_there o (λ p. is_in context (line_at r p))) h ∙ follows-inside a.follows;
@@ -63,7 +63,7 @@ jumps-to {r} {at} {context} {bound} {p} i h following a = record {
 
 module _ {code : RawCode} {r : RawRoutine} {context : ℕ} (first : Follows r 0 0 []) (known : context_there r context ≡ true) where
   pub plain-free : (i : Instruction) (e : Effect) (following : ℕ) (w : Written) → BeginsWith (w.lines ++ line_of context None i w ∷ []) r.lines → Does code r i e → w.stack ≡ [] → [] ≡ e.takes ++ [] → wants_resume i ≡ false
-      → stands_well_formed r (line_of context None i w) i ≡ true → context_after r (line_of context None i w) i ≡ following → Ahead r (here w) following i e.fall_through [] → Away r (here w) context i e.branching [] → Free code r (here w) (suc (here w))
+      → stands_well_formed r (line_of context None i w) i ≡ true → context_after r (line_of context None i w) i ≡ following → FallsThrough r (here w) following i e.fall_through [] → Branches r (here w) context i e.branching [] → Free code r (here w) (suc (here w))
   plain-free i e following w b d q t n s g fall_through branching =
       let l : CodeLine = line_of context None i w in
       free-one l (there_at w.lines b) (line-well_formed l e [] (there_at w.lines b) first known d (no_operand (stands_alone i) w.stack q) s g (reverse-reverse w.stack ∙ q ∙ t) (resumes-never l refl n) fall_through branching)

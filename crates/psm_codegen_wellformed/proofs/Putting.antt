@@ -25,7 +25,7 @@ use Rattle.psm_exprgen.proofs.Counts.{here-puts}
 use Rattle.psm_exprgen.proofs.Growth.{begins-earlier, grows-all_applied}
 use Rattle.psm_codegen.proofs.There.{line_of, there_at}
 use Rattle.psm_codegen_wellformed.specs.Frame.{Ends, Follows, Free}
-use Rattle.psm_codegen_wellformed.proofs.Lines.{Ahead, Away, Does, free-join, free-none, free-one, goes-fall_through, jumps-on, line-well_formed, never-fall_through, no-jump, or_first, resumes-following}
+use Rattle.psm_codegen_wellformed.proofs.Lines.{FallsThrough, Branches, Does, free-join, free-none, free-one, goes-fall_through, jumps-on, line-well_formed, never-fall_through, no-jump, or_first, resumes-following}
 
 -- an instruction stands in any context, in which it goes on, and whatever operands there are
 pub record Calm (r : RawRoutine) (i : Instruction) : Type 0 where
@@ -84,7 +84,7 @@ grows-after {w} {v} g = omega (arith, ap length g.lines.is, length-append w.line
 
 module _ {code : RawCode} {r : RawRoutine} {context resume : ℕ} (first : Follows r 0 0 []) (known : context_there r context ≡ true) (ends : Ends r resume context) where
   pub written-free : (i : Instruction) (e : Effect) (rest : List Letter) (w : Written) → BeginsWith (w.lines ++ line_of context (Some resume) i w ∷ []) r.lines → Does code r i e → Calm r i → w.stack ≡ e.takes ++ rest → here w < resume
-      → Ahead r (here w) context i e.fall_through rest → Away r (here w) context i e.branching rest → Free code r (here w) (suc (here w))
+      → FallsThrough r (here w) context i e.fall_through rest → Branches r (here w) context i e.branching rest → Free code r (here w) (suc (here w))
   written-free i e rest w b d calm s h fall_through branching =
       let l : CodeLine = line_of context (Some resume) i w in
       let there : line_at r (here w) ≡ Some l = there_at w.lines b in

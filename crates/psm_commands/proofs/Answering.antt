@@ -29,7 +29,7 @@ use Rattle.psm_commands.specs.Sources.{ForModule, ForObject, ForScript, IsObject
 use Rattle.psm_commands.specs.declared.source.Refusal.{Refusal}
 use Rattle.psm_commands.specs.declared.source.Refusal.TheVariants as refusal
 use Rattle.psm_commands.specs.declared.source.Which.TheVariants.{Module, Script}
-use Rattle.psm_commands.proofs.Reading.{between, both_stay, decides, script_decides, told_from}
+use Rattle.psm_commands.proofs.Reading.{between, both_stay, decides, script_decides, held_from}
 
 -- ---- lines
 
@@ -137,14 +137,14 @@ module _ (held held' : List ℕ → Option (List ℕ)) (before mid after : List 
   -- a file that was read, seen from the beginning
   for_read : (first : NoneFailed (between held before mid)) (ss : List ℕ) → IsRead (between held' mid after) f.for_script ss → (For : List ℕ → Expected → Type 0) (e : Expected) → For ss e
       → ForFile (as_fetched (between held before after)) f.for_script For e
-  for_read first ss read For e h = inr (inr (record { bytes = ss; gives = told_from held held' before mid after same first f.for_script ss read.reported; short = read.short; for_bytes = h }))
+  for_read first ss read For e h = inr (inr (record { bytes = ss; gives = held_from held held' before mid after same first f.for_script ss read.contents; short = read.short; for_bytes = h }))
 
   -- ---- run
 
   module _ (first : IsMade (between held before mid) f.for_code StandsFor code) (means : MeansModule first.bytes code) where
     over_module : (expected : Expected) → ForScript (as_fetched (between held before after)) (IsScriptFault first.bytes) f.for_script (λ ss. Plays (as_fetched (between held before after)) first.bytes ss f.turns) expected
         → ForRun (as_fetched (between held before after)) f expected
-    over_module expected h = inr (inr (record { bytes = first.bytes; gives = first.read.reported; short = first.read.short; for_bytes = inr (first.is.file, h) }))
+    over_module expected h = inr (inr (record { bytes = first.bytes; gives = first.read.contents; short = first.read.short; for_bytes = inr (first.is.file, h) }))
 
     pub run_refuses : (r : Refusal) → GivesScript (between held' mid after) code f.for_script (Err r) → Reports r f.for_script sunk answer → Says (ForRun (as_fetched (between held before after)) f) sunk answer
     run_refuses r h puts = refusal_over first.read.none_failed (IsScriptFault first.bytes) means.fault_over_file (λ ss. Plays (as_fetched (between held before after)) first.bytes ss f.turns)
@@ -165,7 +165,7 @@ module _ (held held' : List ℕ → Option (List ℕ)) (before mid after : List 
   module _ (first : IsMade (between held before mid) f.for_code IsObject code) where
     over_object : (expected : Expected) → ForScript (as_fetched (between held before after)) (IsScriptFaultOver code) f.for_script (λ ss. PlaysOver (as_fetched (between held before after)) code ss f.turns) expected
         → ForExec (as_fetched (between held before after)) f expected
-    over_object expected h = inr (inr (record { bytes = first.bytes; gives = first.read.reported; short = first.read.short; for_bytes = inr (record { code = code; object = first.is; for_script = h }) }))
+    over_object expected h = inr (inr (record { bytes = first.bytes; gives = first.read.contents; short = first.read.short; for_bytes = inr (record { code = code; object = first.is; for_script = h }) }))
 
     pub exec_refuses : (r : Refusal) → GivesScript (between held' mid after) code f.for_script (Err r) → Reports r f.for_script sunk answer → Says (ForExec (as_fetched (between held before after)) f) sunk answer
     exec_refuses r h puts = refusal_over first.read.none_failed (IsScriptFaultOver code) (λ ss l c g k. k) (λ ss. PlaysOver (as_fetched (between held before after)) code ss f.turns)
@@ -187,7 +187,7 @@ says_listing fetches name code sunk answer h means puts =
     says_line (ForCompile (as_fetched fetches) name) (with_line status.Done (listing code)) sunk answer
     (inr (inr (record {
       bytes = h.bytes;
-      gives = h.read.reported;
+      gives = h.read.contents;
       short = h.read.short;
       for_bytes = inr (record {
         text = listing code;

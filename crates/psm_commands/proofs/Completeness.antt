@@ -1,4 +1,4 @@
--- What is expected for what the shelf tells has the status that is answered.
+-- What is expected for what the shelf holds has the status that is answered.
 use Rattle.std.proofs.Common.{◌≡◌, ℕ, List, [], ◌∷◌, Option, Some, sym, ap, ◌∙◌, None, inl, inr, subst}
 use Rattle.std.specs.Prelude.{◌⊎◌, All}
 use Rattle.std.proofs.lemmas.List.Elements.{All-head, All-tail}
@@ -17,7 +17,7 @@ use Rattle.psm_session.specs.Put.{Sunk}
 use Rattle.psm_files.specs.Answer.{Answers, Completes, IsCut, IsPut, IsPutInPart, Says, Stayed}
 use Rattle.psm_files.specs.Expected.{Expected}
 use Rattle.psm_files.specs.Fetches.{Fetches}
-use Rattle.psm_files.specs.Given.{Given, as_fetched, as_told}
+use Rattle.psm_files.specs.Given.{Given, as_fetched, as_held}
 use Rattle.psm_files.specs.declared.status.Status.{Status}
 use Rattle.psm_files.specs.declared.status.Status.TheVariants.{Done}
 use Rattle.psm_commands.specs.Command.{Command, Files, Run, Compile, Exec, Generate}
@@ -72,13 +72,13 @@ module _ (one : AreOneThing) (fetches : Fetches) where
   -- ---- run
 
   in_script : (ms ss : List ℕ) (turns : ℕ) (e d : Expected) → IsRefused (as_fetched fetches) Script (IsScriptFault ms ss) e ⊎ Plays (as_fetched fetches) ms ss turns e
-      → IsRefused (as_told fetches.held) Script (IsScriptFault ms ss) d ⊎ Plays (as_told fetches.held) ms ss turns d → e.status ≡ d.status
-  in_script ms ss turns e d h k = script_same (IsScriptFile ms ss) (IsScriptFault ms ss) (one.scripts ms ss) (Plays (as_fetched fetches) ms ss turns) (Plays (as_told fetches.held) ms ss turns)
+      → IsRefused (as_held fetches.held) Script (IsScriptFault ms ss) d ⊎ Plays (as_held fetches.held) ms ss turns d → e.status ≡ d.status
+  in_script ms ss turns e d h k = script_same (IsScriptFile ms ss) (IsScriptFault ms ss) (one.scripts ms ss) (Plays (as_fetched fetches) ms ss turns) (Plays (as_held fetches.held) ms ss turns)
       (λ e p. p.ends_in.script) (λ d p. p.ends_in.script) (λ e d p q. session_same p.session q.session e d (one.sessions ms ss turns p.session q.session p.ends_in q.ends_in) p.expected_is q.expected_is) e d h k
 
   in_module : (f : Files) → Stayed (fetches.before f.for_script) (fetches.after f.for_script) → (ms : List ℕ) (e d : Expected)
       → IsRefused (as_fetched fetches) Module (IsModuleFault ms) e ⊎ (IsModuleFile ms × ForScript (as_fetched fetches) (IsScriptFault ms) f.for_script (λ ss. Plays (as_fetched fetches) ms ss f.turns) e)
-      → IsRefused (as_told fetches.held) Module (IsModuleFault ms) d ⊎ (IsModuleFile ms × ForScript (as_told fetches.held) (IsScriptFault ms) f.for_script (λ ss. Plays (as_told fetches.held) ms ss f.turns) d)
+      → IsRefused (as_held fetches.held) Module (IsModuleFault ms) d ⊎ (IsModuleFile ms × ForScript (as_held fetches.held) (IsScriptFault ms) f.for_script (λ ss. Plays (as_held fetches.held) ms ss f.turns) d)
       → e.status ≡ d.status
   in_module f stayed ms e d (inl h) (inl k) = refused_same Module _ _ e d h k
   in_module f stayed ms e d (inl h) (inr k) = absurd ((one.modules ms).file_or_fault h.line h.column h.fault k.0 h.is_fault)
@@ -86,40 +86,40 @@ module _ (one : AreOneThing) (fetches : Fetches) where
   in_module f stayed ms e d (inr h) (inr k) = for_file_same fetches f.for_script stayed _ _ (λ ss x y. in_script ms ss f.turns x y) e d h.1 k.1
 
   run_same : (f : Files) → Stayed (fetches.before f.for_code) (fetches.after f.for_code) → Stayed (fetches.before f.for_script) (fetches.after f.for_script)
-      → (e d : Expected) → ForRun (as_fetched fetches) f e → ForRun (as_told fetches.held) f d → e.status ≡ d.status
+      → (e d : Expected) → ForRun (as_fetched fetches) f e → ForRun (as_held fetches.held) f d → e.status ≡ d.status
   run_same f sm ss e d h k = for_file_same fetches f.for_code sm _ _ (in_module f ss) e d h k
 
   -- ---- compile
 
   listed_same : (ms : List ℕ) (e d : Expected) → IsRefused (as_fetched fetches) Module (IsModuleFault ms) e ⊎ IsListed (as_fetched fetches) ms e
-      → IsRefused (as_told fetches.held) Module (IsModuleFault ms) d ⊎ (IsModuleFile ms × (d.status ≡ Done)) → e.status ≡ d.status
+      → IsRefused (as_held fetches.held) Module (IsModuleFault ms) d ⊎ (IsModuleFile ms × (d.status ≡ Done)) → e.status ≡ d.status
   listed_same ms e d (inl h) (inl k) = refused_same Module _ _ e d h k
   listed_same ms e d (inl h) (inr k) = absurd ((one.modules ms).file_or_fault h.line h.column h.fault k.0 h.is_fault)
   listed_same ms e d (inr h) (inl k) = absurd ((one.modules ms).file_or_fault k.line k.column k.fault h.compiles.stands.file k.is_fault)
   listed_same ms e d (inr h) (inr k) = ap (λ (x : Expected). x.status) h.expected_is ∙ sym k.1
 
-  compile_same : (name : List ℕ) → Stayed (fetches.before name) (fetches.after name) → (e d : Expected) → ForCompile (as_fetched fetches) name e → StatusForCompile (as_told fetches.held) name d → e.status ≡ d.status
+  compile_same : (name : List ℕ) → Stayed (fetches.before name) (fetches.after name) → (e d : Expected) → ForCompile (as_fetched fetches) name e → StatusForCompile (as_held fetches.held) name d → e.status ≡ d.status
   compile_same name stayed e d h k = for_file_same fetches name stayed _ _ listed_same e d h k
 
   -- ---- exec
 
   in_script_over : (code : RawCode) → first_fault code ≡ None → (turns : ℕ) (ss : List ℕ) (e d : Expected) → IsRefused (as_fetched fetches) Script (IsScriptFaultOver code ss) e ⊎ PlaysOver (as_fetched fetches) code ss turns e
-      → IsRefused (as_told fetches.held) Script (IsScriptFaultOver code ss) d ⊎ PlaysOver (as_told fetches.held) code ss turns d → e.status ≡ d.status
-  in_script_over code well_formed turns ss e d h k = script_same (IsScriptOver code ss) (IsScriptFaultOver code ss) (one.scripts_over code ss) (PlaysOver (as_fetched fetches) code ss turns) (PlaysOver (as_told fetches.held) code ss turns)
+      → IsRefused (as_held fetches.held) Script (IsScriptFaultOver code ss) d ⊎ PlaysOver (as_held fetches.held) code ss turns d → e.status ≡ d.status
+  in_script_over code well_formed turns ss e d h k = script_same (IsScriptOver code ss) (IsScriptFaultOver code ss) (one.scripts_over code ss) (PlaysOver (as_fetched fetches) code ss turns) (PlaysOver (as_held fetches.held) code ss turns)
       (λ e p. record { commands = p.ends_in.commands; script = p.ends_in.script }) (λ d p. record { commands = p.ends_in.commands; script = p.ends_in.script })
       (λ e d p q. session_same p.session q.session e d (one.sessions_over code well_formed ss turns p.session q.session p.ends_in q.ends_in) p.expected_is q.expected_is) e d h k
 
   in_object : (f : Files) → Stayed (fetches.before f.for_script) (fetches.after f.for_script) → (os : List ℕ) (e d : Expected)
-      → IsObjectRefused (as_fetched fetches) os e ⊎ IsOver (as_fetched fetches) f os e → IsObjectRefused (as_told fetches.held) os d ⊎ IsOver (as_told fetches.held) f os d → e.status ≡ d.status
+      → IsObjectRefused (as_fetched fetches) os e ⊎ IsOver (as_fetched fetches) f os e → IsObjectRefused (as_held fetches.held) os d ⊎ IsOver (as_held fetches.held) f os d → e.status ≡ d.status
   in_object f stayed os e d (inl h) (inl k) = ap (λ (x : Expected). x.status) h.expected_is ∙ sym (ap (λ (x : Expected). x.status) k.expected_is)
   in_object f stayed os e d (inl h) (inr k) = absurd (one.objects os k.code k.object h.line h.fault h.is_fault)
   in_object f stayed os e d (inr h) (inl k) = absurd (one.objects os h.code h.object k.line k.fault k.is_fault)
   in_object f stayed os e d (inr h) (inr k) =
-      let for_script = subst (λ (c : RawCode). ForScript (as_told fetches.held) (IsScriptFaultOver c) f.for_script (λ ss. PlaysOver (as_told fetches.held) c ss f.turns) d) (one.codes os k.code h.code k.object h.object) k.for_script in
+      let for_script = subst (λ (c : RawCode). ForScript (as_held fetches.held) (IsScriptFaultOver c) f.for_script (λ ss. PlaysOver (as_held fetches.held) c ss f.turns) d) (one.codes os k.code h.code k.object h.object) k.for_script in
       for_file_same fetches f.for_script stayed _ _ (λ ss x y. in_script_over h.code h.object.well_formed f.turns ss x y) e d h.for_script for_script
 
   exec_same : (f : Files) → Stayed (fetches.before f.for_code) (fetches.after f.for_code) → Stayed (fetches.before f.for_script) (fetches.after f.for_script)
-      → (e d : Expected) → ForExec (as_fetched fetches) f e → ForExec (as_told fetches.held) f d → e.status ≡ d.status
+      → (e d : Expected) → ForExec (as_fetched fetches) f e → ForExec (as_held fetches.held) f d → e.status ≡ d.status
   exec_same f sm ss e d h k = for_file_same fetches f.for_code sm _ _ (in_object f ss) e d h k
 
   -- ---- gen
@@ -128,9 +128,9 @@ module _ (one : AreOneThing) (fetches : Fetches) where
   summed_same calls s u e d one h k = ap (λ (x : Expected). x.status) (same_Some e d (sym h ∙ ap (λ (x : Session). expected_at calls x x.end) one ∙ k))
 
   in_generated_script : (calls : ℕ) (e d : Expected) → IsRefused (as_fetched fetches) Script (IsScriptFault generated_module (generated_script calls)) e ⊎ IsSummed (as_fetched fetches) calls e
-      → IsRefused (as_told fetches.held) Script (IsScriptFault generated_module (generated_script calls)) d ⊎ IsSummed (as_told fetches.held) calls d → e.status ≡ d.status
+      → IsRefused (as_held fetches.held) Script (IsScriptFault generated_module (generated_script calls)) d ⊎ IsSummed (as_held fetches.held) calls d → e.status ≡ d.status
   in_generated_script calls e d h k = script_same (IsScriptFile generated_module (generated_script calls)) (IsScriptFault generated_module (generated_script calls)) (one.scripts generated_module (generated_script calls))
-      (IsSummed (as_fetched fetches) calls) (IsSummed (as_told fetches.held) calls) (λ e p. p.ends_in.script) (λ d p. p.ends_in.script)
+      (IsSummed (as_fetched fetches) calls) (IsSummed (as_held fetches.held) calls) (λ e p. p.ends_in.script) (λ d p. p.ends_in.script)
       (λ e d p q. summed_same calls p.session q.session e d (one.sessions generated_module (generated_script calls) generated_turns p.session q.session p.ends_in q.ends_in) p.expected_is q.expected_is) e d h k
 
   -- a generated script has a fault, or a session, only over a module file
@@ -138,9 +138,9 @@ module _ (one : AreOneThing) (fetches : Fetches) where
   over_generated given calls e (inl h) = h.is_fault.over
   over_generated given calls e (inr h) = h.ends_in.script.over
 
-  generate_same : (calls : ℕ) (e d : Expected) → ForGenerate (as_fetched fetches) calls e → ForGenerate (as_told fetches.held) calls d → e.status ≡ d.status
+  generate_same : (calls : ℕ) (e d : Expected) → ForGenerate (as_fetched fetches) calls e → ForGenerate (as_held fetches.held) calls d → e.status ≡ d.status
   generate_same calls e d (inl h) (inl k) = refused_same Module _ _ e d h k
-  generate_same calls e d (inl h) (inr k) = absurd ((one.modules generated_module).file_or_fault h.line h.column h.fault (over_generated (as_told fetches.held) calls d k) h.is_fault)
+  generate_same calls e d (inl h) (inr k) = absurd ((one.modules generated_module).file_or_fault h.line h.column h.fault (over_generated (as_held fetches.held) calls d k) h.is_fault)
   generate_same calls e d (inr h) (inl k) = absurd ((one.modules generated_module).file_or_fault k.line k.column k.fault (over_generated (as_fetched fetches) calls e h) k.is_fault)
   generate_same calls e d (inr h) (inr k) = in_generated_script calls e d h k
 
@@ -155,11 +155,11 @@ module _ (one : AreOneThing) (fetches : Fetches) where
   script_fetched : (f : Files) → All IsFetched (f.for_code ∷ f.for_script ∷ []) → IsFetched f.for_script
   script_fetched f fetched = All-head IsFetched f.for_script [] (All-tail IsFetched f.for_code (f.for_script ∷ []) fetched)
 
-  command_same : (command : Command) → AreFetched fetches command → (e d : Expected) → ForCommand (as_fetched fetches) command e → StatusFor (as_told fetches.held) command d → e.status ≡ d.status
+  command_same : (command : Command) → AreFetched fetches command → (e d : Expected) → ForCommand (as_fetched fetches) command e → StatusFor (as_held fetches.held) command d → e.status ≡ d.status
   command_same (Run f) fetched e d h k = run_same f (code_fetched f fetched) (script_fetched f fetched) e d h k
   command_same (Compile name) fetched e d h k = compile_same name (All-head IsFetched name [] fetched) e d h k
   command_same (Exec f) fetched e d h k = exec_same f (code_fetched f fetched) (script_fetched f fetched) e d h k
   command_same (Generate calls) fetched e d h k = generate_same calls e d h k
 
   pub command_completes : (command : Command) (sunk : Sunk) (answer : Status) → CommandSays fetches command sunk answer → CommandCompletes fetches command sunk answer
-  command_completes command sunk answer says = λ fetched. says_completes (ForCommand (as_fetched fetches) command) (StatusFor (as_told fetches.held) command) sunk answer (command_same command fetched) says
+  command_completes command sunk answer says = λ fetched. says_completes (ForCommand (as_fetched fetches) command) (StatusFor (as_held fetches.held) command) sunk answer (command_same command fetched) says

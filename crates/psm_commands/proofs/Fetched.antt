@@ -3,8 +3,8 @@ use Rattle.std.proofs.Common.{◌≡◌, ℕ, ◌<◌, ◌≤◌, List, length, 
 use Rattle.std.specs.Prelude.{◌⊎◌}
 use Rattle.psm_files.specs.Answer.{Stayed}
 use Rattle.psm_files.specs.Expected.{Expected}
-use Rattle.psm_files.specs.Fetches.{Fetches, Tells, most_bytes}
-use Rattle.psm_files.specs.Given.{ForFile, Given, as_fetched, as_told}
+use Rattle.psm_files.specs.Fetches.{Fetches, AreHeld, most_bytes}
+use Rattle.psm_files.specs.Given.{ForFile, Given, as_fetched, as_held}
 
 -- ---- what is expected for the bytes may be said in weaker terms
 
@@ -13,28 +13,28 @@ for_file_weaker given name For For' weaker e (inl h) = inl h
 for_file_weaker given name For For' weaker e (inr (inl h)) = inr (inl h)
 for_file_weaker given name For For' weaker e (inr (inr h)) = inr (inr (record { bytes = h.bytes; gives = h.gives; short = h.short; for_bytes = weaker h.bytes e h.for_bytes }))
 
--- ---- what was fetched is what the shelf tells
+-- ---- what was fetched is what the shelf holds
 
-told_same : (reported : Option (List ℕ)) (bytes held : List ℕ) → reported ≡ Some held → Tells reported bytes → held ≡ bytes
-told_same None bytes held e h = absurd cc
-told_same (Some x) bytes held e h = let p : held ≡ x = cc in p ∙ h
+held_same : (contents : Option (List ℕ)) (bytes held : List ℕ) → contents ≡ Some held → AreHeld contents bytes → held ≡ bytes
+held_same None bytes held e h = absurd cc
+held_same (Some x) bytes held e h = let p : held ≡ x = cc in p ∙ h
 
 not_both : (n : ℕ) → n ≤ most_bytes → most_bytes < n → ⊥
 not_both n h k = omega arith
 
--- so what is expected has the status that is expected for what the shelf tells, if it has for the bytes of the file
-pub for_file_same : (fetches : Fetches) (name : List ℕ) → Stayed (fetches.before name) (fetches.after name) → (For Told : List ℕ → Expected → Type 0)
-    → ((bytes : List ℕ) (e d : Expected) → For bytes e → Told bytes d → e.status ≡ d.status)
-    → (e d : Expected) → ForFile (as_fetched fetches) name For e → ForFile (as_told fetches.held) name Told d → e.status ≡ d.status
-for_file_same fetches name stayed For Told same e d (inl h) k = absurd (stayed h.fails.rose)
-for_file_same fetches name stayed For Told same e d (inr h) (inl k) = absurd k.fails
-for_file_same fetches name stayed For Told same e d (inr (inl h)) (inr (inl k)) = ap (λ (x : Expected). x.status) (h.expected_is ∙ sym k.expected_is)
-for_file_same fetches name stayed For Told same e d (inr (inl h)) (inr (inr k)) =
-    let b : k.bytes ≡ h.bytes = told_same (fetches.held name) h.bytes k.bytes k.gives h.gives in
+-- so what is expected has the status that is expected for what the shelf holds, if it has for the bytes of the file
+pub for_file_same : (fetches : Fetches) (name : List ℕ) → Stayed (fetches.before name) (fetches.after name) → (For ForHeld : List ℕ → Expected → Type 0)
+    → ((bytes : List ℕ) (e d : Expected) → For bytes e → ForHeld bytes d → e.status ≡ d.status)
+    → (e d : Expected) → ForFile (as_fetched fetches) name For e → ForFile (as_held fetches.held) name ForHeld d → e.status ≡ d.status
+for_file_same fetches name stayed For ForHeld same e d (inl h) k = absurd (stayed h.fails.rose)
+for_file_same fetches name stayed For ForHeld same e d (inr h) (inl k) = absurd k.fails
+for_file_same fetches name stayed For ForHeld same e d (inr (inl h)) (inr (inl k)) = ap (λ (x : Expected). x.status) (h.expected_is ∙ sym k.expected_is)
+for_file_same fetches name stayed For ForHeld same e d (inr (inl h)) (inr (inr k)) =
+    let b : k.bytes ≡ h.bytes = held_same (fetches.held name) h.bytes k.bytes k.gives h.gives in
     absurd (not_both (length h.bytes) (subst (λ (x : List ℕ). length x ≤ most_bytes) b k.short) h.long)
-for_file_same fetches name stayed For Told same e d (inr (inr h)) (inr (inl k)) =
-    let b : k.bytes ≡ h.bytes = told_same (fetches.held name) h.bytes k.bytes k.gives h.gives in
+for_file_same fetches name stayed For ForHeld same e d (inr (inr h)) (inr (inl k)) =
+    let b : k.bytes ≡ h.bytes = held_same (fetches.held name) h.bytes k.bytes k.gives h.gives in
     absurd (not_both (length h.bytes) h.short (subst (λ (x : List ℕ). most_bytes < length x) b k.long))
-for_file_same fetches name stayed For Told same e d (inr (inr h)) (inr (inr k)) =
-    let b : k.bytes ≡ h.bytes = told_same (fetches.held name) h.bytes k.bytes k.gives h.gives in
-    same h.bytes e d h.for_bytes (subst (λ (x : List ℕ). Told x d) b k.for_bytes)
+for_file_same fetches name stayed For ForHeld same e d (inr (inr h)) (inr (inr k)) =
+    let b : k.bytes ≡ h.bytes = held_same (fetches.held name) h.bytes k.bytes k.gives h.gives in
+    same h.bytes e d h.for_bytes (subst (λ (x : List ℕ). ForHeld x d) b k.for_bytes)

@@ -3,5 +3,5 @@ pub mod Reading
 pub mod Outcomes
 pub mod Answering
 pub mod Completeness
-pub mod Told
+pub mod Existence
 pub mod Generating

@@ -1,4 +1,4 @@
--- The status of a run over the tables of code tells how its session ends.
+-- The status of a run over the tables of code says how its session ends.
 use Rattle.std.proofs.Common.{◌≡◌, ℕ, zero, suc, ◌+◌, List, [], ◌∷◌, ◌++◌, length, take, refl, sym, ap, ◌∙◌, subst, append_assoc, arith}
 use Rattle.std.proofs.lemmas.List.{take_at}
 use Rattle.psm_io.specs.Sink.{Grew}

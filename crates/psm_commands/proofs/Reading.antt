@@ -11,7 +11,7 @@ use Rattle.psm_build.specs.Building.{Builds, BuildsScript}
 use Rattle.psm_build.specs.ModuleCode.{IsScriptFaultOver}
 use Rattle.psm_build.specs.Program.{IsModuleFault, StandsFor}
 use Rattle.psm_files.specs.Expected.{Expected}
-use Rattle.psm_files.specs.Fetches.{Fetches, IsRead, IsUnread, NoneFailed, Tells}
+use Rattle.psm_files.specs.Fetches.{Fetches, IsRead, IsUnread, NoneFailed, AreHeld}
 use Rattle.psm_files.specs.Given.{ForFile, Given, as_fetched}
 use Rattle.psm_load.specs.Loading.{IsObject, Loads}
 use Rattle.psm_load.specs.declared.fault.LoadFault.{LoadFault}
@@ -43,7 +43,7 @@ object_refused_by os loads.Memory h = tt
 -- a fetch that gives no bytes
 pub unread : {A : Type 0} (fetches : Fetches) (name : List ℕ) (Is : List ℕ → A → Type 0) (IsDue : List ℕ → Expected → Type 0) (e : Refusal) → GivesBytes fetches name (Err e) → Gives fetches name Is IsDue (Err e)
 unread fetches name Is IsDue refusal.Unread h = inl (record { fails = h; expected_is = refl })
-unread fetches name Is IsDue refusal.TooLong h = inr (inl (record { bytes = h.bytes; gives = h.reported; long = h.long; none_fails = h.none_failed; expected_is = refl }))
+unread fetches name Is IsDue refusal.TooLong h = inr (inl (record { bytes = h.bytes; gives = h.contents; long = h.long; none_fails = h.none_failed; expected_is = refl }))
 unread fetches name Is IsDue (refusal.Refused w line column fault) h = absurd h
 unread fetches name Is IsDue (refusal.NoObject line fault) h = absurd h
 unread fetches name Is IsDue refusal.Memory h = tt
@@ -51,7 +51,7 @@ unread fetches name Is IsDue refusal.Memory h = tt
 module _ (fetches : Fetches) (name bytes : List ℕ) (read : IsRead fetches name bytes) where
   in_file : (IsDue : List ℕ → Expected → Type 0) (o : Option Expected) → IfSome o (IsDue bytes) → IfSome o (ForFile (as_fetched fetches) name IsDue)
   in_file IsDue None h = tt
-  in_file IsDue (Some e) h = inr (inr (record { bytes = bytes; gives = read.reported; short = read.short; for_bytes = h }))
+  in_file IsDue (Some e) h = inr (inr (record { bytes = bytes; gives = read.contents; short = read.short; for_bytes = h }))
 
   -- the bytes were read, and for each reason that is expected for which nothing is made of them
   made : {A : Type 0} (Is : List ℕ → A → Type 0) (IsDue : List ℕ → Expected → Type 0) (IsReason : Refusal → Type 0) → ((e : Refusal) → IsReason e → IfSome (expected_of name e) (IsDue bytes))
@@ -107,8 +107,8 @@ module _ (held held' : List ℕ → Option (List ℕ)) (before mid after : List 
     others = λ other n. h.others other n ∙ first other;
   }
 
-  pub told_from : (name bytes : List ℕ) → Tells (held' name) bytes → Tells (held name) bytes
-  told_from name bytes h = subst (λ (o : Option (List ℕ)). Tells o bytes) (same name) h
+  pub held_from : (name bytes : List ℕ) → AreHeld (held' name) bytes → AreHeld (held name) bytes
+  held_from name bytes h = subst (λ (o : Option (List ℕ)). AreHeld o bytes) (same name) h
 
   -- a script that is refused decides, where its fault over the code is one of those that are asked for
   module _ (IsFault IsFault' : List ℕ → ℕ → ℕ → Fault → Type 0) (faults : (ss : List ℕ) (l c : ℕ) (f : Fault) → IsFault ss l c f → IsFault' ss l c f) where
@@ -127,14 +127,14 @@ module _ (held held' : List ℕ → Option (List ℕ)) (before mid after : List 
     script_decides name For e (inl h) = inl (record { fails = unread_from name h.fails; expected_is = h.expected_is })
     script_decides name For e (inr (inl h)) = inr (inl (record {
       bytes = h.bytes;
-      gives = told_from name h.bytes h.gives;
+      gives = held_from name h.bytes h.gives;
       long = h.long;
       none_fails = both_stay h.none_fails;
       expected_is = h.expected_is;
     }))
     script_decides name For e (inr (inr h)) = inr (inr (record {
       bytes = h.bytes;
-      gives = told_from name h.bytes h.gives;
+      gives = held_from name h.bytes h.gives;
       short = h.short;
       for_bytes = inl (refused_from h.bytes e h.for_bytes);
     }))

@@ -3,7 +3,7 @@ use Rattle.std.specs.Prelude.{ℕ, List, All}
 use Rattle.psm_files.specs.Answer.{Completes, Says, Stayed}
 use Rattle.psm_files.specs.Expected.{Expected}
 use Rattle.psm_files.specs.Fetches.{Fetches}
-use Rattle.psm_files.specs.Given.{Given, as_fetched, as_told}
+use Rattle.psm_files.specs.Given.{Given, as_fetched, as_held}
 use Rattle.psm_files.specs.declared.status.Status.{Status}
 use Rattle.psm_session.specs.Put.{Sunk}
 use Rattle.psm_commands.specs.Command.{Command, Run, Compile, Exec, Generate, files_of}
@@ -34,7 +34,7 @@ AreFetched fetches command = All (λ name. Stayed (fetches.before name) (fetches
 abbrev pub CommandSays : Fetches → Command → Sunk → Status → Type 0
 CommandSays fetches command = Says (ForCommand (as_fetched fetches) command)
 
--- Where no fetch of its files failed, and no put, the status that is expected for what the shelf tells of them is answered, unless
+-- Where no fetch of its files failed, and no put, the status that is expected for what the shelf holds of them is answered, unless
 -- memory ran out.
 abbrev pub CommandCompletes : Fetches → Command → Sunk → Status → Type 0
-CommandCompletes fetches command sunk answer = AreFetched fetches command → Completes (StatusFor (as_told fetches.held) command) sunk answer
+CommandCompletes fetches command sunk answer = AreFetched fetches command → Completes (StatusFor (as_held fetches.held) command) sunk answer

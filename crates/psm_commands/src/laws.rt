@@ -1,7 +1,7 @@
 //! What is expected of commands.
 ghost use Rattle.std.specs.Prelude.{◌≡◌, ℕ, List, Option, All, IsSome};
 ghost use Rattle.psm_files.specs.Expected.{Expected};
-ghost use Rattle.psm_files.specs.Given.{as_told};
+ghost use Rattle.psm_files.specs.Given.{as_held};
 ghost use Rattle.psm_commands.specs.Command.{Command, files_of};
 ghost use Rattle.psm_commands.specs.Contract.{StatusFor};
 
@@ -11,9 +11,9 @@ use psm_code_session::{
 };
 use psm_load::texts_are_one_thing;
 
-/// Where a shelf tells the files that a command reads, a status is expected of it.
+/// Where the shelf is known to hold the files that a command reads, a status is expected of it.
 pub fn something_is_expected()
-    ensures { (held : List ℕ → Option (List ℕ)) (command : Command) → All (λ name. IsSome (held name)) (files_of command) → (expected : Expected) × StatusFor (as_told held) command expected }
+    ensures { (held : List ℕ → Option (List ℕ)) (command : Command) → All (λ name. IsSome (held name)) (files_of command) → (expected : Expected) × StatusFor (as_held held) command expected }
 {
     files_are_one_thing();
     files_are_something();

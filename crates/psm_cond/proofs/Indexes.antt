@@ -167,10 +167,10 @@ pub index_next : (old new : Index) (hs : List Handler) (n m : ℕ) (h : Handler)
     → IsIndex old (take n hs) → Notes (λ key. is_own_for key h) m old new → IsIndex new (take (n + 1) hs)
 index_next old new hs n m h lt at number before noted key =
     let more : take (n + 1) hs ≡ take n hs ++ h ∷ [] = take_more hs n h lt ∙ ap (λ g. take n hs ++ g ∷ []) (sym at) in
-    let place : m ≡ 0 + length (take n hs) = let l : length (take n hs) ≡ n = length-take-le n hs (omega (arith, lt)) in omega (arith, number, l) in
+    let position : m ≡ 0 + length (take n hs) = let l : length (take n hs) ≡ n = length-take-le n hs (omega (arith, lt)) in omega (arith, number, l) in
     noted key
     ∙ ap (λ o. or_else o (if is_own_for key h then Some m else None)) (before key)
-    ∙ ap (λ m. or_else (first_from key 0 (take n hs)) (if is_own_for key h then Some m else None)) place
+    ∙ ap (λ m. or_else (first_from key 0 (take n hs)) (if is_own_for key h then Some m else None)) position
     ∙ sym (first_last key 0 (take n hs) h)
     ∙ ap (first_from key 0) (sym more)
 

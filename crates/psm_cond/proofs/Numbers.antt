@@ -9,13 +9,13 @@ use Rattle.psm_cond.specs.declared.fault.AreaFault.TheVariants as fault
 use Rattle.psm_cond.specs.declared.item.ConditionItem.{ConditionItem}
 use Rattle.psm_cond.specs.Item.{IsNumber, GivesItem, entry_item}
 
--- no entry whose number is the value stands before a place
+-- no entry whose number is the value stands before an index
 abbrev pub None_before : Datum → ℕ → Type 0
-None_before value place = (n : ℕ) → n < place → IsNumber value (suc n) → ⊥
+None_before value position = (n : ℕ) → n < position → IsNumber value (suc n) → ⊥
 
-pub one_more : (value : Datum) (place number : ℕ) → number ≡ suc place → None_before value place → (IsNumber value number → false ≡ true) → None_before value (place + 1)
-one_more value place number p none not n h is =
-    elim (cases_lt n place) as (λ _. ⊥) [
+pub one_more : (value : Datum) (position number : ℕ) → number ≡ suc position → None_before value position → (IsNumber value number → false ≡ true) → None_before value (position + 1)
+one_more value position number p none not n h is =
+    elim (cases_lt n position) as (λ _. ⊥) [
       | inl lt ↦ none n lt is
       | inr ge ↦ let m : suc n ≡ number = omega (arith, h, ge, p) in false≢true (not (subst (λ m. IsNumber value m) m is))
     ]
@@ -23,9 +23,9 @@ one_more value place number p none not n h is =
 pub not_first : (value : Datum) → (IsNumber value 1 → false ≡ true) → None_before value 1
 not_first value not n h is = let m : suc n ≡ 1 = omega (arith, h) in false≢true (not (subst (λ m. IsNumber value m) m is))
 
-pub none_at_all : (entries : List Entry) (value : Datum) (item : ConditionItem) (place : ℕ) → length entries ≤ place → None_before value place
+pub none_at_all : (entries : List Entry) (value : Datum) (item : ConditionItem) (position : ℕ) → length entries ≤ position → None_before value position
     → GivesItem entries value item (Err fault.Number)
-none_at_all entries value item place p none n is =
+none_at_all entries value item position p none n is =
     elim (cases_lt n (length entries)) as (λ _. length entries ≤ n) [
       | inl lt ↦ absurd (none n (omega (arith, lt, p)) is)
       | inr ge ↦ ge

@@ -10,7 +10,7 @@ pub record Diagnostics : Type 0 where
   pub entries : Entries
   pub rows : ℕ
 
--- one entry that tells of success
+-- one entry that reports success
 abbrev pub success : Entries
 success = alone (entry_of (codes "00000"))
 

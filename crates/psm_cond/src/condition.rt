@@ -123,7 +123,7 @@ impl Condition {
     }
 
     /// The condition with an entry in front of its own entries (RESIGNAL with a condition, ISO/IEC
-    /// 9075-4:1996). Four entries are kept; a fifth is dropped from the end, and `more` tells of it from
+    /// 9075-4:1996). Four entries are kept; a fifth is dropped from the end, and `more` says so from
     /// then on.
     pub fn following(self, entry: Entry) -> Result<Condition, AllocError>
         ensures { IfOk result (λ c. c ≡ following entry self) }
@@ -198,9 +198,9 @@ impl Condition {
             return Ok(item.of(alloc, 1, &self.first)?);
         }
         for (at, entry) in self.others.items().iter().enumerate() {
-            let place = at as u32 + 2;
-            if is_number(number, place) {
-                return Ok(item.of(alloc, place, entry)?);
+            let position = at as u32 + 2;
+            if is_number(number, position) {
+                return Ok(item.of(alloc, position, entry)?);
             }
         }
         Err(AreaFault::Number)

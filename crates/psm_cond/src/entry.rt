@@ -1,4 +1,4 @@
-//! What a condition tells of one SQLSTATE.
+//! What a condition says of one SQLSTATE.
 ghost use Rattle.std.specs.Prelude.{◌≡◌, IfOk};
 ghost use Rattle.std.specs.Str.{IsAscii, chars};
 ghost use Rattle.psm_cond.specs.Entry.{entry_of, name_text, without_own};

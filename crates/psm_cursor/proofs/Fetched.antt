@@ -13,11 +13,11 @@ use Rattle.psm_value.specs.declared.fault.ValueFault.{ValueFault}
 use Rattle.psm_value.specs.declared.fault.ValueFault.TheVariants as value_fault
 use Rattle.psm_table.specs.Cursors.{Cursor, Plain, Insensitive, Position}
 use Rattle.psm_table.specs.Table.{Contents}
-use Rattle.psm_tablecode.specs.Faults.{IsRaised, Tells}
+use Rattle.psm_tablecode.specs.Faults.{IsRaised, Reports}
 use Rattle.psm_tablecode.specs.TypeChecks.{Runs, RunItems}
 use Rattle.psm_cursor.specs.Fetching.{Fetch, Fetches, Moves, fetched, moved}
 
-pub fetches_fault : {P : Type 0} (f : Fetch P) (old new : P) (fault : ValueFault) (told : DataFault) → Moves f old new (Err fault) → Tells fault told → Fetches f old new (Err told)
+pub fetches_fault : {P : Type 0} (f : Fetch P) (old new : P) (fault : ValueFault) (reported : DataFault) → Moves f old new (Err fault) → Reports fault reported → Fetches f old new (Err reported)
 fetches_fault f old new (value_fault.Condition s) (Raised c) m t = (subst (λ d. IsRaised d c) (sym m.0) t, m.1)
 fetches_fault f old new (value_fault.Condition s) Memory m t = inr m.1
 fetches_fault f old new value_fault.Memory (Raised c) m t = absurd t
@@ -39,9 +39,9 @@ module _ (query : Query) (t : Contents) where
   fetches_next (r ∷ old) new None e g = let none : r ∷ old ≡ old = e ∙ g in absurd (omega (arith, ap length none))
   fetches_next (r ∷ old) new (Some row) e g = let same : r ≡ row = cc in let rest : old ≡ new = cc in (ap (λ (x : List Datum). Ok (Some x)) same, ap Insensitive (sym rest))
 
-  pub fetches_same : (old was new now : Cursor) (result told : Result (Option (List Datum)) DataFault) → old ≡ was → new ≡ now → result ≡ told
-      → Fetches (fetched query t was) was now told → Fetches (fetched query t old) old new result
-  fetches_same old was new now result told e f g h =
+  pub fetches_same : (old was new now : Cursor) (result reported : Result (Option (List Datum)) DataFault) → old ≡ was → new ≡ now → result ≡ reported
+      → Fetches (fetched query t was) was now reported → Fetches (fetched query t old) old new result
+  fetches_same old was new now result reported e f g h =
       subst (λ (c : Cursor). Fetches (fetched query t c) c new result) (sym e)
       (subst (λ (c : Cursor). Fetches (fetched query t was) was c result) (sym f)
       (subst (λ (r : Result (Option (List Datum)) DataFault). Fetches (fetched query t was) was now r) (sym g) h))

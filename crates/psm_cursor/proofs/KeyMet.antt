@@ -148,20 +148,20 @@ met_by_key t vars test downward bound key up e = subst (FindsByKey t downward bo
 
 module _ (t : Contents) (vars : List Datum) (test : Option (List Line)) (downward : Bool) (bound : Option (List Datum)) (key : List Datum)
     (up : IsAscending t.def.key t.rows) (asked : key_asked t.def.key vars (folded_test vars test) ≡ Some key) where
-  abbrev due : Result (Option (List Datum)) SqlState
-  due = first_met (test_of (over vars) test) (rows_past t.def.key downward bound t.rows)
+  abbrev expected : Result (Option (List Datum)) SqlState
+  expected = first_met (test_of (over vars) test) (rows_past t.def.key downward bound t.rows)
 
-  abbrev due_at : Bool → Option (List Datum) → Result (Option (List Datum)) SqlState
-  due_at b o = if b then first_met (test_of (over vars) test) (cons_option o []) else Ok None
+  abbrev expected_at : Bool → Option (List Datum) → Result (Option (List Datum)) SqlState
+  expected_at b o = if b then first_met (test_of (over vars) test) (cons_option o []) else Ok None
 
-  is_due : (b : Bool) (o : Option (List Datum)) → b ≡ is_past downward bound key → o ≡ keyed t key → due ≡ due_at b o
-  is_due b o e f = met_by_key t vars test downward bound key up asked ∙ sym (ap (due_at b) f ∙ ap (λ c. due_at c (keyed t key)) e)
+  is_due : (b : Bool) (o : Option (List Datum)) → b ≡ is_past downward bound key → o ≡ keyed t key → expected ≡ expected_at b o
+  is_due b o e f = met_by_key t vars test downward bound key up asked ∙ sym (ap (expected_at b) f ∙ ap (λ c. expected_at c (keyed t key)) e)
 
-  pub due_not_after : false ≡ is_past downward bound key → due ≡ Ok None
-  due_not_after e = is_due false (keyed t key) e refl
+  pub expected_not_after : false ≡ is_past downward bound key → expected ≡ Ok None
+  expected_not_after e = is_due false (keyed t key) e refl
 
-  pub due_none : true ≡ is_past downward bound key → None ≡ keyed t key → due ≡ Ok None
-  due_none e f = is_due true None e f
+  pub expected_none : true ≡ is_past downward bound key → None ≡ keyed t key → expected ≡ Ok None
+  expected_none e f = is_due true None e f
 
-  pub due_there : (row : List Datum) (result : Result (Option (Bor (List Datum))) ValueFault) → true ≡ is_past downward bound key → Some row ≡ keyed t key → Finds (first_met (test_of (over vars) test) (row ∷ [])) result → Finds due result
-  due_there row result e f h = subst (λ (r : Result (Option (List Datum)) SqlState). Finds r result) (sym (is_due true (Some row) e f)) h
+  pub expected_there : (row : List Datum) (result : Result (Option (Bor (List Datum))) ValueFault) → true ≡ is_past downward bound key → Some row ≡ keyed t key → Finds (first_met (test_of (over vars) test) (row ∷ [])) result → Finds expected result
+  expected_there row result e f h = subst (λ (r : Result (Option (List Datum)) SqlState). Finds r result) (sym (is_due true (Some row) e f)) h

@@ -41,15 +41,15 @@ module _ (test : List Datum → Result Truth SqlState) (row : List Datum) (rows 
   found_fault Memory e = tt
 
 module _ (t : Contents) (test : List Datum → Result Truth SqlState) (downward : Bool) (bound : Option (List Datum)) (rows : List (List Datum)) (m : Meeting t test downward bound rows) where
-  abbrev due : Result (Option (List Datum)) SqlState
-  due = first_met test (rows_past t.def.key downward bound t.rows)
+  abbrev expected : Result (Option (List Datum)) SqlState
+  expected = first_met test (rows_past t.def.key downward bound t.rows)
 
   -- without a row no row meets it
-  pub meets_none : rows ≡ [] → due ≡ Ok None
+  pub meets_none : rows ≡ [] → expected ≡ Ok None
   meets_none e = sym m.same ∙ ap (first_met test) e
 
   module _ (row : List Datum) (left : List (List Datum)) (here : rows ≡ row ∷ left) where
-    next : first_met test (row ∷ left) ≡ due
+    next : first_met test (row ∷ left) ≡ expected
     next = sym (ap (first_met test) here) ∙ m.same
 
     fit : All (IsRow t.def) (row ∷ left)
@@ -58,11 +58,11 @@ module _ (t : Contents) (test : List Datum → Result Truth SqlState) (downward 
     pub next_fits : IsRow t.def row
     next_fits = All-head (IsRow t.def) row left fit
 
-    pub meets_next : mapped is_met (test row) ≡ Ok true → due ≡ Ok (Some row)
+    pub meets_next : mapped is_met (test row) ≡ Ok true → expected ≡ Ok (Some row)
     meets_next e = sym next ∙ found test row left e
 
     pub passes_next : mapped is_met (test row) ≡ Ok false → Meeting t test downward bound left
     passes_next e = record { same = sym (passed test row left e) ∙ next; fit = All-tail (IsRow t.def) row left fit }
 
-    pub meets_fault : (fault : ValueFault) → Gives (mapped is_met (test row)) (Err fault) → Finds due (Err fault)
+    pub meets_fault : (fault : ValueFault) → Gives (mapped is_met (test row)) (Err fault) → Finds expected (Err fault)
     meets_fault fault g = subst (λ (r : Result (Option (List Datum)) SqlState). Finds r (Err fault)) next (found_fault test row left fault g)

@@ -15,13 +15,13 @@ use Rattle.psm_tablecode.specs.Codes.{over, query_of}
 use Rattle.psm_tablecode.specs.Faults.{Answers, IsRaised}
 use Rattle.psm_cursor.specs.Opened.{opened_over}
 
-raised_mapped : {A B : Type 0} (f : A → B) (due : Result A SqlState) (condition : Entries) → IsRaised due condition → IsRaised (mapped f due) condition
+raised_mapped : {A B : Type 0} (f : A → B) (expected : Result A SqlState) (condition : Entries) → IsRaised expected condition → IsRaised (mapped f expected) condition
 raised_mapped f (Ok a) condition h = h
 raised_mapped f (Err state) condition h = h
 
-mapped_fault : {A B : Type 0} (f : A → B) (due : Result A SqlState) (fault : DataFault) → Answers due (Err fault) → Answers (mapped f due) (Err fault)
-mapped_fault f due (Raised condition) h = raised_mapped f due condition h
-mapped_fault f due Memory h = tt
+mapped_fault : {A B : Type 0} (f : A → B) (expected : Result A SqlState) (fault : DataFault) → Answers expected (Err fault) → Answers (mapped f expected) (Err fault)
+mapped_fault f expected (Raised condition) h = raised_mapped f expected condition h
+mapped_fault f expected Memory h = tt
 
 module _ (query : Query) (vars : List Datum) where
   pub opens : (o : Option Contents) (a : Answer) (rows : List (List Datum)) (c : Cursor) → rows ≡ a.rows → c ≡ Insensitive rows → IfSome o (λ t. Answers (answer (over vars) (query_of query) t.rows) (Ok a))

@@ -74,8 +74,8 @@ module _ (t : Contents) (vars : List Datum) (test : Option (List Line)) (downwar
   abbrev columns : List ℕ
   columns = columns_in t.def.unique unique.list
 
-  abbrev due : Result (Option (List Datum)) SqlState
-  due = first_met (test_of (over vars) test) (rows_past t.def.key downward bound t.rows)
+  abbrev expected : Result (Option (List Datum)) SqlState
+  expected = first_met (test_of (over vars) test) (rows_past t.def.key downward bound t.rows)
 
   abbrev found : List (List Datum)
   found = rows_with columns unique.values t.rows
@@ -102,27 +102,27 @@ module _ (t : Contents) (vars : List Datum) (test : Option (List Line)) (downwar
         let lines : Option (List Line) = folded_test vars test in
         asked_by downward (key_asked t.def.key vars lines) (unique_asked t.def.unique vars lines) (bounds_asked t.def.key vars lines) walk unique w k u
 
-    met_there : first_met (test_of (over vars) test) (past found) ≡ due
+    met_there : first_met (test_of (over vars) test) (past found) ≡ expected
     met_there = subst (λ (f : Test). first_met f (past found) ≡ first_met f (rows_past t.def.key downward bound t.rows)) (tests_same vars test) (met_with (folded_test vars test) asked)
 
-    due_by : (rows : List (List Datum)) → found ≡ rows → due ≡ first_met (test_of (over vars) test) (filter (lies_past t.def.key downward bound) (in_walk downward rows))
-    due_by rows e = sym met_there ∙ ap (λ (l : List (List Datum)). first_met (test_of (over vars) test) (filter (lies_past t.def.key downward bound) (in_walk downward l))) e
+    expected_by : (rows : List (List Datum)) → found ≡ rows → expected ≡ first_met (test_of (over vars) test) (filter (lies_past t.def.key downward bound) (in_walk downward rows))
+    expected_by rows e = sym met_there ∙ ap (λ (l : List (List Datum)). first_met (test_of (over vars) test) (filter (lies_past t.def.key downward bound) (in_walk downward l))) e
 
     none_walked : (d : Bool) → first_met (test_of (over vars) test) (filter (lies_past t.def.key downward bound) (in_walk d [])) ≡ Ok None
     none_walked true = refl
     none_walked false = refl
 
-    pub due_nothing : Some [] ≡ at_most_one found → due ≡ Ok None
-    due_nothing e = due_by [] (only_row_is found [] e) ∙ none_walked downward
+    pub expected_nothing : Some [] ≡ at_most_one found → expected ≡ Ok None
+    expected_nothing e = expected_by [] (only_row_is found [] e) ∙ none_walked downward
 
-    due_one : (row : List Datum) → Some (row ∷ []) ≡ at_most_one found → due ≡ first_met (test_of (over vars) test) (filter (lies_past t.def.key downward bound) (row ∷ []))
-    due_one row e =
-        due_by (row ∷ []) (only_row_is found (row ∷ []) e)
+    expected_one : (row : List Datum) → Some (row ∷ []) ≡ at_most_one found → expected ≡ first_met (test_of (over vars) test) (filter (lies_past t.def.key downward bound) (row ∷ []))
+    expected_one row e =
+        expected_by (row ∷ []) (only_row_is found (row ∷ []) e)
         ∙ ap (λ (l : List (List Datum)). first_met (test_of (over vars) test) (filter (lies_past t.def.key downward bound) l)) (one_walked row downward)
 
-    pub due_found : (row : List Datum) (result : Result (Option (Bor (List Datum))) ValueFault) → Some (row ∷ []) ≡ at_most_one found → Finds (first_met (test_of (over vars) test) (filter (lies_past t.def.key downward bound) (row ∷ []))) result
-        → Finds due result
-    due_found row result e h = subst (λ (r : Result (Option (List Datum)) SqlState). Finds r result) (sym (due_one row e)) h
+    pub expected_found : (row : List Datum) (result : Result (Option (Bor (List Datum))) ValueFault) → Some (row ∷ []) ≡ at_most_one found → Finds (first_met (test_of (over vars) test) (filter (lies_past t.def.key downward bound) (row ∷ []))) result
+        → Finds expected result
+    expected_found row result e h = subst (λ (r : Result (Option (List Datum)) SqlState). Finds r result) (sym (expected_one row e)) h
 
   pub one_fits : IsTable t → (row : List Datum) → Some (row ∷ []) ≡ at_most_one found → IsRow t.def row
   one_fits is row e =

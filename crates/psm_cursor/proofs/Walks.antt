@@ -116,9 +116,9 @@ module _ (bound key : List Datum) (long : length key ≡ length bound) where
   whole_order : prefix_order bound key ≡ ordering_reverse (key_order bound key)
   whole_order = ap (λ (k : List Datum). key_order k bound) (take_all (length bound) key (omega (arith, long))) ∙ key_order-total.antisymm key bound
 
-  -- behind it lie the greater keys, and before it the lesser ones
-  behind_key : cuts.is_past bound true key ≡ is_lt (key_order bound key)
-  behind_key = ap is_gt whole_order ∙ sym (less-turned (key_order bound key))
+  -- after it lie the greater keys, and before it the lesser ones
+  after_key : cuts.is_past bound true key ≡ is_lt (key_order bound key)
+  after_key = ap is_gt whole_order ∙ sym (less-turned (key_order bound key))
 
   before_key : not (cuts.is_past bound false key) ≡ is_gt (key_order bound key)
   before_key = not-not (is_lt (prefix_order bound key)) ∙ ap is_lt whole_order ∙ sym (greater-turned (key_order bound key))
@@ -156,14 +156,14 @@ module _ (columns : List ℕ) (low high : Option Edge) (row : List Datum) where
   is_past : (downward : Bool) (bound : Option (List Datum)) → IfSome bound (λ k. length k ≡ length columns) → Past downward bound ≡ true → lies_past columns downward bound row ≡ true
   is_past downward None h e = refl
   is_past true (Some k) h e = sym (before_key k there (long k h)) ∙ second_of_both (is_begun low there) (not (cuts.is_past k false there)) e
-  is_past false (Some k) h e = sym (behind_key k there (long k h)) ∙ first_of_both (cuts.is_past k true there) (is_not_ended high there) e
+  is_past false (Some k) h e = sym (after_key k there (long k h)) ∙ first_of_both (cuts.is_past k true there) (is_not_ended high there) e
 
   -- a row past the key that isn't of that walk isn't between the edges
   is_outside : (downward : Bool) (bound : Option (List Datum)) → IfSome bound (λ k. length k ≡ length columns) → lies_past columns downward bound row ≡ true → Past downward bound ≡ false
       → lies_within low high there ≡ false
   is_outside downward None h p e = e
   is_outside true (Some k) h p e = first_of_none (is_begun low there) (not (cuts.is_past k false there)) (is_not_ended high there) (before_key k there (long k h) ∙ p) e
-  is_outside false (Some k) h p e = second_of_none (cuts.is_past k true there) (is_not_ended high there) (is_begun low there) (behind_key k there (long k h) ∙ p) e
+  is_outside false (Some k) h p e = second_of_none (cuts.is_past k true there) (is_not_ended high there) (is_begun low there) (after_key k there (long k h) ∙ p) e
 
 -- ---- FETCH
 

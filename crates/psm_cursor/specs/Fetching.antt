@@ -16,23 +16,23 @@ use Rattle.psm_tablecode.specs.Codes.{over, query_of}
 use Rattle.psm_tablecode.specs.Faults.{IsRaised}
 use Rattle.psm_tablecode.specs.Rows.{values_for}
 
--- the answer, or the condition, that is due, and where the cursor stands then
+-- the answer, or the condition, that is expected, and where the cursor stands then
 pub record Fetch (P : Type 0) : Type 0 where
-  pub due : Result (Option (List Datum)) SqlState
-  pub place : P
+  pub expected : Result (Option (List Datum)) SqlState
+  pub position : P
 
--- the cursor has moved so, and its answer is the one that is due, unless memory runs out, which may come before the move or
+-- the cursor has moved so, and its answer is the one that is expected, unless memory runs out, which may come before the move or
 -- after it
 abbrev pub Fetches : {P : Type 0} → Fetch P → P → P → Result (Option (List Datum)) DataFault → Type 0
-Fetches f old new (Ok row) = (f.due ≡ Ok row) × (new ≡ f.place)
-Fetches f old new (Err (fault.Raised condition)) = IsRaised f.due condition × (new ≡ f.place)
-Fetches f old new (Err fault.Memory) = (new ≡ old) ⊎ (new ≡ f.place)
+Fetches f old new (Ok row) = (f.expected ≡ Ok row) × (new ≡ f.position)
+Fetches f old new (Err (fault.Raised condition)) = IsRaised f.expected condition × (new ≡ f.position)
+Fetches f old new (Err fault.Memory) = (new ≡ old) ⊎ (new ≡ f.position)
 
 -- the same, where the condition is an SQLSTATE yet
 abbrev pub Moves : {P : Type 0} → Fetch P → P → P → Result (Option (List Datum)) ValueFault → Type 0
-Moves f old new (Ok row) = (f.due ≡ Ok row) × (new ≡ f.place)
-Moves f old new (Err (value_fault.Condition state)) = (f.due ≡ Err state) × (new ≡ f.place)
-Moves f old new (Err value_fault.Memory) = (new ≡ old) ⊎ (new ≡ f.place)
+Moves f old new (Ok row) = (f.expected ≡ Ok row) × (new ≡ f.position)
+Moves f old new (Err (value_fault.Condition state)) = (f.expected ≡ Err state) × (new ≡ f.position)
+Moves f old new (Err value_fault.Memory) = (new ≡ old) ⊎ (new ≡ f.position)
 
 -- ---- a plain cursor
 
@@ -42,23 +42,23 @@ items_found query vars (Some row) = mapped (λ ds. Some ds) (values_for vars que
 
 -- the cursor stands on the row before its items are evaluated; a condition of the test leaves it where it was
 abbrev pub moved_by : Query → List Datum → Position → Result (Option (List Datum) × Position) SqlState → Fetch Position
-moved_by query vars p (Ok found) = record { due = items_found query vars found.0; place = found.1 }
-moved_by query vars p (Err state) = record { due = Err state; place = p }
+moved_by query vars p (Ok found) = record { expected = items_found query vars found.0; position = found.1 }
+moved_by query vars p (Err state) = record { expected = Err state; position = p }
 
 abbrev pub moved : Query → Contents → List Datum → Position → Fetch Position
 moved query t vars p = moved_by query vars p (advanced (over vars) (query_of query) t.def.key t.rows p)
 
--- the row is the one that is due, unless memory runs out
+-- the row is the one that is expected, unless memory runs out
 abbrev pub Finds : Result (Option (List Datum)) SqlState → Result (Option (Bor (List Datum))) ValueFault → Type 0
-Finds due (Ok row) = due ≡ Ok (option_copied row)
-Finds due (Err (value_fault.Condition state)) = due ≡ Err state
-Finds due (Err value_fault.Memory) = Unit {0}
+Finds expected (Ok row) = expected ≡ Ok (option_copied row)
+Finds expected (Err (value_fault.Condition state)) = expected ≡ Err state
+Finds expected (Err value_fault.Memory) = Unit {0}
 
 -- ---- any cursor
 
 -- an insensitive cursor gives the first row that is left; one that isn't open has none
 abbrev pub fetched : Query → Contents → Cursor → Fetch Cursor
-fetched query t Closed = record { due = Ok None; place = Closed }
-fetched query t (Plain p vars) = record { due = (moved query t vars p).due; place = Plain (moved query t vars p).place vars }
-fetched query t (Insensitive []) = record { due = Ok None; place = Insensitive [] }
-fetched query t (Insensitive (row ∷ rows)) = record { due = Ok (Some row); place = Insensitive rows }
+fetched query t Closed = record { expected = Ok None; position = Closed }
+fetched query t (Plain p vars) = record { expected = (moved query t vars p).expected; position = Plain (moved query t vars p).position vars }
+fetched query t (Insensitive []) = record { expected = Ok None; position = Insensitive [] }
+fetched query t (Insensitive (row ∷ rows)) = record { expected = Ok (Some row); position = Insensitive rows }

@@ -1,7 +1,7 @@
 pub mod Current
 pub mod Fetching
 pub mod Opened
-pub mod Places
+pub mod Positions
 pub mod States
 pub mod TypeChecks
 pub mod Walking

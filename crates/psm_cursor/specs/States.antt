@@ -5,5 +5,5 @@ use Rattle.psm_cursor.specs.declared.cursor.State.TheVariants as state
 
 abbrev pub cursor_of : State → Cursor
 cursor_of state.Closed = Closed
-cursor_of (state.Plain place vars) = Plain place vars.items
+cursor_of (state.Plain position vars) = Plain position vars.items
 cursor_of (state.Insensitive rows) = Insensitive rows.items

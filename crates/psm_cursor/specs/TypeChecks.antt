@@ -15,12 +15,12 @@ HasRows (Rows codes) = Unit {0}
 HasRows (Sets sets) = ⊥
 
 -- the key that a plain cursor reached is one of the table
-abbrev pub IsPlace : TableDef → Position → Type 0
-IsPlace def p = IfSome p.bound (IsKey def)
+abbrev pub IsPosition : TableDef → Position → Type 0
+IsPosition def p = IfSome p.bound (IsKey def)
 
 abbrev pub StandsIn : TableDef → Cursor → Type 0
 StandsIn def Closed = Unit {0}
-StandsIn def (Plain p vars) = IsPlace def p
+StandsIn def (Plain p vars) = IsPosition def p
 StandsIn def (Insensitive rows) = Unit {0}
 
 -- the query of a plain cursor fits the table and the variables that the cursor keeps, and has no set functions
@@ -30,5 +30,5 @@ pub record TypeChecksPlain (query : Query) (vars : List Datum) (def : TableDef) 
 
 abbrev pub TypeChecksCursor : Query → TableDef → Cursor → Type 0
 TypeChecksCursor query def Closed = Unit {0}
-TypeChecksCursor query def (Plain p vars) = TypeChecksPlain query vars def × IsPlace def p
+TypeChecksCursor query def (Plain p vars) = TypeChecksPlain query vars def × IsPosition def p
 TypeChecksCursor query def (Insensitive rows) = Unit {0}

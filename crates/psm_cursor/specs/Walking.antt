@@ -12,7 +12,7 @@ abbrev pub is_past : Bool → Option (List Datum) → List Datum → Bool
 is_past downward None key = true
 is_past downward (Some bound) key = if downward then is_gt (key_order bound key) else is_lt (key_order bound key)
 
--- where the keys begin that lie past a key in a walk: behind that key, or downward at the edge of the walk
+-- where the keys begin that lie past a key in a walk: after that key, or downward at the edge of the walk
 abbrev pub low_edge_past : Bool → Option Edge → Option (List Datum) → Option Edge
 low_edge_past downward low None = low
 low_edge_past downward low (Some bound) = if downward then low else Some (edge bound true)

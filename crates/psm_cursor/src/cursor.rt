@@ -11,7 +11,7 @@ ghost use Rattle.psm_cursor.specs.TypeChecks.{StandsIn, TypeChecksCursor};
 ghost use Rattle.psm_cursor.specs.Opened.{is_opened, opened_over};
 
 use crate::fetching::fetch;
-use crate::place::Place;
+use crate::position::CursorPosition;
 use psm_cond::DataFault;
 use psm_exprcode::Query;
 use psm_query::rows;
@@ -32,7 +32,7 @@ pub struct Cursor {
 enum State {
     Closed,
     /// It sees the rows as they are when it is moved, and the variables as they were when it was opened.
-    Plain(Place, Vec<Datum>),
+    Plain(CursorPosition, Vec<Datum>),
     /// The rows of its answer that are left.
     Insensitive(VecDeque<Row>),
 }
@@ -61,7 +61,7 @@ impl Cursor {
         ensures { IfOk result (λ cursor. cursor ≡ Plain before_first vars.now) }
     {
         Ok(Cursor {
-            state: State::Plain(Place::before_first(), copied(alloc, vars)?),
+            state: State::Plain(CursorPosition::before_first(), copied(alloc, vars)?),
         })
     }
 
@@ -143,7 +143,7 @@ impl Cursor {
         ensures { option_copied result ≡ current_key self.now }
     {
         match &self.state {
-            State::Plain(place, _) => place.key(),
+            State::Plain(position, _) => position.key(),
             State::Closed | State::Insensitive(_) => None,
         }
     }
@@ -154,7 +154,7 @@ impl Cursor {
         ensures { self.new ≡ off_row self.old }
     {
         match &mut self.state {
-            State::Plain(place, _) => place.leave_row(),
+            State::Plain(position, _) => position.leave_row(),
             State::Closed | State::Insensitive(_) => {}
         }
     }
@@ -182,7 +182,7 @@ impl Cursor {
         match &mut self.state {
             State::Closed => Ok(None),
             State::Insensitive(rows) => Ok(rows.pop_front()),
-            State::Plain(place, vars) => fetch(alloc, place, table, query, vars.as_slice()),
+            State::Plain(position, vars) => fetch(alloc, position, table, query, vars.as_slice()),
         }
     }
 }

@@ -4,9 +4,9 @@ ghost use Rattle.psm_value.specs.Answer.{Gives};
 ghost use Rattle.psm_tablecode.specs.Rows.{values_for};
 ghost use Rattle.psm_tablecode.specs.TypeChecks.{RunItems};
 ghost use Rattle.psm_cursor.specs.Fetching.{moved, Fetches, Moves};
-ghost use Rattle.psm_cursor.specs.TypeChecks.{HasRows, IsPlace, TypeChecksPlain};
+ghost use Rattle.psm_cursor.specs.TypeChecks.{HasRows, IsPosition, TypeChecksPlain};
 
-use crate::place::Place;
+use crate::position::CursorPosition;
 use crate::walking::next_met;
 use psm_cond::DataFault;
 use psm_exprcode::{Items, Query};
@@ -19,17 +19,17 @@ use std::alloc::Global;
 #[tactic(auto, using(crate::proofs::Fetched::fetches_fault))]
 pub(crate) fn fetch(
     alloc: Global,
-    place: &mut Place,
+    position: &mut CursorPosition,
     table: &Table,
     query: &Query,
     vars: &[Datum],
 ) -> Result<Option<Row>, DataFault>
     requires type_checks { TypeChecksPlain query.now vars.now table.now.contents.def }
-    requires place { IsPlace table.now.contents.def place.old }
-    ensures fetches { Fetches (moved query.now table.now.contents vars.now place.old) place.old place.new result }
-    ensures place { IsPlace table.now.contents.def place.new }
+    requires position { IsPosition table.now.contents.def position.old }
+    ensures fetches { Fetches (moved query.now table.now.contents vars.now position.old) position.old position.new result }
+    ensures position { IsPosition table.now.contents.def position.new }
 {
-    match advance(alloc, place, table, query, vars) {
+    match advance(alloc, position, table, query, vars) {
         Ok(row) => Ok(row),
         Err(fault) => Err(raised(alloc, &fault)),
     }
@@ -38,24 +38,24 @@ pub(crate) fn fetch(
 // The same, with the SQLSTATE of a condition alone.
 fn advance(
     alloc: Global,
-    place: &mut Place,
+    position: &mut CursorPosition,
     table: &Table,
     query: &Query,
     vars: &[Datum],
 ) -> Result<Option<Row>, ValueFault>
     requires type_checks { TypeChecksPlain query.now vars.now table.now.contents.def }
-    requires place { IsPlace table.now.contents.def place.old }
-    ensures moves { Moves (moved query.now table.now.contents vars.now place.old) place.old place.new result }
-    ensures place { IsPlace table.now.contents.def place.new }
+    requires position { IsPosition table.now.contents.def position.old }
+    ensures moves { Moves (moved query.now table.now.contents vars.now position.old) position.old position.new result }
+    ensures position { IsPosition table.now.contents.def position.new }
 {
-    if place.is_past_last() {
+    if position.is_past_last() {
         return Ok(None);
     }
-    let Some(row) = next_met(alloc, table, query, vars, place.reached())? else {
-        place.pass_last();
+    let Some(row) = next_met(alloc, table, query, vars, position.reached())? else {
+        position.pass_last();
         return Ok(None);
     };
-    place.stand_on(table.key_of(alloc, row)?);
+    position.stand_on(table.key_of(alloc, row)?);
     Ok(Some(items_on(alloc, &query.items, row, vars)?))
 }
 

@@ -3,7 +3,7 @@
 
 mod cursor;
 mod fetching;
-mod place;
+mod position;
 mod walking;
 
 pub use cursor::Cursor;

@@ -45,7 +45,7 @@ pub(crate) fn next_met<'a>(
 }
 
 // The row of the key for which the test asks, if it is after the other key and meets the test.
-#[tactic(auto, using(crate::proofs::KeyMet::due_not_after, crate::proofs::KeyMet::due_none, crate::proofs::KeyMet::due_there))]
+#[tactic(auto, using(crate::proofs::KeyMet::expected_not_after, crate::proofs::KeyMet::expected_none, crate::proofs::KeyMet::expected_there))]
 fn met_at_key<'a>(
     alloc: Global,
     table: &'a Table,
@@ -209,7 +209,7 @@ fn low_past<'a>(walk: &'a Walk, key: Option<&'a Key>) -> Option<Cut<'a>>
     match key {
         Some(key) if !walk.downward => Some(Cut {
             values: key.values(),
-            is_behind: true,
+            is_after: true,
         }),
         Some(_) | None => walk.low.as_ref().map(Edge::cut),
     }
@@ -222,7 +222,7 @@ fn high_past<'a>(walk: &'a Walk, key: Option<&'a Key>) -> Option<Cut<'a>>
     match key {
         Some(key) if walk.downward => Some(Cut {
             values: key.values(),
-            is_behind: false,
+            is_after: false,
         }),
         Some(_) | None => walk.high.as_ref().map(Edge::cut),
     }

@@ -130,27 +130,27 @@ module _ {E : Type 0} (ev : Evaluator E) (checks : List E) (key : List ℕ) wher
 
   abbrev pub Stands : List Row → List Row → Verdict → Type 0
   Stands rows seen (Kept b) = rows_pass ev checks (in_order key seen) ≡ Ok b
-  Stands rows seen (Raised place state) = (place < length rows) × IsFirst (get_or rows place []) state (in_order key seen)
+  Stands rows seen (Raised index state) = (index < length rows) × IsFirst (get_or rows index []) state (in_order key seen)
 
-  place_step : (rows seen : List Row) (place at : ℕ) (row : Row) (s t : SqlState) (b : Bool) → place < length rows → at < length rows → get_or rows at [] ≡ row → passes row ≡ Err t
-      → is_before key (get_or rows place []) (get_or rows at []) ≡ b → IsFirst (get_or rows place []) s (in_order key seen)
-      → Stands rows (seen ++ row ∷ []) (if b then Raised place s else Raised at t)
-  place_step rows seen place at row s t true l m e g f h =
-      let before : is_before key (get_or rows place []) row ≡ true = ap (is_before key (get_or rows place [])) (sym e) ∙ f in
-      (l, subst (IsFirst (get_or rows place []) s) (sym (in_order-last key seen row)) (following (get_or rows place []) row s (in_order key seen) (in_order-ordered key seen) before h))
-  place_step rows seen place at row s t false l m e g f h =
-      let after : is_before key (get_or rows place []) row ≡ false = ap (is_before key (get_or rows place [])) (sym e) ∙ f in
-      (m, subst (λ z. IsFirst z t (in_order key (seen ++ row ∷ []))) (sym e) (subst (IsFirst row t) (sym (in_order-last key seen row)) (ahead (get_or rows place []) row s t (in_order key seen) after g h)))
+  index_step : (rows seen : List Row) (index at : ℕ) (row : Row) (s t : SqlState) (b : Bool) → index < length rows → at < length rows → get_or rows at [] ≡ row → passes row ≡ Err t
+      → is_before key (get_or rows index []) (get_or rows at []) ≡ b → IsFirst (get_or rows index []) s (in_order key seen)
+      → Stands rows (seen ++ row ∷ []) (if b then Raised index s else Raised at t)
+  index_step rows seen index at row s t true l m e g f h =
+      let before : is_before key (get_or rows index []) row ≡ true = ap (is_before key (get_or rows index [])) (sym e) ∙ f in
+      (l, subst (IsFirst (get_or rows index []) s) (sym (in_order-last key seen row)) (following (get_or rows index []) row s (in_order key seen) (in_order-ordered key seen) before h))
+  index_step rows seen index at row s t false l m e g f h =
+      let after : is_before key (get_or rows index []) row ≡ false = ap (is_before key (get_or rows index [])) (sym e) ∙ f in
+      (m, subst (λ z. IsFirst z t (in_order key (seen ++ row ∷ []))) (sym e) (subst (IsFirst row t) (sym (in_order-last key seen row)) (ahead (get_or rows index []) row s t (in_order key seen) after g h)))
 
   pub stands_next : (rows seen : List Row) (v : Verdict) (at : ℕ) (row : Row) (r : Result Bool SqlState) → at < length rows → get_or rows at [] ≡ row → passes row ≡ r
       → Stands rows seen v → Stands rows (seen ++ row ∷ []) (verdict_with key rows v at r)
   stands_next rows seen (Kept b) at row (Ok c) l e g h = ap (rows_pass ev checks) (in_order-last key seen row) ∙ one_more row (in_order key seen) b c g h
   stands_next rows seen (Kept b) at row (Err t) l e g h =
       (l, subst (λ z. IsFirst z t (in_order key (seen ++ row ∷ []))) (sym e) (subst (IsFirst row t) (sym (in_order-last key seen row)) (one_raises row (in_order key seen) b t g h)))
-  stands_next rows seen (Raised place s) at row (Ok c) l e g h =
-      (h.0, subst (IsFirst (get_or rows place []) s) (sym (in_order-last key seen row)) (quiet (get_or rows place []) row s (in_order key seen) c g h.1))
-  stands_next rows seen (Raised place s) at row (Err t) l e g h =
-      place_step rows seen place at row s t (is_before key (get_or rows place []) (get_or rows at [])) h.0 l e g refl h.1
+  stands_next rows seen (Raised index s) at row (Ok c) l e g h =
+      (h.0, subst (IsFirst (get_or rows index []) s) (sym (in_order-last key seen row)) (quiet (get_or rows index []) row s (in_order key seen) c g h.1))
+  stands_next rows seen (Raised index s) at row (Err t) l e g h =
+      index_step rows seen index at row s t (is_before key (get_or rows index []) (get_or rows at [])) h.0 l e g refl h.1
 
 -- the rows seen so far, and the next
 pub seen_next : (rows : List Row) (at : ℕ) (row : Row) → at < length rows → row ≡ get_or rows at row → take (at + 1) rows ≡ take at rows ++ row ∷ []
@@ -161,14 +161,14 @@ seen_next rows at row l e =
 pub within_next : (n : ℕ) (key : List ℕ) (rows : List Row) (v : Verdict) (at : ℕ) (r : Result Bool SqlState) → at < n → IsWithin n v → IsWithin n (verdict_with key rows v at r)
 within_next n key rows (Kept b) at (Ok c) l h = tt
 within_next n key rows (Kept b) at (Err t) l h = l
-within_next n key rows (Raised place s) at (Ok c) l h = h
-within_next n key rows (Raised place s) at (Err t) l h = within_step n place at s t (is_before key (get_or rows place []) (get_or rows at [])) l h where
-  within_step : (n place at : ℕ) (s t : SqlState) (b : Bool) → at < n → place < n → IsWithin n (if b then Raised place s else Raised at t)
-  within_step n place at s t true l h = h
-  within_step n place at s t false l h = l
+within_next n key rows (Raised index s) at (Ok c) l h = h
+within_next n key rows (Raised index s) at (Err t) l h = within_step n index at s t (is_before key (get_or rows index []) (get_or rows at [])) l h where
+  within_step : (n index at : ℕ) (s t : SqlState) (b : Bool) → at < n → index < n → IsWithin n (if b then Raised index s else Raised at t)
+  within_step n index at s t true l h = h
+  within_step n index at s t false l h = l
 
-pub refused_is : (due : Result Bool SqlState) (fault : ValueFault) (result : Result Passed AllocError) → Gives due (Err fault) → IsRefused fault result → IfOk result (λ p. result_of p ≡ due)
-refused_is due (value_fault.Condition s) (Ok p) g h = ap result_of h ∙ sym g
-refused_is due (value_fault.Condition s) (Err e) g h = tt
-refused_is due value_fault.Memory (Ok p) g h = absurd h
-refused_is due value_fault.Memory (Err e) g h = tt
+pub refused_is : (expected : Result Bool SqlState) (fault : ValueFault) (result : Result Passed AllocError) → Gives expected (Err fault) → IsRefused fault result → IfOk result (λ p. result_of p ≡ expected)
+refused_is expected (value_fault.Condition s) (Ok p) g h = ap result_of h ∙ sym g
+refused_is expected (value_fault.Condition s) (Err e) g h = tt
+refused_is expected value_fault.Memory (Ok p) g h = absurd h
+refused_is expected value_fault.Memory (Err e) g h = tt

@@ -8,7 +8,7 @@ use Rattle.std.specs.declared.cmp.Ordering.TheVariants.{Less, Equal, Greater}
 use Rattle.std.proofs.lemmas.List.Elements.{All-head, All-tail}
 use Rattle.psm_sqlstate.specs.declared.state.SqlState.{SqlState}
 use Rattle.psm_cond.specs.declared.fault.DataFault.{DataFault}
-use Rattle.psm_cond.specs.declared.fault.DataFault.TheVariants as told_as
+use Rattle.psm_cond.specs.declared.fault.DataFault.TheVariants as reported_as
 use Rattle.psm_exprcode.specs.declared.op.Line.{Line}
 use Rattle.psm_exprcode.specs.declared.set_item.SetItem as set_code
 use Rattle.psm_value.specs.declared.datum.Datum.{Datum}
@@ -26,12 +26,12 @@ use Rattle.psm_table.proofs.Undo.{after_equal}
 use Rattle.psm_tablecode.specs.Codes.{over}
 use Rattle.psm_dml.specs.Changes.{changing, row_set, set_of}
 use Rattle.psm_dml.specs.declared.planning.Change.{Change}
-use Rattle.psm_dml.specs.Ends.{schema_of, schema_with, Ends, EndsAt, EndsAtRow, IsDue}
+use Rattle.psm_dml.specs.Ends.{schema_of, schema_with, Ends, EndsAt, EndsAtRow, IsExpected}
 use Rattle.psm_row_changes.specs.Rows.{without_keys, IsWhole}
 use Rattle.psm_value.specs.Answer.{Gives}
 use Rattle.psm_value.specs.declared.fault.ValueFault.{ValueFault}
 use Rattle.psm_value.specs.declared.fault.ValueFault.TheVariants.{Condition, Memory}
-use Rattle.psm_tablecode.specs.Faults.{Tells}
+use Rattle.psm_tablecode.specs.Faults.{Reports}
 use Rattle.psm_dml.proofs.Answering.{gives_err}
 use Rattle.psm_row_changes.proofs.Effects.{said, there as there_is}
 use Rattle.psm_dml.proofs.Updated.{changed_few, changed_keys, changed_legal, changed_whole, row_set_whole}
@@ -159,10 +159,10 @@ module _ (checks : List (List Line)) (among : List Row → Bool) (sets : List se
         done_step (Err f) b n h = cc (h.1)
 
         fault_step : (r : Result (List Row) Failure) (b : Bool) (what : DataFault) → Ends c (counting 1 r) old t new (Err what) → EndsAt c (moving b r) old t new (Err what)
-        fault_step (Ok rows) b (told_as.Raised condition) h = absurd (h.0)
-        fault_step (Err f) b (told_as.Raised condition) h = h
-        fault_step (Ok rows) b told_as.Memory h = h
-        fault_step (Err f) b told_as.Memory h = h
+        fault_step (Ok rows) b (reported_as.Raised condition) h = absurd (h.0)
+        fault_step (Err f) b (reported_as.Raised condition) h = h
+        fault_step (Ok rows) b reported_as.Memory h = h
+        fault_step (Err f) b reported_as.Memory h = h
 
         abbrev Finished : List (List Datum) → List Row → Result ℕ DataFault → Type 0
         Finished keys rows result =
@@ -180,7 +180,7 @@ module _ (checks : List (List Line)) (among : List Row → Bool) (sets : List se
         answer : (result : Result Bool DataFault) → EndsAt c (moving (has_moved c.def row d.made) ending) old t new result → Answer result
         answer result h =
             said (λ x. EndsAtRow x (moving_of x) (keyed x key) old t new result) (slice_get old t) c there
-            (subst (λ o. EndsAtRow c (moving_of c) o old t new result) (sym here) (subst (λ due. EndsAt c due old t new result) (sym move_as) h))
+            (subst (λ o. EndsAtRow c (moving_of c) o old t new result) (sym here) (subst (λ expected. EndsAt c expected old t new result) (sym move_as) h))
 
         pub move_fault : (keys : List (List Datum)) (rows : List Row) (what : DataFault) → keys ≡ d.key ∷ [] → rows ≡ d.made ∷ [] → Finished keys rows (Err what) → Answer (Err what)
         move_fault keys rows what k r h = answer (Err what) (fault_step ending (has_moved c.def row d.made) what (ends_so keys rows (Err what) k r h))
@@ -190,21 +190,21 @@ module _ (checks : List (List Line)) (among : List Row → Bool) (sets : List se
             subst (λ x. Answer (Ok x)) (sym e) (answer (Ok (has_moved c.def row d.made)) (done_step ending (has_moved c.def row d.made) n (ends_so keys rows (Ok n) k r h)))
 
     -- an expression raises a condition
-    told : (fault : ValueFault) (what : DataFault) (old new : List Contents) (t : ℕ) → ((s : SqlState) → fault ≡ Condition s → moving_of c row ≡ Err (Raised s)) → Tells fault what → new ≡ old → EndsAt c (moving_of c row) old t new (Err what)
-    told (Condition s) (told_as.Raised condition) old new t h g f = (subst (λ due. IsDue c.def due condition) (sym (h s refl)) g, f)
-    told (Condition s) told_as.Memory old new t h g f = f
-    told Memory (told_as.Raised condition) old new t h g f = absurd g
-    told Memory told_as.Memory old new t h g f = f
+    reported : (fault : ValueFault) (what : DataFault) (old new : List Contents) (t : ℕ) → ((s : SqlState) → fault ≡ Condition s → moving_of c row ≡ Err (Raised s)) → Reports fault what → new ≡ old → EndsAt c (moving_of c row) old t new (Err what)
+    reported (Condition s) (reported_as.Raised condition) old new t h g f = (subst (λ expected. IsExpected c.def expected condition) (sym (h s refl)) g, f)
+    reported (Condition s) reported_as.Memory old new t h g f = f
+    reported Memory (reported_as.Raised condition) old new t h g f = absurd g
+    reported Memory reported_as.Memory old new t h g f = f
 
-    pub move_told : (fault : ValueFault) (what : DataFault) (old new : List Contents) (t : ℕ) → slice_get old t ≡ Some c → Gives (changing c.def.key make row) (let r : Result Change ValueFault = Err fault in r) → Tells fault what → new ≡ old
+    pub move_reported : (fault : ValueFault) (what : DataFault) (old new : List Contents) (t : ℕ) → slice_get old t ≡ Some c → Gives (changing c.def.key make row) (let r : Result Change ValueFault = Err fault in r) → Reports fault what → new ≡ old
         → IfSome (slice_get old t) (λ x. EndsAtRow x (moving_of x) (keyed x key) old t new (Err what))
-    move_told fault what old new t there g tells f =
+    move_reported fault what old new t there g reports f =
         said (λ x. EndsAtRow x (moving_of x) (keyed x key) old t new (Err what)) (slice_get old t) c there
         (subst (λ o. EndsAtRow c (moving_of c) o old t new (Err what)) (sym here)
-        (told fault what old new t (λ s e. move_raises s (gives_err (changing c.def.key make row) fault s e g)) tells f))
+        (reported fault what old new t (λ s e. move_raises s (gives_err (changing c.def.key make row) fault s e g)) reports f))
 
   -- no row has the key
   pub move_none : (c : Contents) (key : List Datum) (old new : List Contents) (t : ℕ) → slice_get old t ≡ Some c → None ≡ keyed c key → new ≡ old → IfSome (slice_get old t) (λ x. EndsAtRow x (moving_of x) (keyed x key) old t new (Ok false))
   move_none c key old new t there none f =
       said (λ x. EndsAtRow x (moving_of x) (keyed x key) old t new (Ok false)) (slice_get old t) c there
-      (let due = moving_of c in subst (λ o. EndsAtRow c due o old t new (Ok false)) none (refl, f))
+      (let expected = moving_of c in subst (λ o. EndsAtRow c expected o old t new (Ok false)) none (refl, f))

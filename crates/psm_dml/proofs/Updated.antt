@@ -114,8 +114,8 @@ module _ (checks : List (List Line)) (keyed : List Row → Bool) (sets : List se
           → IfSome (slice_get old t) (λ x. Ends x (update_of x) old t new result)
       update_ends old new t keys rows result here k r h =
           let ended_so = there (λ x. Ends x (counting (length rows) (ended (over []) (schema_with keyed x.def checks) ((without_keys keys x).rows ++ rows))) old t new result) (slice_get old t) c here h in
-          let due : counting (length rows) (ended (over []) (schema_with keyed c.def checks) ((without_keys keys c).rows ++ rows)) ≡ update_of c =
+          let expected : counting (length rows) (ended (over []) (schema_with keyed c.def checks) ((without_keys keys c).rows ++ rows)) ≡ update_of c =
           ap (λ l. counting (length l) (ended (over []) (schema_with keyed c.def checks) ((without_keys keys c).rows ++ l))) r
           ∙ ap (λ l. counting (length (rows_of_changes cs)) (ended (over []) (schema_with keyed c.def checks) ((without_keys l c).rows ++ rows_of_changes cs))) k
           ∙ sym update_as in
-          said (λ x. Ends x (update_of x) old t new result) (slice_get old t) c here (subst (λ d. Ends c d old t new result) due ended_so)
+          said (λ x. Ends x (update_of x) old t new result) (slice_get old t) c here (subst (λ d. Ends c d old t new result) expected ended_so)

@@ -26,12 +26,12 @@ IsRefused value_fault.Memory (Err error) = Unit {0}
 -- the row whose condition counts is one of n
 abbrev pub IsWithin : ℕ → Verdict → Type 0
 IsWithin n (Kept b) = Unit {0}
-IsWithin n (Raised place state) = place < n
+IsWithin n (Raised index state) = index < n
 
--- with the row at a place more: of two rows that raise a condition the first by its key counts
+-- with the row at an index more: of two rows that raise a condition the first by its key counts
 abbrev pub verdict_with : List ℕ → List (List Datum) → Verdict → ℕ → Result Bool SqlState → Verdict
 verdict_with key rows (Kept b) at (Ok holds) = Kept (b && holds)
 verdict_with key rows (Kept b) at (Err state) = Raised at state
-verdict_with key rows (Raised place state) at (Ok holds) = Raised place state
-verdict_with key rows (Raised place state) at (Err other) =
-    if is_before key (slice_index_or rows place []) (slice_index_or rows at []) then Raised place state else Raised at other
+verdict_with key rows (Raised index state) at (Ok holds) = Raised index state
+verdict_with key rows (Raised index state) at (Err other) =
+    if is_before key (slice_index_or rows index []) (slice_index_or rows at []) then Raised index state else Raised at other

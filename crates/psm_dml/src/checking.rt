@@ -21,7 +21,7 @@ use std::cmp::Ordering;
 pub(crate) enum Verdict {
     /// No CHECK raised a condition, and whether each held.
     Kept(bool),
-    /// The place of the row whose condition counts, and the condition.
+    /// The index of the row whose condition counts, and the condition.
     Raised(usize, SqlState),
 }
 
@@ -70,11 +70,11 @@ fn next(verdict: Verdict, key: &[u32], rows: &[Row], at: usize, passed: Passed) 
             Passed::Held(holds) => Verdict::Kept(kept & holds),
             Passed::Condition(state) => Verdict::Raised(at, state),
         },
-        Verdict::Raised(place, state) => match passed {
-            Passed::Held(_) => Verdict::Raised(place, state),
+        Verdict::Raised(index, state) => match passed {
+            Passed::Held(_) => Verdict::Raised(index, state),
             Passed::Condition(other) => {
-                if is_before(key, &rows[place], &rows[at]) {
-                    Verdict::Raised(place, state)
+                if is_before(key, &rows[index], &rows[at]) {
+                    Verdict::Raised(index, state)
                 } else {
                     Verdict::Raised(at, other)
                 }

@@ -25,7 +25,7 @@ use psm_tablecode::raised;
 use psm_value::{Datum, ValueFault};
 use std::alloc::Global;
 
-/// Sets columns of the row that has a key to new values (UPDATE WHERE CURRENT OF), and tells whether the row has
+/// Sets columns of the row that has a key to new values (UPDATE WHERE CURRENT OF), and answers whether the row has
 /// another key now, as keys compare. All values are evaluated over the old row before the first is stored; what follows
 /// is as in `update`. A key without a row changes nothing, and then the answer is `false`. With each condition, and
 /// where memory runs out, the tables are as before.

@@ -67,13 +67,13 @@ liked_is (Ok e) pattern t (Ok false) h =
 pub liked_ok : (e : Result (Option ℕ) TextFault) (pattern t : List ℕ) (b : Bool) → Liked e pattern t (Ok b) → as_truth (like_of e pattern t) ≡ Ok (truth_of b)
 liked_ok e pattern t b h = ap as_truth (liked_is e pattern t (Ok b) h)
 
-faulted : (due : Result Truth (List ℕ)) (fault : TextFault) → due ≡ Err (state_of fault) → Gives due (Err (fault_of fault))
-faulted due TooLong h = h
-faulted due Substring h = h
-faulted due EscapeChar h = h
-faulted due EscapePair h = h
-faulted due Lost h = h
-faulted due Memory h = tt
+faulted : (expected : Result Truth (List ℕ)) (fault : TextFault) → expected ≡ Err (state_of fault) → Gives expected (Err (fault_of fault))
+faulted expected TooLong h = h
+faulted expected Substring h = h
+faulted expected EscapeChar h = h
+faulted expected EscapePair h = h
+faulted expected Lost h = h
+faulted expected Memory h = tt
 
 pub liked_err : (e : Result (Option ℕ) TextFault) (pattern t : List ℕ) (fault : TextFault) (v : ValueFault) → Liked e pattern t (Err fault) → v ≡ fault_of fault
     → Gives (as_truth (like_of e pattern t)) (Err v)

@@ -16,9 +16,9 @@ use Rattle.psm_exprcode.specs.declared.op.Line.{Line}
 use Rattle.psm_exprcode.specs.declared.op.Op.{Op}
 use Rattle.psm_exprcode.specs.declared.operand.Operand.{Operand}
 use Rattle.psm_exprcode.specs.declared.operand.Next.{Next}
-use Rattle.psm_exprcode.specs.declared.operand.Next.TheVariants.{Ahead, Jump}
+use Rattle.psm_exprcode.specs.declared.operand.Next.TheVariants.{FallThrough, Jump}
 use Rattle.psm_exprcode.specs.Applied.{Applied, Went, Raised, Stuck, applied}
-use Rattle.psm_exprcode.specs.Evaluated.{Outcome, place_after, goes_on, ended, ran, evaluated, TypeChecks, Evaluates}
+use Rattle.psm_exprcode.specs.Evaluated.{Outcome, line_after, goes_on, ended, ran, evaluated, TypeChecks, Evaluates}
 use Rattle.psm_exprcode.specs.Fits.{Fits, Refuses}
 use Rattle.psm_exprcode.specs.Kinds.{is_letter, is_value, some_value, some_letter, is_of, have}
 use Rattle.psm_exprcode.specs.Operations.{Effect, effect}
@@ -27,7 +27,7 @@ use Rattle.psm_exprcode.proofs.Standing.{Leads}
 use Rattle.psm_exprcode.proofs.Stepping.{names, of_kind-names, op_leads, op_fits}
 use Rattle.psm_exprcode.proofs.Stripping.{is_letter-same, left_of-some}
 
--- ---- places
+-- ---- indexes
 
 -- whether the operands are those that a line states, or one of the letter at the end
 abbrev pub landed : Letter → Option Line → Bool → List Operand → Bool
@@ -52,9 +52,9 @@ stated_landed end None false s os h d = absurd (cc)
 lands_stands : (end : Letter) (lines : List Line) (distance : ℕ) (s : List Letter) (os : List Operand) → lands end lines distance s ≡ true → have s os ≡ true → stands end lines distance os ≡ true
 lands_stands end lines distance s os h d = stated_landed end (slice_get lines distance) (nat_eq distance (length lines)) s os h d
 
--- the operands are those of the place to which an operation at a place goes on
+-- the operands are those of the index to which an operation at an index goes on
 abbrev pub Lands : Letter → ℕ → List Line → Next → List Operand → Type 0
-Lands end at after next os = (suc at ≤ place_after at next) × (stands end after (place_after at next - suc at) os ≡ true)
+Lands end at after next os = (suc at ≤ line_after at next) × (stands end after (line_after at next - suc at) os ≡ true)
 
 -- ---- one line
 
@@ -109,7 +109,7 @@ successor_of may end at l after h =
     }
 
 lands_fall_through : (end : Letter) (at : ℕ) (puts : Option (List Letter)) (branching : Option (ℕ × List Letter)) (rest : List Letter) (after : List Line) (os : List Operand) → falls_through end puts rest after ≡ true
-    → Leads puts branching rest (Went Ahead os) → Lands end at after Ahead os
+    → Leads puts branching rest (Went FallThrough os) → Lands end at after FallThrough os
 lands_fall_through end at None branching rest after os h d = absurd d
 lands_fall_through end at (Some puts) branching rest after os h d =
     let z : 0 ≡ suc at - suc at = omega arith in
@@ -123,21 +123,21 @@ lands_branch end at p puts (Some jump) rest after os h d =
     (omega (arith, d.0, fall_through), ap (λ q. stands end after (q - suc at) os) d.0 ∙ lands_stands end after (jump.0 - suc at) (jump.1 ++ rest) os (and_second (nat_lt at jump.0) (lands end after (jump.0 - suc at) (jump.1 ++ rest)) h) d.1)
 
 -- an operation goes on as P says, or raises a condition
-abbrev pub Goes : (Next → List Operand → Type 0) → Applied → Type 0
-Goes P (Went next os) = P next os
-Goes P (Raised state) = Unit {0}
-Goes P Stuck = ⊥
+abbrev pub StepsTo : (Next → List Operand → Type 0) → Applied → Type 0
+StepsTo P (Went next os) = P next os
+StepsTo P (Raised state) = Unit {0}
+StepsTo P Stuck = ⊥
 
 leads_goes : (end : Letter) (at : ℕ) (puts : Option (List Letter)) (branching : Option (ℕ × List Letter)) (rest : List Letter) (after : List Line) (a : Applied) → falls_through end puts rest after ≡ true
-    → branches end at branching rest after ≡ true → Leads puts branching rest a → Goes (Lands end at after) a
-leads_goes end at puts branching rest after (Went Ahead os) h g d = lands_fall_through end at puts branching rest after os h d
+    → branches end at branching rest after ≡ true → Leads puts branching rest a → StepsTo (Lands end at after) a
+leads_goes end at puts branching rest after (Went FallThrough os) h g d = lands_fall_through end at puts branching rest after os h d
 leads_goes end at puts branching rest after (Went (Jump p) os) h g d = lands_branch end at p puts branching rest after os g d
 leads_goes end at puts branching rest after (Raised state) h g d = tt
 leads_goes end at puts branching rest after Stuck h g d = absurd d
 
 -- ---- lines
 
--- from the place of a line on, lines that are right, and operands of the place pc
+-- from the index of a line on, lines that are right, and operands of the index pc
 pub record Runs (row vars : List Datum) (end : Letter) (at pc : ℕ) (lines : List Line) (os : List Operand) : Type 0 where
   pub may : Op → Letter → Bool
   pub known : (o : Op) (k : Letter) → may o k ≡ true → names row vars o k ≡ true
@@ -155,7 +155,7 @@ line_successor : (row vars : List Datum) (end : Letter) (at pc : ℕ) (l : Line)
 line_successor row vars end at pc l after os h = successor_of h.may end at l after (and_first (is_line h.may end at l after) (are_lines h.may end (suc at) after) h.right)
 
 line_leads : (row vars : List Datum) (end : Letter) (at pc : ℕ) (l : Line) (after : List Line) (os : List Operand) → Runs row vars end at pc (l ∷ after) os → at ≡ pc
-    → Goes (Lands end at after) (applied l.op os row vars)
+    → StepsTo (Lands end at after) (applied l.op os row vars)
 line_leads row vars end at pc l after os h e =
     let w = line_successor row vars end at pc l after os h in
     leads_goes end at (effect l.op w.kind w.other).fall_through (effect l.op w.kind w.other).branching w.rest after (applied l.op os row vars) w.fall_through w.branching
@@ -166,9 +166,9 @@ line_fits row vars end at pc l after os h e =
     let w = line_successor row vars end at pc l after os h in
     op_fits l.op w.kind w.other w.rest os row vars w.is_kind w.bounds (h.known l.op w.kind w.allowed) (ap (λ s. have s os) (sym w.below) ∙ line_here row vars end at pc l after os h e)
 
--- the operands of the place to which the line goes on
+-- the operands of the index to which the line goes on
 line_next : (row vars : List Datum) (end : Letter) (at pc : ℕ) (l : Line) (after : List Line) (os us : List Operand) (next : Next) → Runs row vars end at pc (l ∷ after) os → Lands end at after next us
-    → Runs row vars end (suc at) (place_after at next) after us
+    → Runs row vars end (suc at) (line_after at next) after us
 line_next row vars end at pc l after os us next h g = record {
   may = h.may;
   known = h.known;
@@ -178,9 +178,9 @@ line_next row vars end at pc l after os us next h g = record {
 }
 
 line_goes : (row vars : List Datum) (end : Letter) (at pc : ℕ) (l : Line) (after : List Line) (os us : List Operand) (next : Next) → Runs row vars end at pc (l ∷ after) os → at ≡ pc
-    → applied l.op os row vars ≡ Went next us → Runs row vars end (suc at) (place_after at next) after us
+    → applied l.op os row vars ≡ Went next us → Runs row vars end (suc at) (line_after at next) after us
 line_goes row vars end at pc l after os us next h e g =
-    let F : Applied → Type 0 = λ a. Goes (Lands end at after) a in
+    let F : Applied → Type 0 = λ a. StepsTo (Lands end at after) a in
     line_next row vars end at pc l after os us next h (subst F g (line_leads row vars end at pc l after os h e))
 
 eq-suc : (m n : ℕ) (b : Bool) → nat_eq m n ≡ b → nat_eq (suc m) (suc n) ≡ b
@@ -224,52 +224,52 @@ lines_begin lines row vars end s = record {
 -- ---- the whole run
 
 -- an operand of the letter at the end, or a condition
-abbrev pub IsDue : Letter → Outcome → Type 0
-IsDue end None = ⊥
-IsDue end (Some (Ok o)) = is_of end o ≡ true
-IsDue end (Some (Err state)) = Unit {0}
+abbrev pub IsExpected : Letter → Outcome → Type 0
+IsExpected end None = ⊥
+IsExpected end (Some (Ok o)) = is_of end o ≡ true
+IsExpected end (Some (Err state)) = Unit {0}
 
-goes_due : (row vars : List Datum) (end : Letter) (at : ℕ) (after : List Line) (a : Applied) → ((next : Next) (os : List Operand) → Lands end at after next os → IsDue end (ran row vars (suc at) (place_after at next) after os))
-    → Goes (Lands end at after) a → IsDue end (goes_on a (λ next. ran row vars (suc at) (place_after at next) after))
-goes_due row vars end at after (Went next os) f h = f next os h
-goes_due row vars end at after (Raised state) f h = tt
-goes_due row vars end at after Stuck f h = absurd h
+goes_expected : (row vars : List Datum) (end : Letter) (at : ℕ) (after : List Line) (a : Applied) → ((next : Next) (os : List Operand) → Lands end at after next os → IsExpected end (ran row vars (suc at) (line_after at next) after os))
+    → StepsTo (Lands end at after) a → IsExpected end (goes_on a (λ next. ran row vars (suc at) (line_after at next) after))
+goes_expected row vars end at after (Went next os) f h = f next os h
+goes_expected row vars end at after (Raised state) f h = tt
+goes_expected row vars end at after Stuck f h = absurd h
 
 runs_by : (row vars : List Datum) (end : Letter) (at pc : ℕ) (l : Line) (after : List Line) (os : List Operand) (b : Bool) → nat_eq at pc ≡ b → Runs row vars end at pc (l ∷ after) os
-    → ((next : Next) (us : List Operand) → Runs row vars end (suc at) (place_after at next) after us → IsDue end (ran row vars (suc at) (place_after at next) after us))
-    → (Runs row vars end (suc at) pc after os → IsDue end (ran row vars (suc at) pc after os))
-    → IsDue end (if b then goes_on (applied l.op os row vars) (λ next. ran row vars (suc at) (place_after at next) after) else ran row vars (suc at) pc after os)
+    → ((next : Next) (us : List Operand) → Runs row vars end (suc at) (line_after at next) after us → IsExpected end (ran row vars (suc at) (line_after at next) after us))
+    → (Runs row vars end (suc at) pc after os → IsExpected end (ran row vars (suc at) pc after os))
+    → IsExpected end (if b then goes_on (applied l.op os row vars) (λ next. ran row vars (suc at) (line_after at next) after) else ran row vars (suc at) pc after os)
 runs_by row vars end at pc l after os true e h on passed =
-    goes_due row vars end at after (applied l.op os row vars) (λ next us g. on next us (line_next row vars end at pc l after os us next h g)) (line_leads row vars end at pc l after os h (eqb-true at pc e))
+    goes_expected row vars end at after (applied l.op os row vars) (λ next us g. on next us (line_next row vars end at pc l after os us next h g)) (line_leads row vars end at pc l after os h (eqb-true at pc e))
 runs_by row vars end at pc l after os false e h on passed = passed (line_passed row vars end at pc l after os h (λ q. let r = eq-eqb at pc q in cc))
 
-runs_due : (row vars : List Datum) (end : Letter) (at pc : ℕ) (lines : List Line) (os : List Operand) → Runs row vars end at pc lines os → IsDue end (ran row vars at pc lines os)
-runs_due row vars end at pc [] os h =
+runs_expected : (row vars : List Datum) (end : Letter) (at pc : ℕ) (lines : List Line) (os : List Operand) → Runs row vars end at pc lines os → IsExpected end (ran row vars at pc lines os)
+runs_expected row vars end at pc [] os h =
     let r = lines_end row vars end at pc os h in
-    let F : List Operand → Type 0 = λ u. IsDue end (ended u) in
+    let F : List Operand → Type 0 = λ u. IsExpected end (ended u) in
     subst F (sym r.1) r.2
-runs_due row vars end at pc (l ∷ after) os h =
-    runs_by row vars end at pc l after os (nat_eq at pc) refl h (λ next us k. runs_due row vars end (suc at) (place_after at next) after us k) (λ k. runs_due row vars end (suc at) pc after os k)
+runs_expected row vars end at pc (l ∷ after) os h =
+    runs_by row vars end at pc l after os (nat_eq at pc) refl h (λ next us k. runs_expected row vars end (suc at) (line_after at next) after us k) (λ k. runs_expected row vars end (suc at) pc after os k)
 
-evaluated_due : (lines : List Line) (row vars : List Datum) (end : Letter) → TypeChecks lines row vars end → IsDue end (evaluated lines row vars)
-evaluated_due lines row vars end s = runs_due row vars end 0 0 lines [] (lines_begin lines row vars end s)
+evaluated_expected : (lines : List Line) (row vars : List Datum) (end : Letter) → TypeChecks lines row vars end → IsExpected end (evaluated lines row vars)
+evaluated_expected lines row vars end s = runs_expected row vars end 0 0 lines [] (lines_begin lines row vars end s)
 
-due_some : (end : Letter) (r : Outcome) → IsDue end r → IsSome r
-due_some end None h = absurd h
-due_some end (Some r) h = refl
+expected_some : (end : Letter) (r : Outcome) → IsExpected end r → IsSome r
+expected_some end None h = absurd h
+expected_some end (Some r) h = refl
 
-due_letter : (end : Letter) (r : Outcome) (o : Operand) → IsDue end r → r ≡ Some (Ok o) → is_of end o ≡ true
-due_letter end r o h e = let F : Outcome → Type 0 = λ q. IsDue end q in subst F e h
+expected_letter : (end : Letter) (r : Outcome) (o : Operand) → IsExpected end r → r ≡ Some (Ok o) → is_of end o ≡ true
+expected_letter end r o h e = let F : Outcome → Type 0 = λ q. IsExpected end q in subst F e h
 
 -- code that type-checks over the values is never stuck
 pub evaluated_some : (lines : List Line) (row vars : List Datum) (end : Letter) → TypeChecks lines row vars end → IsSome (evaluated lines row vars)
-evaluated_some lines row vars end s = due_some end (evaluated lines row vars) (evaluated_due lines row vars end s)
+evaluated_some lines row vars end s = expected_some end (evaluated lines row vars) (evaluated_expected lines row vars end s)
 
 -- its operand is of the letter with which it ends
 pub evaluated_letter : (lines : List Line) (row vars : List Datum) (end : Letter) (o : Operand) → TypeChecks lines row vars end → evaluated lines row vars ≡ Some (Ok o) → is_of end o ≡ true
-evaluated_letter lines row vars end o s e = due_letter end (evaluated lines row vars) o (evaluated_due lines row vars end s) e
+evaluated_letter lines row vars end o s e = expected_letter end (evaluated lines row vars) o (evaluated_expected lines row vars end s) e
 
--- an answer that is the one due has an operand of the letter, if any
+-- an answer that is the one expected has an operand of the letter, if any
 pub evaluates_letter : (lines : List Line) (row vars : List Datum) (end : Letter) (r : Result Operand ValueFault) → TypeChecks lines row vars end → Evaluates (evaluated lines row vars) r
     → IfOk r (λ o. IsTrue (is_of end o))
 evaluates_letter lines row vars end (Ok o) s e = evaluated_letter lines row vars end o s e
@@ -297,39 +297,39 @@ runs_first row vars lines at pc l os h e g =
     let F : List Line → Type 0 = λ ls. Runs row vars g.end at pc ls os in subst F (line_first lines at l h e) g.runs
 
 ran_first : (row vars : List Datum) (lines : List Line) (at pc : ℕ) (l : Line) (os : List Operand) (b : Bool) → at < length lines → l ≡ get_or lines at l → Going row vars lines at pc os → nat_eq at pc ≡ b
-    → (if b then goes_on (applied l.op os row vars) (λ next. ran row vars (suc at) (place_after at next) (drop (suc at) lines)) else ran row vars (suc at) pc (drop (suc at) lines) os) ≡ evaluated lines row vars
+    → (if b then goes_on (applied l.op os row vars) (λ next. ran row vars (suc at) (line_after at next) (drop (suc at) lines)) else ran row vars (suc at) pc (drop (suc at) lines) os) ≡ evaluated lines row vars
 ran_first row vars lines at pc l os b h e g q =
-    sym (ap (λ c. if c then goes_on (applied l.op os row vars) (λ next. ran row vars (suc at) (place_after at next) (drop (suc at) lines)) else ran row vars (suc at) pc (drop (suc at) lines) os) q)
+    sym (ap (λ c. if c then goes_on (applied l.op os row vars) (λ next. ran row vars (suc at) (line_after at next) (drop (suc at) lines)) else ran row vars (suc at) pc (drop (suc at) lines) os) q)
     ∙ sym (ap (λ ls. ran row vars at pc ls os) (line_first lines at l h e)) ∙ g.so_far
 
 fits_at : (row vars : List Datum) (lines : List Line) (at pc : ℕ) (l : Line) (os : List Operand) → at < length lines → l ≡ get_or lines at l → Going row vars lines at pc os → at ≡ pc
     → Fits l.op os row vars
 fits_at row vars lines at pc l os h e g q = line_fits row vars g.end at pc l (drop (suc at) lines) os (runs_first row vars lines at pc l os h e g) q
 
-next_place : (row vars : List Datum) (lines : List Line) (at pc : ℕ) (os : List Operand) → Going row vars lines (suc at) pc os → Going row vars lines (at + 1) pc os
-next_place row vars lines at pc os g =
+next_index : (row vars : List Datum) (lines : List Line) (at pc : ℕ) (os : List Operand) → Going row vars lines (suc at) pc os → Going row vars lines (at + 1) pc os
+next_index row vars lines at pc os g =
     let n : suc at ≡ at + 1 = omega arith in
     let F : ℕ → Type 0 = λ i. Going row vars lines i pc os in subst F n g
 
 going_on : (row vars : List Datum) (lines : List Line) (at pc there : ℕ) (l : Line) (os us : List Operand) (next : Next) → at < length lines → l ≡ get_or lines at l → Going row vars lines at pc os
-    → at ≡ pc → applied l.op os row vars ≡ Went next us → there ≡ place_after at next → Going row vars lines (at + 1) there us
+    → at ≡ pc → applied l.op os row vars ≡ Went next us → there ≡ line_after at next → Going row vars lines (at + 1) there us
 going_on row vars lines at pc there l os us next h e g q w p =
     let F : ℕ → Type 0 = λ i. Going row vars lines (at + 1) i us in
-    subst F (sym p) (next_place row vars lines at (place_after at next) us (record {
-      so_far = sym (ap (λ a. goes_on a (λ next. ran row vars (suc at) (place_after at next) (drop (suc at) lines))) w) ∙ ran_first row vars lines at pc l os true h e g (eq-eqb at pc q);
+    subst F (sym p) (next_index row vars lines at (line_after at next) us (record {
+      so_far = sym (ap (λ a. goes_on a (λ next. ran row vars (suc at) (line_after at next) (drop (suc at) lines))) w) ∙ ran_first row vars lines at pc l os true h e g (eq-eqb at pc q);
       end = g.end;
       runs = line_goes row vars g.end at pc l (drop (suc at) lines) os us next (runs_first row vars lines at pc l os h e g) q w;
     }))
 
 going_past : (row vars : List Datum) (lines : List Line) (at pc : ℕ) (l : Line) (os : List Operand) → at < length lines → l ≡ get_or lines at l → Going row vars lines at pc os
     → (at ≡ pc → ⊥) → Going row vars lines (at + 1) pc os
-going_past row vars lines at pc l os h e g q = next_place row vars lines at pc os (record {
+going_past row vars lines at pc l os h e g q = next_index row vars lines at pc os (record {
   so_far = ran_first row vars lines at pc l os false h e g (ne_eqb at pc q);
   end = g.end;
   runs = line_passed row vars g.end at pc l (drop (suc at) lines) os (runs_first row vars lines at pc l os h e g) q;
 })
 
--- ---- the operation of a line, found by its place
+-- ---- the operation of a line, found by its index
 
 none_past : (lines : List Line) (at : ℕ) → slice_get lines at ≡ None → length lines ≤ at
 none_past [] at h = omega arith
@@ -353,7 +353,7 @@ op_none lines at e = by (slice_get lines at) refl e where
   by None g h = g
   by (Some l) g h = absurd (cc)
 
--- a place after a line's is that of a line, or the end
+-- an index after a line's is that of a line, or the end
 reaches : (end : Letter) (lines : List Line) (d : ℕ) (os : List Operand) → stands end lines (suc d) os ≡ true → 0 < length lines
 reaches end [] d os h =
     let far : nat_eq (suc d) 0 ≡ false = ne_eqb (suc d) 0 (λ q. omega (arith, q)) in
@@ -391,7 +391,7 @@ pub record Gone (row vars : List Datum) (lines : List Line) (at there : ℕ) (os
   pub later : length lines - there < length lines - at
 
 pub going_op : (row vars : List Datum) (lines : List Line) (at there : ℕ) (o : Op) (os us : List Operand) (next : Next) → option_map (λ l. l.op) (slice_get lines at) ≡ Some o → Going row vars lines at at os
-    → applied o os row vars ≡ Went next us → there ≡ place_after at next → Gone row vars lines at there us
+    → applied o os row vars ≡ Went next us → there ≡ line_after at next → Gone row vars lines at there us
 going_op row vars lines at there o os us next e g w p =
     let f = op_found lines at o e in
     let within : at < length lines = slice_get_within lines at f.line f.there in
@@ -426,7 +426,7 @@ refused_op row vars lines at o os (Condition state) e g h =
     let f = op_found lines at o e in
     let within : at < length lines = slice_get_within lines at f.line f.there in
     let first = ran_first row vars lines at at f.line os true within (sym (get_or_from_slice_get lines at f.line f.line f.there)) g (eq-eqb at at refl) in
-    sym first ∙ ap (λ a. goes_on a (λ next. ran row vars (suc at) (place_after at next) (drop (suc at) lines))) (ap (λ q. applied q os row vars) f.op ∙ h)
+    sym first ∙ ap (λ a. goes_on a (λ next. ran row vars (suc at) (line_after at next) (drop (suc at) lines))) (ap (λ q. applied q os row vars) f.op ∙ h)
 refused_op row vars lines at o os Memory e g h = tt
 
 -- the operand that is taken off then is the one to which the code comes

@@ -185,7 +185,7 @@ lines_kept old new (l ∷ lines) h k =
 pub letters_stated : (stacks : List (List Letter)) (l : NumberedLine) → reverse (line_of stacks l).stack ≡ stack_at stacks l.stack
 letters_stated stacks l = reverse-reverse (stack_at stacks l.stack)
 
--- the letters that the line at a place states
+-- the letters that the line at an index states
 pub stated_some : (stacks : List (List Letter)) (lines : List NumberedLine) (at : ℕ) (l : NumberedLine) → slice_get lines at ≡ Some l
     → Some (stack_at stacks l.stack) ≡ option_map (λ l. reverse l.stack) (slice_get (lines_of stacks lines) at)
 stated_some stacks lines at l e =
@@ -195,11 +195,11 @@ pub stated_none : (stacks : List (List Letter)) (lines : List NumberedLine) (at 
 stated_none stacks lines at e =
     sym (ap (λ o. option_map (λ l. reverse l.stack) (option_map (line_of stacks) o)) e) ∙ ap (option_map (λ l. reverse l.stack)) (sym (slice_get-map (line_of stacks) lines at))
 
--- lines after a place
+-- lines after an index
 pub lines_after : (stacks : List (List Letter)) (lines : List NumberedLine) (at : ℕ) → lines_of stacks (drop at lines) ≡ drop at (lines_of stacks lines)
 lines_after stacks lines at = sym (drop-map (line_of stacks) at lines)
 
--- the line at a place and those after it
+-- the line at an index and those after it
 pub lines_from : (stacks : List (List Letter)) (lines : List NumberedLine) (at : ℕ) (l : NumberedLine) → at < length lines → l ≡ get_or lines at l
     → drop at (lines_of stacks lines) ≡ line_of stacks l ∷ drop (at + 1) (lines_of stacks lines)
 lines_from stacks lines at l h e =

@@ -9,7 +9,7 @@ use Rattle.psm_exprcode.specs.declared.op.Letter.{Letter}
 use Rattle.psm_exprcode.specs.declared.op.Letter.TheVariants.{N, T, B}
 use Rattle.psm_exprcode.specs.declared.operand.Operand.{Operand}
 use Rattle.psm_exprcode.specs.declared.operand.Operand.TheVariants.{Value, Truth}
-use Rattle.psm_exprcode.specs.declared.operand.Next.TheVariants.{Ahead, Jump}
+use Rattle.psm_exprcode.specs.declared.operand.Next.TheVariants.{FallThrough, Jump}
 use Rattle.psm_exprcode.specs.Applied.{Applied, Went, Raised, Stuck, with_value, with_truth, with_named, on_value, on_two, on_three, on_truth, on_many}
 use Rattle.psm_exprcode.specs.Fits.{are_values, are_truths}
 use Rattle.psm_exprcode.specs.Kinds.{is_value, has_letter, is_of, have}
@@ -34,7 +34,7 @@ IsAway (Some jump) p rest os = (p ≡ jump.0) × (have (jump.1 ++ rest) os ≡ t
 
 -- an operation goes on with the operands that the table says on those below, or raises a condition
 abbrev pub Leads : Option (List Letter) → Option (ℕ × List Letter) → List Letter → Applied → Type 0
-Leads fall_through branching rest (Went Ahead os) = IsAhead fall_through rest os
+Leads fall_through branching rest (Went FallThrough os) = IsAhead fall_through rest os
 Leads fall_through branching rest (Went (Jump p) os) = IsAway branching p rest os
 Leads fall_through branching rest (Raised state) = Unit {0}
 Leads fall_through branching rest Stuck = ⊥

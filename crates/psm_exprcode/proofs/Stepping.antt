@@ -18,7 +18,7 @@ use Rattle.psm_exprcode.specs.declared.op.Op.{Op}
 use Rattle.psm_exprcode.specs.declared.op.Op.TheVariants as op
 use Rattle.psm_exprcode.specs.declared.operand.Operand.{Operand}
 use Rattle.psm_exprcode.specs.declared.operand.Operand.TheVariants.{Value}
-use Rattle.psm_exprcode.specs.declared.operand.Next.TheVariants.{Ahead}
+use Rattle.psm_exprcode.specs.declared.operand.Next.TheVariants.{FallThrough}
 use Rattle.psm_exprcode.specs.Applied.{Went, with_value, with_truth, on_value, on_two, on_truth, on_many, nipped, set_at, unless_true, applied}
 use Rattle.psm_exprcode.specs.Comparison.{truth_of, tested, between, among, unless_equal, is_null}
 use Rattle.psm_exprcode.specs.Fits.{are_values, is_over_value, finds, IsNamed, IsWithin, Fits}
@@ -93,7 +93,7 @@ combines rest os f h =
 nips : (k x : Letter) (rest : List Letter) (os : List Operand) → is_value k ≡ true → have (x ∷ k ∷ rest) os ≡ true → Leads (Some (x ∷ [])) None rest (nipped os)
 nips k x rest [] v h = absurd (cc)
 nips k x rest (o ∷ os) v h =
-    on_value-leads (Leads (Some (x ∷ [])) None rest) k rest os (λ a below. Went Ahead (o ∷ below)) v (and_second (is_of x o) (have (k ∷ rest) os) h) (λ a below ha i.
+    on_value-leads (Leads (Some (x ∷ [])) None rest) k rest os (λ a below. Went FallThrough (o ∷ below)) v (and_second (is_of x o) (have (k ∷ rest) os) h) (λ a below ha i.
     both_true (is_of x o) (have rest below) (and_first (is_of x o) (have (k ∷ rest) os) h) i)
 
 finds_among : (n : ℕ) (k : Letter) (rest : List Letter) (os : List Operand) → is_value k ≡ true → have ((replicate n k ++ k ∷ []) ++ rest) os ≡ true
@@ -122,9 +122,9 @@ op_leads (op.Constant l d) k x rest os row vars v b n h = both_true (has_letter 
 op_leads (op.Variable i) k x rest os row vars v b n h = named_puts k rest os (slice_get vars i) n h
 op_leads (op.Column i) k x rest os row vars v b n h = named_puts k rest os (slice_get row i) n h
 op_leads op.Duplicate k x rest os row vars v b n h =
-    on_value-leads (Leads (Some (k ∷ k ∷ [])) None rest) k rest os (λ a below. Went Ahead (Value a ∷ Value a ∷ below)) v h (λ a below ha i.
+    on_value-leads (Leads (Some (k ∷ k ∷ [])) None rest) k rest os (λ a below. Went FallThrough (Value a ∷ Value a ∷ below)) v h (λ a below ha i.
     both_true (has_letter k a) (has_letter k a && have rest below) ha (both_true (has_letter k a) (have rest below) ha i))
-op_leads op.Drop k x rest os row vars v b n h = on_value-leads (Leads (Some []) None rest) k rest os (λ a below. Went Ahead below) v h (λ a below ha i. i)
+op_leads op.Drop k x rest os row vars v b n h = on_value-leads (Leads (Some []) None rest) k rest os (λ a below. Went FallThrough below) v h (λ a below ha i. i)
 op_leads op.DropBelow k x rest os row vars v b n h = nips k x rest os v h
 op_leads op.Negate k x rest os row vars v b n h = changes N N rest os (λ a. Ok (negated_of a)) refl negated-gives h
 op_leads op.Add k x rest os row vars v b n h = calculates rest os sum_of sum-gives h

@@ -30,14 +30,14 @@ last_of : (xs : List ℕ) (c : ℕ) → slice_get (xs ++ c ∷ []) (length xs) �
 last_of [] c = refl
 last_of (x ∷ xs) c = last_of xs c
 
-last_place : (q : List ℕ) (c : ℕ) → length (q ++ c ∷ []) - 1 ≡ length q
-last_place q c = omega (arith, length-append q (c ∷ []))
+last_index : (q : List ℕ) (c : ℕ) → length (q ++ c ∷ []) - 1 ≡ length q
+last_index q c = omega (arith, length-append q (c ∷ []))
 
 begins_turned : (q : List ℕ) → slice_get (reverse q) (length (reverse q) - 1) ≢ Some blank → slice_get q 0 ≢ Some blank
 begins_turned [] h = h
 begins_turned (c ∷ q) h = λ e. h (ends (reverse (c ∷ q)) (reverse-append (c ∷ []) q) e) where
   ends : (u : List ℕ) → u ≡ reverse q ++ c ∷ [] → Some c ≡ Some blank → slice_get u (length u - 1) ≡ Some blank
-  ends u p e = ap (λ v. slice_get v (length v - 1)) p ∙ ap (λ i. slice_get (reverse q ++ c ∷ []) i) (last_place (reverse q) c) ∙ last_of (reverse q) c ∙ e
+  ends u p e = ap (λ v. slice_get v (length v - 1)) p ∙ ap (λ i. slice_get (reverse q ++ c ∷ []) i) (last_index (reverse q) c) ∙ last_of (reverse q) c ∙ e
 
 end_is : (t r : List ℕ) → TrimmedEnd t r → r ≡ reverse (without_front (reverse t))
 end_is t r h =

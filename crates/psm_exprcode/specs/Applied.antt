@@ -13,12 +13,12 @@ use Rattle.psm_exprcode.specs.declared.op.Op.TheVariants as op
 use Rattle.psm_exprcode.specs.declared.operand.Operand.{Operand}
 use Rattle.psm_exprcode.specs.declared.operand.Operand.TheVariants.{Value, Truth}
 use Rattle.psm_exprcode.specs.declared.operand.Next.{Next}
-use Rattle.psm_exprcode.specs.declared.operand.Next.TheVariants.{Ahead, Jump}
+use Rattle.psm_exprcode.specs.declared.operand.Next.TheVariants.{FallThrough, Jump}
 use Rattle.psm_exprcode.specs.Comparison.{truth_of, tested, between, among, unless_equal, is_null}
 use Rattle.psm_exprcode.specs.Texts.{trim_of}
 use Rattle.psm_exprcode.specs.Values.{rescaled, concatenated, length_of, position_of, part_from, part_of, on_text, like, like_escaped}
 
--- an operation goes on with these operands, raises the condition of an SQLSTATE, or lacks an operand or a value
+-- an operation goes on with these operands, raises the condition of an SQLSTATE, or is stuck without an operand or a value
 pub data Applied : Type 0 where
   Went : Next → List Operand → Applied
   Raised : List ℕ → Applied
@@ -27,16 +27,16 @@ pub data Applied : Type 0 where
 -- ---- what is put on the operands below
 
 abbrev pub with_value : List Operand → Result Datum (List ℕ) → Applied
-with_value below (Ok d) = Went Ahead (Value d ∷ below)
+with_value below (Ok d) = Went FallThrough (Value d ∷ below)
 with_value below (Err state) = Raised state
 
 abbrev pub with_truth : List Operand → Result Answer (List ℕ) → Applied
-with_truth below (Ok t) = Went Ahead (Truth t ∷ below)
+with_truth below (Ok t) = Went FallThrough (Truth t ∷ below)
 with_truth below (Err state) = Raised state
 
 -- a slot's or a column's value
 abbrev pub with_named : List Operand → Option Datum → Applied
-with_named below (Some d) = Went Ahead (Value d ∷ below)
+with_named below (Some d) = Went FallThrough (Value d ∷ below)
 with_named below None = Stuck
 
 -- ---- what is taken: values, the first of them the lowest, or truth values
@@ -84,23 +84,23 @@ combines f os = on_truth (λ b. on_truth (λ a below. with_truth below (Ok (f a 
 -- the operand below the last one is taken
 abbrev pub nipped : List Operand → Applied
 nipped [] = Stuck
-nipped (x ∷ os) = on_value (λ a below. Went Ahead (x ∷ below)) os
+nipped (x ∷ os) = on_value (λ a below. Went FallThrough (x ∷ below)) os
 
 -- a value that isn't null stands at the line p still; null is taken
 abbrev pub set_at : ℕ → Datum → List Operand → Applied
-set_at p a below = if is_null a then Went Ahead below else Went (Jump p) (Value a ∷ below)
+set_at p a below = if is_null a then Went FallThrough below else Went (Jump p) (Value a ∷ below)
 
 -- ahead where the test is true, and else at the line p
 abbrev pub unless_true : ℕ → Answer → List Operand → Applied
-unless_true p t below = if is_certain t then Went Ahead below else Went (Jump p) below
+unless_true p t below = if is_certain t then Went FallThrough below else Went (Jump p) below
 
 -- what the operation evaluates to over the operands, the columns and the variables
 abbrev pub applied : Op → List Operand → List Datum → List Datum → Applied
-applied (op.Constant k d) os row vars = Went Ahead (Value d ∷ os)
+applied (op.Constant k d) os row vars = Went FallThrough (Value d ∷ os)
 applied (op.Variable i) os row vars = with_named os (slice_get vars i)
 applied (op.Column i) os row vars = with_named os (slice_get row i)
-applied op.Duplicate os row vars = on_value (λ a below. Went Ahead (Value a ∷ Value a ∷ below)) os
-applied op.Drop os row vars = on_value (λ a below. Went Ahead below) os
+applied op.Duplicate os row vars = on_value (λ a below. Went FallThrough (Value a ∷ Value a ∷ below)) os
+applied op.Drop os row vars = on_value (λ a below. Went FallThrough below) os
 applied op.DropBelow os row vars = nipped os
 applied op.Negate os row vars = value_of_one negated_of os
 applied op.Add os row vars = value_of_two sum_of os
@@ -112,7 +112,7 @@ applied op.Concatenate os row vars = value_of_two concatenated os
 applied op.CharacterLength os row vars = value_of_one length_of os
 applied op.Position os row vars = value_of_two (λ part t. Ok (position_of part t)) os
 applied op.SubstringFrom os row vars = value_of_two part_from os
-applied op.SubstringFromFor os row vars = on_three (λ t place count below. with_value below (part_of t place count)) os
+applied op.SubstringFromFor os row vars = on_three (λ t position count below. with_value below (part_of t position count)) os
 applied (op.Trim side) os row vars = value_of_one (on_text (trim_of side)) os
 applied op.Upper os row vars = value_of_one (on_text upper_of) os
 applied op.Lower os row vars = value_of_one (on_text lower_of) os

@@ -7,7 +7,7 @@ use Rattle.psm_exprcode.specs.declared.op.Line.{Line}
 use Rattle.psm_exprcode.specs.declared.op.Letter.{Letter}
 use Rattle.psm_exprcode.specs.declared.operand.Operand.{Operand}
 use Rattle.psm_exprcode.specs.declared.operand.Next.{Next}
-use Rattle.psm_exprcode.specs.declared.operand.Next.TheVariants.{Ahead, Jump}
+use Rattle.psm_exprcode.specs.declared.operand.Next.TheVariants.{FallThrough, Jump}
 use Rattle.psm_exprcode.specs.Applied.{Applied, Went, Raised, Stuck, applied}
 use Rattle.psm_exprcode.specs.Kinds.{are_of}
 use Rattle.psm_exprcode.specs.WellFormed.{does_fit}
@@ -16,10 +16,10 @@ use Rattle.psm_exprcode.specs.WellFormed.{does_fit}
 abbrev pub Outcome : Type 0
 Outcome = Option (Result Operand (List ℕ))
 
--- the place after a line's
-abbrev pub place_after : ℕ → Next → ℕ
-place_after at Ahead = suc at
-place_after at (Jump p) = p
+-- the index after a line's
+abbrev pub line_after : ℕ → Next → ℕ
+line_after at FallThrough = suc at
+line_after at (Jump p) = p
 
 abbrev pub goes_on : Applied → (Next → List Operand → Outcome) → Outcome
 goes_on (Went next os) go = go next os
@@ -32,11 +32,11 @@ ended [] = None
 ended (o ∷ []) = Some (Ok o)
 ended (o ∷ p ∷ os) = None
 
--- the lines from a place on, where the one at pc is the next: those before it are passed over
+-- the lines from an index on, where the one at pc is the next: those before it are passed over
 abbrev pub ran : List Datum → List Datum → ℕ → ℕ → List Line → List Operand → Outcome
 ran row vars at pc [] os = ended os
 ran row vars at pc (l ∷ after) os =
-    if nat_eq at pc then goes_on (applied l.op os row vars) (λ next. ran row vars (suc at) (place_after at next) after)
+    if nat_eq at pc then goes_on (applied l.op os row vars) (λ next. ran row vars (suc at) (line_after at next) after)
     else ran row vars (suc at) pc after os
 
 -- the value of the expression over the columns and the variables
@@ -51,8 +51,8 @@ pub record TypeChecks (lines : List Line) (row vars : List Datum) (end : Letter)
   pub row_kinds : IsTrue (are_of columns row)
   pub variable_kinds : IsTrue (are_of variables vars)
 
--- the answer is the one that is due, unless memory runs out
+-- the answer is the one that is expected, unless memory runs out
 abbrev pub Evaluates : Outcome → Result Operand ValueFault → Type 0
-Evaluates due (Ok operand) = due ≡ Some (Ok operand)
-Evaluates due (Err (Condition state)) = due ≡ Some (Err state)
-Evaluates due (Err Memory) = Unit {0}
+Evaluates expected (Ok operand) = expected ≡ Some (Ok operand)
+Evaluates expected (Err (Condition state)) = expected ≡ Some (Err state)
+Evaluates expected (Err Memory) = Unit {0}

@@ -58,17 +58,17 @@ IsWithin o = Unit {0}
 abbrev pub Fits : Op → List Operand → List Datum → List Datum → Type 0
 Fits o os row vars = IsTrue (finds o os) × IsNamed o row vars × IsWithin o
 
--- a refusal is of the condition that is due; memory may always run out
+-- a refusal is of the condition that is expected; memory may always run out
 abbrev pub Refuses : Applied → ValueFault → Type 0
-Refuses due (Condition state) = due ≡ Raised state
-Refuses due Memory = Unit {0}
+Refuses expected (Condition state) = expected ≡ Raised state
+Refuses expected Memory = Unit {0}
 
--- The call goes on as is due and leaves the operands that are due, or it refuses. Then it leaves the old operands
--- below the so many that are taken.
+-- The call goes on as expected and leaves the operands that are expected, or it refuses. Then it leaves the old operands
+-- below the n that are taken.
 abbrev pub Applies : ℕ → List Operand → Applied → Result Next ValueFault → List Operand → Type 0
-Applies n old due (Ok next) new = due ≡ Went next new
-Applies n old due (Err fault) new = Refuses due fault × (new ≡ drop n old)
+Applies n old expected (Ok next) new = expected ≡ Went next new
+Applies n old expected (Err fault) new = Refuses expected fault × (new ≡ drop n old)
 
 -- the same of a call that is given the operands in a vector, with the last one at its end
 abbrev pub Carries : ℕ → (List Operand → Applied) → Vec Operand Global → Result Next ValueFault → Vec Operand Global → Type 0
-Carries n due old result new = Applies n (reverse old.items) (due (reverse old.items)) result (reverse new.items)
+Carries n expected old result new = Applies n (reverse old.items) (expected (reverse old.items)) result (reverse new.items)

@@ -9,14 +9,14 @@ use Rattle.psm_text.specs.declared.parts.Side.TheVariants.{Leading, Trailing, Bo
 use Rattle.psm_text.specs.Like.{Item, Literal, One, Any, items_of, well_formed}
 use Rattle.psm_value.specs.Cast.{without_front, trimmed}
 
--- the first place from the given one on at which the part stands, where the text begins at the given one; else 0
-abbrev pub place_from : ℕ → List ℕ → List ℕ → ℕ
-place_from place part [] = if starts_with nat_eq [] part then place else 0
-place_from place part (c ∷ t) = if starts_with nat_eq (c ∷ t) part then place else place_from (suc place) part t
+-- the first position from the given one on at which the part stands, where the text begins at the given one; else 0
+abbrev pub first_position_from : ℕ → List ℕ → List ℕ → ℕ
+first_position_from position part [] = if starts_with nat_eq [] part then position else 0
+first_position_from position part (c ∷ t) = if starts_with nat_eq (c ∷ t) part then position else first_position_from (suc position) part t
 
--- the first place, from 1, of the part in the text, or 0
-abbrev pub place_of : List ℕ → List ℕ → ℕ
-place_of part t = place_from 1 part t
+-- the first position, from 1, of the part in the text, or 0
+abbrev pub first_position : List ℕ → List ℕ → ℕ
+first_position part t = first_position_from 1 part t
 
 -- the text without the blanks at that side
 abbrev pub trim_of : Side → List ℕ → List ℕ

@@ -13,7 +13,7 @@ use Rattle.psm_value.specs.declared.truth.Truth.TheVariants.{Unknown}
 use Rattle.psm_value.specs.Arithmetic.{as_datum}
 use Rattle.psm_value.specs.TextFaults.{state_of, as_text}
 use Rattle.psm_exprcode.specs.Comparison.{truth_of}
-use Rattle.psm_exprcode.specs.Texts.{place_of, like_of}
+use Rattle.psm_exprcode.specs.Texts.{first_position, like_of}
 
 -- a number of characters as a value
 abbrev pub whole : ℕ → Datum
@@ -39,9 +39,9 @@ length_of Null = Null
 length_of (Num n) = Null
 length_of (Text t) = whole (length t)
 
--- the place of the part in the text
+-- the position of the part in the text
 abbrev pub position_of : Datum → Datum → Datum
-position_of (Text part) (Text t) = whole (place_of part t)
+position_of (Text part) (Text t) = whole (first_position part t)
 position_of (Text part) Null = Null
 position_of (Text part) (Num n) = Null
 position_of Null t = Null
@@ -51,26 +51,26 @@ position_of (Num n) t = Null
 abbrev pub cut_of : num.Num → ℤ
 cut_of n = (at_scale n 0).coef
 
--- SUBSTRING (text FROM place)
+-- SUBSTRING (text FROM position)
 abbrev pub part_from : Datum → Datum → Result Datum (List ℕ)
-part_from (Text t) (Num place) = as_text (substring_of (cut_of place) None t)
+part_from (Text t) (Num position) = as_text (substring_of (cut_of position) None t)
 part_from (Text t) Null = Ok Null
 part_from (Text t) (Text u) = Ok Null
-part_from Null place = Ok Null
-part_from (Num n) place = Ok Null
+part_from Null position = Ok Null
+part_from (Num n) position = Ok Null
 
--- SUBSTRING (text FROM place FOR count): both numbers are cut before the count is tested
+-- SUBSTRING (text FROM position FOR count): both numbers are cut before the count is tested
 abbrev pub part_of_text : List ℕ → Datum → Datum → Result Datum (List ℕ)
-part_of_text t (Num place) (Num count) = as_text (substring_of (cut_of place) (Some (cut_of count)) t)
-part_of_text t (Num place) Null = Ok Null
-part_of_text t (Num place) (Text u) = Ok Null
+part_of_text t (Num position) (Num count) = as_text (substring_of (cut_of position) (Some (cut_of count)) t)
+part_of_text t (Num position) Null = Ok Null
+part_of_text t (Num position) (Text u) = Ok Null
 part_of_text t Null count = Ok Null
 part_of_text t (Text u) count = Ok Null
 
 abbrev pub part_of : Datum → Datum → Datum → Result Datum (List ℕ)
-part_of (Text t) place count = part_of_text t place count
-part_of Null place count = Ok Null
-part_of (Num n) place count = Ok Null
+part_of (Text t) position count = part_of_text t position count
+part_of Null position count = Ok Null
+part_of (Num n) position count = Ok Null
 
 -- a text with a change of its characters
 abbrev pub on_text : (List ℕ → List ℕ) → Datum → Datum

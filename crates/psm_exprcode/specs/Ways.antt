@@ -1,4 +1,4 @@
--- What the check of lines is told of the kinds of columns and variables.
+-- What the check of lines knows of the kinds of columns and variables.
 use Rattle.std.specs.Prelude.{Bool}
 use Rattle.psm_exprcode.specs.declared.checking.Kinds.{Kinds}
 use Rattle.psm_exprcode.specs.declared.checking.Kinds.TheVariants.{Any, Of}

@@ -67,7 +67,7 @@ abbrev pub goes_on_with : Letter → ℕ → Effect → Option (List Letter) →
 goes_on_with end at e None after = false
 goes_on_with end at e (Some rest) after = falls_through end e.fall_through rest after && branches end at e.branching rest after
 
--- an operation at a place finds what it takes among the letters, and brings what is stated wherever it goes on
+-- an operation at an index finds what it takes among the letters, and brings what is stated wherever it goes on
 abbrev pub leads : Letter → ℕ → Effect → List Letter → List Line → Bool
 leads end at e s after = goes_on_with end at e (left_of e.takes s) after
 

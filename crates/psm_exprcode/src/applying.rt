@@ -22,7 +22,7 @@ use std::alloc::Global;
 ///
 /// The operands that the operation takes have to be there, of the letters that the table of operations says,
 /// and so have the column and the variable that it names; its type, scale or constant is within bounds.
-/// A condition comes exactly where it is due. After it, and where memory runs out, the operands below those
+/// A condition comes exactly where it is expected. After it, and where memory runs out, the operands below those
 /// that the operation takes are unchanged, and those are gone (ISO/IEC 9075:1992, clauses 6 and 8).
 #[inline(always)]
 pub fn apply(
@@ -37,8 +37,8 @@ pub fn apply(
 {
     match op {
         Op::Constant(_, value) => put_copy(alloc, operands, value),
-        Op::Variable(place) => put_named(alloc, operands, vars, *place),
-        Op::Column(place) => put_named(alloc, operands, row, *place),
+        Op::Variable(index) => put_named(alloc, operands, vars, *index),
+        Op::Column(index) => put_named(alloc, operands, row, *index),
         Op::Duplicate => duplicate(alloc, operands),
         Op::Drop => Ok(drop_last(operands)),
         Op::DropBelow => nip(operands),
@@ -72,8 +72,8 @@ pub fn apply(
         Op::In(count) => test_among(operands, *count),
         Op::NullIf => null_if(operands),
         Op::Cast(to) => cast_one(alloc, operands, *to),
-        Op::Jump(place) => Ok(Next::Jump(*place)),
-        Op::JumpUnlessTrue(place) => Ok(jump_not(operands, *place)),
-        Op::JumpUnlessNull(place) => Ok(jump_set(operands, *place)),
+        Op::Jump(index) => Ok(Next::Jump(*index)),
+        Op::JumpUnlessTrue(index) => Ok(jump_not(operands, *index)),
+        Op::JumpUnlessNull(index) => Ok(jump_set(operands, *index)),
     }
 }

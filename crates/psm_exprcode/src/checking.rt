@@ -54,7 +54,7 @@ fn are_right(kinds: Kinds<'_>, end: Letter, lines: &NumberedLines<'_>) -> bool
     true
 }
 
-// Whether a line at a place is right, with the lines after it.
+// Whether a line at an index is right, with the lines after it.
 fn is_right(
     kinds: Kinds<'_>,
     end: Letter,
@@ -96,8 +96,8 @@ fn allows(kinds: Kinds<'_>, op: &Op, kind: Letter) -> bool
     match kinds {
         Kinds::Any => true,
         Kinds::Of { columns, variables } => match op {
-            Op::Variable(place) => is_known(kind, variables, *place as usize),
-            Op::Column(place) => is_known(kind, columns, *place as usize),
+            Op::Variable(index) => is_known(kind, variables, *index as usize),
+            Op::Column(index) => is_known(kind, columns, *index as usize),
             _ => true,
         },
     }
@@ -122,7 +122,7 @@ fn is_type(to: SqlType) -> bool
     to.is_within_bounds()
 }
 
-// Whether an operation at a place finds what it takes, and brings what is stated wherever it goes on.
+// Whether an operation at an index finds what it takes, and brings what is stated wherever it goes on.
 fn leads(end: Letter, at: usize, entry: Entry, stack: usize, after: &NumberedLines<'_>) -> bool
     requires { stack < length after.now.stacks.now }
     ensures { result ≡ letters_lead end at (effect_of entry) (stack_at after.now.stacks.now stack) (lines_in after.now) }
@@ -157,25 +157,25 @@ fn branches(
     ensures { result ≡ letters_go_branch end at (option_map jump_of jump) (stack_at after.now.stacks.now rest) (lines_in after.now) }
 {
     match jump {
-        Some((place, puts)) => jumps(end, at, place, puts, rest, after),
+        Some((index, puts)) => jumps(end, at, index, puts, rest, after),
         None => true,
     }
 }
 
-// Whether a place follows, and the letters are those that are stated there.
+// Whether an index follows, and the letters are those that are stated there.
 fn jumps(
     end: Letter,
     at: usize,
-    place: u32,
+    index: u32,
     puts: Letters,
     rest: usize,
     after: &NumberedLines<'_>,
 ) -> bool
     requires { rest < length after.now.stacks.now }
-    ensures { result ≡ (nat_lt at place && letters_land end (lines_in after.now) (place - suc at) (letters_of puts ++ stack_at after.now.stacks.now rest)) }
+    ensures { result ≡ (nat_lt at index && letters_land end (lines_in after.now) (index - suc at) (letters_of puts ++ stack_at after.now.stacks.now rest)) }
 {
-    let place = place as usize;
-    at < place && lands(end, after, place - at - 1, puts, rest)
+    let index = index as usize;
+    at < index && lands(end, after, index - at - 1, puts, rest)
 }
 
 // Whether the letters are those that a line states, n below the first, or the one at the end.

@@ -59,7 +59,7 @@ pub(crate) fn compare_two(operands: &mut Vec<Operand>, test: Test) -> Result<Nex
     let (first, second) = last_two(operands.as_slice());
     let truth = test.judge(first, second);
     put_for_two(operands, Operand::Truth(truth));
-    Ok(Next::Ahead)
+    Ok(Next::FallThrough)
 }
 
 #[inline(never)]
@@ -70,7 +70,7 @@ pub(crate) fn test_between(operands: &mut Vec<Operand>) -> Result<Next, ValueFau
     let (value, low, high) = pop_three(operands);
     let truth = is_between(&value, &low, &high);
     put_truth(operands, truth)?;
-    Ok(Next::Ahead)
+    Ok(Next::FallThrough)
 }
 
 fn is_between(value: &Datum, low: &Datum, high: &Datum) -> Truth
@@ -87,7 +87,7 @@ pub(crate) fn null_if(operands: &mut Vec<Operand>) -> Result<Next, ValueFault>
 {
     let (value, other) = pop_two(operands);
     put_value(operands, without_equal(value, &other))?;
-    Ok(Next::Ahead)
+    Ok(Next::FallThrough)
 }
 
 fn without_equal(value: Datum, other: &Datum) -> Datum
@@ -106,7 +106,7 @@ pub(crate) fn test_null(operands: &mut Vec<Operand>) -> Result<Next, ValueFault>
 {
     let value = pop_value(operands);
     put_truth(operands, decided(is_null_value(&value)))?;
-    Ok(Next::Ahead)
+    Ok(Next::FallThrough)
 }
 
 pub(crate) fn is_null_value(value: &Datum) -> bool
@@ -120,40 +120,40 @@ pub(crate) fn test_among(operands: &mut Vec<Operand>, count: u32) -> Result<Next
     requires { IsTrue (are_values (suc count) (reverse operands.old.items)) }
     ensures { Carries (suc count) (on_many count (λ bs. on_value (λ a below. with_truth below (Ok (among a bs))))) operands.old result operands.new }
 {
-    let place = place_below(operands.as_slice(), count);
-    let truth = judge_among(operands.as_slice(), count, place);
-    operands.truncate(place);
+    let index = index_below(operands.as_slice(), count);
+    let truth = judge_among(operands.as_slice(), count, index);
+    operands.truncate(index);
     put_truth(operands, truth)?;
-    Ok(Next::Ahead)
+    Ok(Next::FallThrough)
 }
 
 // How many operands stand below a value with n others on it.
 #[tactic(auto, using(crate::proofs::Among::enough))]
-fn place_below(operands: &[Operand], count: u32) -> usize
+fn index_below(operands: &[Operand], count: u32) -> usize
     requires { IsTrue (are_values (suc count) (reverse operands.now)) }
-    ensures place { result + suc count ≡ length operands.now }
+    ensures index { result + suc count ≡ length operands.now }
     ensures below { drop (suc count) (reverse operands.now) ≡ reverse (take result operands.now) }
 {
     operands.len() - 1 - count as usize
 }
 
-// Whether the value at the place is among the others that stand on it.
-fn judge_among(operands: &[Operand], count: u32, place: usize) -> Truth
+// Whether the value at the index is among the others that stand on it.
+fn judge_among(operands: &[Operand], count: u32, index: usize) -> Truth
     requires values { IsTrue (are_values (suc count) (reverse operands.now)) }
-    requires place { place + suc count ≡ length operands.now }
-    ensures { on_many count (λ bs. on_value (λ a below. with_truth below (Ok (among a bs)))) (reverse operands.now) ≡ with_truth (reverse (take place operands.now)) (Ok result) }
+    requires index { index + suc count ≡ length operands.now }
+    ensures { on_many count (λ bs. on_value (λ a below. with_truth below (Ok (among a bs)))) (reverse operands.now) ≡ with_truth (reverse (take index operands.now)) (Ok result) }
 {
-    match &operands[place] {
-        Operand::Value(value) => judge_each(value, after(operands, place)),
+    match &operands[index] {
+        Operand::Value(value) => judge_each(value, after(operands, index)),
         Operand::Truth(_) => unreachable!(),
     }
 }
 
-fn after(operands: &[Operand], place: usize) -> &[Operand]
-    requires { place < length operands.now }
-    ensures { result.now ≡ drop (place + 1) operands.now }
+fn after(operands: &[Operand], index: usize) -> &[Operand]
+    requires { index < length operands.now }
+    ensures { result.now ≡ drop (index + 1) operands.now }
 {
-    &operands[place + 1..]
+    &operands[index + 1..]
 }
 
 // Whether a value is equal to one of the others.

@@ -14,7 +14,7 @@ pub(crate) fn and_two(operands: &mut Vec<Operand>) -> Result<Next, ValueFault>
 {
     let (first, second) = pop_truths(operands);
     put_truth(operands, first.and(second))?;
-    Ok(Next::Ahead)
+    Ok(Next::FallThrough)
 }
 
 pub(crate) fn or_two(operands: &mut Vec<Operand>) -> Result<Next, ValueFault>
@@ -23,7 +23,7 @@ pub(crate) fn or_two(operands: &mut Vec<Operand>) -> Result<Next, ValueFault>
 {
     let (first, second) = pop_truths(operands);
     put_truth(operands, first.or(second))?;
-    Ok(Next::Ahead)
+    Ok(Next::FallThrough)
 }
 
 pub(crate) fn not_one(operands: &mut Vec<Operand>) -> Result<Next, ValueFault>
@@ -32,5 +32,5 @@ pub(crate) fn not_one(operands: &mut Vec<Operand>) -> Result<Next, ValueFault>
 {
     let truth = pop_truth(operands);
     put_truth(operands, truth.not())?;
-    Ok(Next::Ahead)
+    Ok(Next::FallThrough)
 }

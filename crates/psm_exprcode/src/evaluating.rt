@@ -1,7 +1,7 @@
 //! The value of an expression.
 ghost use Rattle.std.specs.Prelude.{◌≡◌, ◌<◌, ◌^◌, [], IsTrue, IsSome, IfOk};
 ghost use Rattle.psm_exprcode.specs.declared.op.Letter.{Letter};
-ghost use Rattle.psm_exprcode.specs.Evaluated.{evaluated, place_after as place_that_follows, Evaluates, TypeChecks};
+ghost use Rattle.psm_exprcode.specs.Evaluated.{evaluated, line_after as line_that_follows, Evaluates, TypeChecks};
 ghost use Rattle.psm_exprcode.specs.Kinds.{is_of};
 
 use crate::applying::apply;
@@ -13,7 +13,7 @@ use psm_value::{Datum, ValueFault};
 use std::alloc::Global;
 
 /// The value of an expression: its operations one after another from the first line, and the one operand
-/// that stands at the end, or the first condition that an operation raises. No operation lacks an operand.
+/// that stands at the end, or the first condition that an operation raises. No operation is stuck.
 /// The operand is of the letter with which the code ends: a truth value for B, a number or null for N, a
 /// text or null for T.
 ///
@@ -66,21 +66,21 @@ fn run(
     ensures value { Evaluates (evaluated lines.now row.now vars.now) result }
     ensures never_stuck { IsSome (evaluated lines.now row.now vars.now) }
 {
-    let mut place: usize = 0;
-    while let Some(op) = lines.op(place) {
+    let mut index: usize = 0;
+    while let Some(op) = lines.op(index) {
         let next = apply(alloc, op, operands, row, vars)?;
-        place = place_after(place, next);
+        index = line_after(index, next);
     }
     Ok(pop(operands))
 }
 
-// The place after that of a line.
-fn place_after(at: usize, next: Next) -> usize
+// The index after that of a line.
+fn line_after(at: usize, next: Next) -> usize
     requires { at < usize.MAX }
-    ensures { result ≡ place_that_follows at next }
+    ensures { result ≡ line_that_follows at next }
 {
     match next {
-        Next::Ahead => at + 1,
-        Next::Jump(place) => place as usize,
+        Next::FallThrough => at + 1,
+        Next::Jump(index) => index as usize,
     }
 }

@@ -19,7 +19,7 @@ impl<'a> NumberedLines<'a> {
     ghost use Rattle.psm_exprcode.specs.Lent.{lines_in};
     ghost use Rattle.psm_exprcode.specs.Stacks.{stack_at};
 
-    /// The lines after the one at a place.
+    /// The lines after the one at an index.
     pub(crate) fn after(&self, at: usize) -> NumberedLines<'a>
         requires { at < length self.now.lines.now }
         ensures lines { lines_in result ≡ drop (at + 1) (lines_in self.now) }
@@ -31,7 +31,7 @@ impl<'a> NumberedLines<'a> {
         }
     }
 
-    /// The number of the stack of the line at a place, if there is one.
+    /// The number of the stack of the line at an index, if there is one.
     pub(crate) fn stack(&self, at: usize) -> Option<usize>
         ensures there { IfSome result (λ n. n < length self.now.stacks.now) }
         ensures stated { option_map (stack_at self.now.stacks.now) result ≡ option_map (λ l. reverse l.stack) (slice_get (lines_in self.now) at) }

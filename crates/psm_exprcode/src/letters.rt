@@ -8,11 +8,11 @@ use crate::op::Letter;
 use crate::stacks::Stacks;
 use crate::table::Letters;
 
-/// Whether the letter stands at that place.
-pub(crate) fn is_known(letter: Letter, letters: &[Letter], place: usize) -> bool
-    ensures { result ≡ is_of_known letter (slice_get letters.now place) }
+/// Whether the letter stands at that index.
+pub(crate) fn is_known(letter: Letter, letters: &[Letter], index: usize) -> bool
+    ensures { result ≡ is_of_known letter (slice_get letters.now index) }
 {
-    match letters.get(place) {
+    match letters.get(index) {
         Some(known) => letter == *known,
         None => false,
     }

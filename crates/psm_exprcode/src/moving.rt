@@ -1,7 +1,7 @@
 //! Operations that put values on the stack, move operands there, or jump.
 ghost use Rattle.std.specs.Prelude.{◌≡◌, ◌<◌, ◌∷◌, ℕ, List as Seq, Some, IfOk, length, slice_get, reverse, IsTrue};
 ghost use Rattle.psm_value.specs.declared.datum.Datum.{Datum};
-ghost use Rattle.psm_exprcode.specs.declared.operand.Next.TheVariants.{Ahead};
+ghost use Rattle.psm_exprcode.specs.declared.operand.Next.TheVariants.{FallThrough};
 ghost use Rattle.psm_value.specs.Cast.{cast_of};
 ghost use Rattle.psm_value.specs.SqlType.{IsType};
 ghost use Rattle.psm_exprcode.specs.Comparison.{is_null};
@@ -20,45 +20,45 @@ pub(crate) fn put_copy(
     operands: &mut Vec<Operand>,
     value: &Datum,
 ) -> Result<Next, ValueFault>
-    ensures { Carries 0 (λ os. Went Ahead (Operand.Value value.now ∷ os)) operands.old result operands.new }
+    ensures { Carries 0 (λ os. Went FallThrough (Operand.Value value.now ∷ os)) operands.old result operands.new }
 {
     match value {
         Datum::Num(number) => put_value(operands, Datum::Num(*number))?,
         _ => put_value(operands, value.copy(alloc)?)?,
     }
-    Ok(Next::Ahead)
+    Ok(Next::FallThrough)
 }
 
-// The value at a place of a row, or of the variables.
+// The value at an index of a row, or of the variables.
 #[inline(always)]
 pub(crate) fn put_named(
     alloc: Global,
     operands: &mut Vec<Operand>,
     values: &[Datum],
-    place: u32,
+    index: u32,
 ) -> Result<Next, ValueFault>
-    requires { place < length values.now }
-    ensures { Carries 0 (λ os. with_named os (slice_get values.now place)) operands.old result operands.new }
+    requires { index < length values.now }
+    ensures { Carries 0 (λ os. with_named os (slice_get values.now index)) operands.old result operands.new }
 {
-    put_copy(alloc, operands, &values[place as usize])
+    put_copy(alloc, operands, &values[index as usize])
 }
 
 pub(crate) fn duplicate(alloc: Global, operands: &mut Vec<Operand>) -> Result<Next, ValueFault>
     requires { IsTrue (are_values 1 (reverse operands.old.items)) }
-    ensures { Carries 0 (on_value (λ a below. Went Ahead (Operand.Value a ∷ Operand.Value a ∷ below))) operands.old result operands.new }
+    ensures { Carries 0 (on_value (λ a below. Went FallThrough (Operand.Value a ∷ Operand.Value a ∷ below))) operands.old result operands.new }
 {
     let (last, _) = last_value(operands.as_slice());
     let copy = last.copy(alloc)?;
     put_value(operands, copy)?;
-    Ok(Next::Ahead)
+    Ok(Next::FallThrough)
 }
 
 pub(crate) fn drop_last(operands: &mut Vec<Operand>) -> Next
     requires { IsTrue (are_values 1 (reverse operands.old.items)) }
-    ensures { on_value (λ a below. Went Ahead below) (reverse operands.old.items) ≡ Went result (reverse operands.new.items) }
+    ensures { on_value (λ a below. Went FallThrough below) (reverse operands.old.items) ≡ Went result (reverse operands.new.items) }
 {
     let _ = pop_value(operands);
-    Next::Ahead
+    Next::FallThrough
 }
 
 pub(crate) fn nip(operands: &mut Vec<Operand>) -> Result<Next, ValueFault>
@@ -68,29 +68,29 @@ pub(crate) fn nip(operands: &mut Vec<Operand>) -> Result<Next, ValueFault>
     let last = pop(operands);
     let _ = pop_value(operands);
     put(operands, last)?;
-    Ok(Next::Ahead)
+    Ok(Next::FallThrough)
 }
 
-pub(crate) fn jump_not(operands: &mut Vec<Operand>, place: u32) -> Next
+pub(crate) fn jump_not(operands: &mut Vec<Operand>, index: u32) -> Next
     requires { IsTrue (are_truths 1 (reverse operands.old.items)) }
-    ensures { on_truth (unless_true place) (reverse operands.old.items) ≡ Went result (reverse operands.new.items) }
+    ensures { on_truth (unless_true index) (reverse operands.old.items) ≡ Went result (reverse operands.new.items) }
 {
     if pop_truth(operands).is_true() {
-        Next::Ahead
+        Next::FallThrough
     } else {
-        Next::Jump(place)
+        Next::Jump(index)
     }
 }
 
-pub(crate) fn jump_set(operands: &mut Vec<Operand>, place: u32) -> Next
+pub(crate) fn jump_set(operands: &mut Vec<Operand>, index: u32) -> Next
     requires { IsTrue (are_values 1 (reverse operands.old.items)) }
-    ensures { on_value (set_at place) (reverse operands.old.items) ≡ Went result (reverse operands.new.items) }
+    ensures { on_value (set_at index) (reverse operands.old.items) ≡ Went result (reverse operands.new.items) }
 {
     if is_last_null(operands.as_slice()) {
         let _ = pop_value(operands);
-        Next::Ahead
+        Next::FallThrough
     } else {
-        Next::Jump(place)
+        Next::Jump(index)
     }
 }
 
@@ -113,5 +113,5 @@ pub(crate) fn cast_one(
 {
     let value = pop_value(operands);
     put_value(operands, cast(alloc, to, &value)?)?;
-    Ok(Next::Ahead)
+    Ok(Next::FallThrough)
 }

@@ -17,7 +17,7 @@ pub(crate) fn negate(operands: &mut Vec<Operand>) -> Result<Next, ValueFault>
 {
     let number = pop_value(operands);
     put_value(operands, neg(&number))?;
-    Ok(Next::Ahead)
+    Ok(Next::FallThrough)
 }
 
 pub(crate) fn add_two(operands: &mut Vec<Operand>) -> Result<Next, ValueFault>
@@ -25,8 +25,8 @@ pub(crate) fn add_two(operands: &mut Vec<Operand>) -> Result<Next, ValueFault>
     ensures { Carries 2 (value_of_two sum_of) operands.old result operands.new }
 {
     let (first, second) = last_two(operands.as_slice());
-    let due = add(first, second);
-    give(operands, due)
+    let expected = add(first, second);
+    give(operands, expected)
 }
 
 pub(crate) fn sub_two(operands: &mut Vec<Operand>) -> Result<Next, ValueFault>
@@ -34,8 +34,8 @@ pub(crate) fn sub_two(operands: &mut Vec<Operand>) -> Result<Next, ValueFault>
     ensures { Carries 2 (value_of_two difference_of) operands.old result operands.new }
 {
     let (first, second) = last_two(operands.as_slice());
-    let due = sub(first, second);
-    give(operands, due)
+    let expected = sub(first, second);
+    give(operands, expected)
 }
 
 #[inline(never)]
@@ -44,8 +44,8 @@ pub(crate) fn mul_two(operands: &mut Vec<Operand>) -> Result<Next, ValueFault>
     ensures { Carries 2 (value_of_two product_of) operands.old result operands.new }
 {
     let (first, second) = last_two(operands.as_slice());
-    let due = mul(first, second);
-    give(operands, due)
+    let expected = mul(first, second);
+    give(operands, expected)
 }
 
 #[inline(never)]
@@ -54,20 +54,20 @@ pub(crate) fn div_two(operands: &mut Vec<Operand>) -> Result<Next, ValueFault>
     ensures { Carries 2 (value_of_two quotient_of) operands.old result operands.new }
 {
     let (first, second) = last_two(operands.as_slice());
-    let due = div(first, second);
-    give(operands, due)
+    let expected = div(first, second);
+    give(operands, expected)
 }
 
 // The value that an operation on the last two operands gives stands in their place; where it gives a condition they are gone.
 #[inline(always)]
-fn give(operands: &mut Vec<Operand>, due: Result<Datum, SqlState>) -> Result<Next, ValueFault>
+fn give(operands: &mut Vec<Operand>, expected: Result<Datum, SqlState>) -> Result<Next, ValueFault>
     requires { 1 < vec_len operands.old }
-    ensures { Applies 2 (reverse operands.old.items) (with_value (drop 2 (reverse operands.old.items)) due) result (reverse operands.new.items) }
+    ensures { Applies 2 (reverse operands.old.items) (with_value (drop 2 (reverse operands.old.items)) expected) result (reverse operands.new.items) }
 {
-    match due {
+    match expected {
         Ok(value) => {
             put_for_two(operands, Operand::Value(value));
-            Ok(Next::Ahead)
+            Ok(Next::FallThrough)
         }
         Err(state) => {
             drop_two(operands);
@@ -84,7 +84,7 @@ pub(crate) fn rescale(operands: &mut Vec<Operand>, scale: u8) -> Result<Next, Va
 {
     let number = pop_value(operands);
     put_value(operands, at_scale(&number, scale)?)?;
-    Ok(Next::Ahead)
+    Ok(Next::FallThrough)
 }
 
 // The number with n digits after the point; digits that don't fit there are cut off.

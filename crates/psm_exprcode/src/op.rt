@@ -56,7 +56,7 @@ impl Letter {
     }
 }
 
-/// An operation of an expression over a stack of operands. A number of a line is its place, from 0.
+/// An operation of an expression over a stack of operands. A number of a line is its index, from 0.
 #[derive(Debug, Drop)]
 pub enum Op {
     /// Puts a value, of that letter, on the stack.
@@ -87,11 +87,11 @@ pub enum Op {
     Concatenate,
     /// The number of characters.
     CharacterLength,
-    /// The place of a text, the lower operand, in another.
+    /// The position of a text, the lower operand, in another.
     Position,
-    /// SUBSTRING of a text from a place on.
+    /// SUBSTRING of a text from a position on.
     SubstringFrom,
-    /// SUBSTRING of a text from a place on, for a number of characters.
+    /// SUBSTRING of a text from a position on, for a number of characters.
     SubstringFromFor,
     /// The text without the blanks at that side.
     Trim(Side),

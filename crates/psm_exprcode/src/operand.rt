@@ -12,7 +12,7 @@ pub enum Operand {
 #[derive(Clone, Copy, Debug, PartialEq, Eq)]
 pub enum Next {
     /// At the line that follows.
-    Ahead,
+    FallThrough,
     /// At a line of that number.
     Jump(u32),
 }

@@ -122,9 +122,9 @@ impl Op {
             Op::In(count) => among(kind, *count),
             Op::NullIf => maps("NULLIF", kind, 2, kind),
             Op::Cast(to) => maps("CAST", kind, 1, Letter::of_type(*to)),
-            Op::Jump(place) => jump_entry("JMP", Letters::none(), None, *place, Letters::none()),
-            Op::JumpUnlessTrue(place) => unless_true(*place),
-            Op::JumpUnlessNull(place) => unless_null(*place, kind),
+            Op::Jump(index) => jump_entry("JMP", Letters::none(), None, *index, Letters::none()),
+            Op::JumpUnlessTrue(index) => unless_true(*index),
+            Op::JumpUnlessNull(index) => unless_null(*index, kind),
         }
     }
 
@@ -152,34 +152,34 @@ fn among(kind: Letter, count: u32) -> Entry
     plain_entry("IN", many_on(kind, kind, count), many(Letter::B, 1))
 }
 
-// One that may go on at a place.
+// One that may go on at an index.
 fn jump_entry(
     mnemonic: &'static str,
     takes: Letters,
     fall_through: Option<Letters>,
-    place: u32,
+    index: u32,
     there: Letters,
 ) -> Entry
-    ensures { effect_of result ≡ jumping mnemonic.now (letters_of takes) (option_map letters_of fall_through) place (letters_of there) }
+    ensures { effect_of result ≡ jumping mnemonic.now (letters_of takes) (option_map letters_of fall_through) index (letters_of there) }
 {
     Entry {
         mnemonic,
         takes,
         fall_through,
-        branching: Some((place, there)),
+        branching: Some((index, there)),
     }
 }
 
-fn unless_true(place: u32) -> Entry
-    ensures { effect_of result ≡ jumping (codes "JNOT") (B ∷ []) (Some []) place [] }
+fn unless_true(index: u32) -> Entry
+    ensures { effect_of result ≡ jumping (codes "JNOT") (B ∷ []) (Some []) index [] }
 {
     let none = Letters::none();
-    jump_entry("JNOT", many(Letter::B, 1), Some(none), place, none)
+    jump_entry("JNOT", many(Letter::B, 1), Some(none), index, none)
 }
 
-fn unless_null(place: u32, kind: Letter) -> Entry
-    ensures { effect_of result ≡ jumping (codes "JSET") (kind ∷ []) (Some []) place (kind ∷ []) }
+fn unless_null(index: u32, kind: Letter) -> Entry
+    ensures { effect_of result ≡ jumping (codes "JSET") (kind ∷ []) (Some []) index (kind ∷ []) }
 {
     let value = many(kind, 1);
-    jump_entry("JSET", value, Some(Letters::none()), place, value)
+    jump_entry("JSET", value, Some(Letters::none()), index, value)
 }

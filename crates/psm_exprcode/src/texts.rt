@@ -6,7 +6,7 @@ ghost use Rattle.psm_text.specs.Parts.{upper_of, lower_of, substring_of};
 ghost use Rattle.psm_value.specs.Answer.{Gives};
 ghost use Rattle.psm_exprcode.specs.Applied.{value_of_one, value_of_two, on_two, on_three, with_value, with_truth};
 ghost use Rattle.psm_exprcode.specs.Fits.{are_values, Carries};
-ghost use Rattle.psm_exprcode.specs.Texts.{place_of, trim_of, like_of};
+ghost use Rattle.psm_exprcode.specs.Texts.{first_position, trim_of, like_of};
 ghost use Rattle.psm_exprcode.specs.Values.{as_truth, whole, concatenated, length_of, position_of, cut_of, part_from, part_of, on_text, like, like_escaped};
 
 use crate::comparing::decided;
@@ -27,7 +27,7 @@ pub(crate) fn concatenate_two(
 {
     let (first, second) = pop_two(operands);
     put_value(operands, concatenate(alloc, &first, &second)?)?;
-    Ok(Next::Ahead)
+    Ok(Next::FallThrough)
 }
 
 fn concatenate(alloc: Global, first: &Datum, second: &Datum) -> Result<Datum, ValueFault>
@@ -48,7 +48,7 @@ pub(crate) fn count_one(operands: &mut Vec<Operand>) -> Result<Next, ValueFault>
 {
     let text = pop_value(operands);
     put_value(operands, count(&text))?;
-    Ok(Next::Ahead)
+    Ok(Next::FallThrough)
 }
 
 fn count(text: &Datum) -> Datum
@@ -74,21 +74,21 @@ pub(crate) fn find_two(operands: &mut Vec<Operand>) -> Result<Next, ValueFault>
 {
     let (part, text) = pop_two(operands);
     put_value(operands, find(&part, &text))?;
-    Ok(Next::Ahead)
+    Ok(Next::FallThrough)
 }
 
 fn find(part: &Datum, text: &Datum) -> Datum
     ensures { result ≡ position_of part.now text.now }
 {
     match (part, text) {
-        (Datum::Text(part), Datum::Text(text)) => whole_number(place(part, text)),
+        (Datum::Text(part), Datum::Text(text)) => whole_number(position(part, text)),
         _ => Datum::Null,
     }
 }
 
 #[tactic(auto, using(crate::proofs::Positions::position_is))]
-fn place(part: &Text, text: &Text) -> u32
-    ensures { result ≡ place_of part.now text.now }
+fn position(part: &Text, text: &Text) -> u32
+    ensures { result ≡ first_position part.now text.now }
 {
     text.position(part)
 }
@@ -99,11 +99,11 @@ pub(crate) fn part_two(alloc: Global, operands: &mut Vec<Operand>) -> Result<Nex
     ensures { Carries 2 (value_of_two part_from) operands.old result operands.new }
 {
     let (text, from) = pop_two(operands);
-    put_value(operands, part_from_place(alloc, &text, &from)?)?;
-    Ok(Next::Ahead)
+    put_value(operands, part_from_position(alloc, &text, &from)?)?;
+    Ok(Next::FallThrough)
 }
 
-fn part_from_place(alloc: Global, text: &Datum, from: &Datum) -> Result<Datum, ValueFault>
+fn part_from_position(alloc: Global, text: &Datum, from: &Datum) -> Result<Datum, ValueFault>
     ensures { Gives (part_from text.now from.now) result }
 {
     match (text, from) {
@@ -125,11 +125,11 @@ fn cut(number: Dec) -> i64
 #[inline(never)]
 pub(crate) fn part_three(alloc: Global, operands: &mut Vec<Operand>) -> Result<Next, ValueFault>
     requires { IsTrue (are_values 3 (reverse operands.old.items)) }
-    ensures { Carries 3 (on_three (λ t place count below. with_value below (part_of t place count))) operands.old result operands.new }
+    ensures { Carries 3 (on_three (λ t position count below. with_value below (part_of t position count))) operands.old result operands.new }
 {
     let (text, from, count) = pop_three(operands);
     put_value(operands, part_between(alloc, &text, &from, &count)?)?;
-    Ok(Next::Ahead)
+    Ok(Next::FallThrough)
 }
 
 fn part_between(
@@ -159,7 +159,7 @@ pub(crate) fn trim_one(
 {
     let text = pop_value(operands);
     put_value(operands, trim(alloc, &text, side)?)?;
-    Ok(Next::Ahead)
+    Ok(Next::FallThrough)
 }
 
 fn trim(alloc: Global, text: &Datum, side: Side) -> Result<Datum, AllocError>
@@ -185,7 +185,7 @@ pub(crate) fn upper_one(alloc: Global, operands: &mut Vec<Operand>) -> Result<Ne
 {
     let text = pop_value(operands);
     put_value(operands, upper(alloc, &text)?)?;
-    Ok(Next::Ahead)
+    Ok(Next::FallThrough)
 }
 
 fn upper(alloc: Global, text: &Datum) -> Result<Datum, AllocError>
@@ -204,7 +204,7 @@ pub(crate) fn lower_one(alloc: Global, operands: &mut Vec<Operand>) -> Result<Ne
 {
     let text = pop_value(operands);
     put_value(operands, lower(alloc, &text)?)?;
-    Ok(Next::Ahead)
+    Ok(Next::FallThrough)
 }
 
 fn lower(alloc: Global, text: &Datum) -> Result<Datum, AllocError>
@@ -223,7 +223,7 @@ pub(crate) fn like_two(operands: &mut Vec<Operand>) -> Result<Next, ValueFault>
 {
     let (text, pattern) = pop_two(operands);
     put_truth(operands, liken(&text, &pattern)?)?;
-    Ok(Next::Ahead)
+    Ok(Next::FallThrough)
 }
 
 fn liken(text: &Datum, pattern: &Datum) -> Result<Truth, ValueFault>
@@ -242,7 +242,7 @@ pub(crate) fn like_three(operands: &mut Vec<Operand>) -> Result<Next, ValueFault
 {
     let (text, pattern, escape) = pop_three(operands);
     put_truth(operands, liken_escaped(&text, &pattern, &escape)?)?;
-    Ok(Next::Ahead)
+    Ok(Next::FallThrough)
 }
 
 fn liken_escaped(text: &Datum, pattern: &Datum, escape: &Datum) -> Result<Truth, ValueFault>

@@ -94,7 +94,7 @@ module _ {known : Known} {context resume : ℕ} where
   searched_one_drafted {k} {w} {u} {l} {j} {t} {o} end next x a n m hj b ho e =
       let inner : Drafted (λ σ y z. σ next ≡ here z → (first : Written) → Writes known context (σ resume) B (out-ResolvedWhen x).test first y → Whens known context (σ resume) k (σ end) (x ∷ []) first z) l o =
       three (taken_drafted context resume (op.JumpUnlessTrue next) hj) b (taken_drafted context resume (op.Jump end) ho)
-      (λ σ q r g place first d. searched_one (σ end) (σ next) x (place ∙ ap here g ∙ here-taken context (σ resume) (op.Jump (σ end)) (patched σ t)) d q r g) in
+      (λ σ q r g index first d. searched_one (σ end) (σ next) x (index ∙ ap here g ∙ here-taken context (σ resume) (op.Jump (σ end)) (patched σ t)) d q r g) in
       two a (scoped n m inner e) (λ σ d s. s.0 s.1 (patched σ w) d)
 
   pub compared_one_drafted : {k : Letter} {w d u q l j x t o v : Written} (end next : ℕ) (letter : Letter) (c : ResolvedWhen) → letter ≡ last_letter w → d ≡ applied context resume op.Duplicate 0 letter w
@@ -105,7 +105,7 @@ module _ {known : Known} {context resume : ℕ} where
       let inner : Drafted (λ σ y z. σ next ≡ here z → (first second third : Written) → letter ≡ last_letter first → second ≡ applied context (σ resume) op.Duplicate 0 letter first
       → Writes known context (σ resume) letter (out-ResolvedWhen c).test second third → y ≡ applied context (σ resume) op.Equal 2 B third → Compares known context (σ resume) k (σ end) (c ∷ []) first z) l o =
       four (taken_drafted context resume (op.JumpUnlessTrue next) hj) (taken_drafted context resume op.Drop hx) b (puts_drafted context resume (instruction.Operation (op.Jump end)) 1 (letter ∷ []) ho)
-      (λ σ ej ex r g place first second third s h d2 h2. compared_one (σ end) (σ next) letter c s (place ∙ ap here g ∙ here-applied context (σ resume) (op.Jump (σ end)) 1 letter (patched σ t)) h d2 h2 ej ex r g) in
+      (λ σ ej ex r g index first second third s h d2 h2. compared_one (σ end) (σ next) letter c s (index ∙ ap here g ∙ here-applied context (σ resume) (op.Jump (σ end)) 1 letter (patched σ t)) h d2 h2 ej ex r g) in
       four (applied_drafted context resume op.Duplicate 0 letter (λ σ. refl) hd) a (applied_drafted context resume op.Equal 2 B (λ σ. refl) hq) (scoped n m inner e)
       (λ σ h d2 h2 s. s.0 s.1 (patched σ w) (patched σ d) (patched σ u) same h d2 h2)
 
@@ -114,7 +114,7 @@ module _ {known : Known} {context resume : ℕ} where
       → v ≡ bound end f → new ≡ all_applied context resume 1 N (scaling scale) v → Drafted (λ σ. Writes known context (σ resume) k e) w new
   searched_drafted {k} {w} {l} {u} {f} {v} {new} e whens otherwise scale end letter q le n m a b h s =
       let inner : Drafted (λ σ y z. σ end ≡ here z → (after : Written) → after ≡ all_applied context (σ resume) 1 N (scaling scale) z → Writes known context (σ resume) k e y after) l f =
-      two a b (λ σ x y place after t. searched_written e whens otherwise scale (σ end) letter q le place x y t) in
+      two a b (λ σ x y index after t. searched_written e whens otherwise scale (σ end) letter q le index x y t) in
       two (scoped n m inner h) (all_applied_drafted context resume 1 N (scaling scale) (still-scaling scale) s) (λ σ x t. x.0 x.1 (patched σ new) t)
 
   pub compared_drafted : {k : Letter} {w t l u d f v new : Written} (e operand : ResolvedExpr) (whens : Several ResolvedWhen) (otherwise : Option ResolvedExpr) (scale : Option ℕ) (end : ℕ) (letter : Letter)
@@ -123,7 +123,7 @@ module _ {known : Known} {context resume : ℕ} where
       → v ≡ bound end f → new ≡ all_applied context resume 1 N (scaling scale) v → Drafted (λ σ. Writes known context (σ resume) k e) w new
   compared_drafted {k} {w} {t} {l} {u} {d} {f} {v} {new} e operand whens otherwise scale end letter q le o n m a hd b h s =
       let inner : Drafted (λ σ y z. σ end ≡ here z → (first after : Written) → Writes known context (σ resume) N operand first y → after ≡ all_applied context (σ resume) 1 N (scaling scale) z → Writes known context (σ resume) k e first after) l f =
-      three a (taken_drafted context resume op.Drop hd) b (λ σ x g y place first after p r. compared_written e operand whens otherwise scale (σ end) letter q le place p x g y r) in
+      three a (taken_drafted context resume op.Drop hd) b (λ σ x g y index first after p r. compared_written e operand whens otherwise scale (σ end) letter q le index p x g y r) in
       three o (scoped n m inner h) (all_applied_drafted context resume 1 N (scaling scale) (still-scaling scale) s) (λ σ p x r. x.0 x.1 (patched σ w) (patched σ new) p r)
 
   pub coalesce_drafted : {k : Letter} {w l f v new : Written} (e : ResolvedExpr) (values : Several ResolvedExpr) (scale : Option ℕ) (end : ℕ) (letter : Letter) → out-ResolvedExpr e ≡ layers.Coalesce values scale → letter ≡ row_types.letter_at scale
@@ -131,7 +131,7 @@ module _ {known : Known} {context resume : ℕ} where
       → Drafted (λ σ. Writes known context (σ resume) k e) w new
   coalesce_drafted {k} {w} {l} {f} {v} {new} e values scale end letter q le n m a h s =
       let inner : Drafted (λ σ y z. σ end ≡ here z → (after : Written) → after ≡ all_applied context (σ resume) 1 N (scaling scale) z → Writes known context (σ resume) k e y after) l f =
-      one a (λ σ x place after t. coalesce_written e values scale (σ end) letter q le place x t) in
+      one a (λ σ x index after t. coalesce_written e values scale (σ end) letter q le index x t) in
       two (scoped n m inner h) (all_applied_drafted context resume 1 N (scaling scale) (still-scaling scale) s) (λ σ x t. x.0 x.1 (patched σ new) t)
 
   -- ---- lists, with one item more

@@ -51,9 +51,9 @@ module _ {known : Known} {context resume : ℕ} where
   pub all_next : (es fs : List ResolvedExpr) (e : ResolvedExpr) {w u v : Written} → fs ≡ es ++ e ∷ [] → WritesAll known context resume es w u → Writes known context resume N e u v → WritesAll known context resume fs w v
   all_next es fs e {w = w} {v = v} q a b = subst (λ x. WritesAll known context resume x w v) (sym q) (all-append a b)
 
-  pub argument_next : (letters : List Letter) (es fs : List ResolvedExpr) (e : ResolvedExpr) (place : ℕ) (k : Letter) {w u v : Written} → fs ≡ es ++ e ∷ [] → place ≡ length es → k ≡ letter_at letters place
+  pub argument_next : (letters : List Letter) (es fs : List ResolvedExpr) (e : ResolvedExpr) (index : ℕ) (k : Letter) {w u v : Written} → fs ≡ es ++ e ∷ [] → index ≡ length es → k ≡ letter_at letters index
       → Arguments known context resume letters 0 es w u → Writes known context resume k e u v → Arguments known context resume letters 0 fs w v
-  argument_next letters es fs e place k {w = w} {u = u} {v = v} q p l a b =
+  argument_next letters es fs e index k {w = w} {u = u} {v = v} q p l a b =
       subst (λ x. Arguments known context resume letters 0 x w v) (sym q) (argument-append (omega (arith, p)) a (subst (λ x. Writes known context resume x e u v) l b))
 
   pub joined_next : (j : LogicalOperator) (es fs : List ResolvedExpr) (e : ResolvedExpr) (o : Op) {w u v new : Written} → fs ≡ es ++ e ∷ [] → o ≡ op_of_logical_operator j → Joins known context resume j es w u → Writes known context resume B e u v

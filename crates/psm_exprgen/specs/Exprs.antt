@@ -74,7 +74,7 @@ mutual
     none : {w : Written} → WritesAll known context resume [] w w
     more : {e : ResolvedExpr} {es : List ResolvedExpr} {w u v : Written} → Writes known context resume N e w u → WritesAll known context resume es u v → WritesAll known context resume (e ∷ es) w v
 
-  -- arguments from that place on, for parameters of these letters
+  -- arguments from that index on, for parameters of these letters
   pub data Arguments (known : Known) (context resume : ℕ) : List Letter → ℕ → List ResolvedExpr → Written → Written → Type 0 where
     no_argument : {letters : List Letter} {n : ℕ} {w : Written} → Arguments known context resume letters n [] w w
     argument : {letters : List Letter} {n : ℕ} {e : ResolvedExpr} {es : List ResolvedExpr} {w u v : Written} → Writes known context resume (letter_at letters n) e w u → Arguments known context resume letters (suc n) es u v

@@ -1,4 +1,4 @@
--- Which row expression an expression is, as it is told.
+-- Which row expression an expression is, as far as it is known.
 use Rattle.psm_resolved.specs.RowType as row_types
 use Rattle.psm_exprgen.specs.declared.row_types.RowType.{RowType}
 use Rattle.psm_exprgen.specs.declared.row_types.RowType.TheVariants.{Wrong, Untyped, Of}

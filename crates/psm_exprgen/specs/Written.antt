@@ -72,7 +72,7 @@ last_letter w = letter_or (slice_get w.stack 0)
 abbrev pub second_letter : Written → Letter
 second_letter w = letter_or (slice_get w.stack 1)
 
--- those at a place, of which there are none where nothing is there
+-- those at an index, of which there are none where nothing is there
 abbrev pub letters_or : Option (List Letter) → List Letter
 letters_or None = []
 letters_or (Some ls) = ls

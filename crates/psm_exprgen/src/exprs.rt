@@ -9,7 +9,7 @@ ghost use Rattle.psm_exprgen.specs.Exprs.{Arguments, Compares, Firsts, Joins, Ch
 
 use crate::emit_context::EmitContext;
 use crate::letters::first_letter;
-use crate::places::{letter_at, letters_at, number_at};
+use crate::lookups::{letter_at, letters_at, number_at};
 use crate::queries::query_code;
 use crate::writer::Writer;
 use psm_code::Instruction;
@@ -316,11 +316,11 @@ pub fn arguments(
 ) -> Result<(), AllocError>
     ensures { IfOk result (λ _. Drafted (λ σ. Arguments emit_context.entry.known.now emit_context.entry.context (σ emit_context.entry.resume) letters.now 0 list.now) out.old out.new) }
 {
-    let mut place = 0usize;
+    let mut index = 0usize;
     for item in list.items() {
-        let letter = letter_at(letters, place);
+        let letter = letter_at(letters, index);
         expr(out, emit_context, item.get(), letter)?;
-        place += 1;
+        index += 1;
     }
     Ok(())
 }

@@ -104,11 +104,11 @@ fn where_true(test: bool, letter: Letter) -> RowType
 
 // ---- operations
 
-// Of the column or the variable at a place, if it is there.
-fn named(letters: &[Letter], place: u32) -> RowType
-    ensures { seen result ≡ named (slice_get letters.now place) }
+// Of the column or the variable at an index, if it is there.
+fn named(letters: &[Letter], index: u32) -> RowType
+    ensures { seen result ≡ named (slice_get letters.now index) }
 {
-    match letters.get(place as usize) {
+    match letters.get(index as usize) {
         None => RowType::Wrong,
         Some(letter) => where_true(is_value(*letter), *letter),
     }
@@ -196,7 +196,7 @@ pub fn row_type_of(columns: &[Letter], variables: &[Letter], e: &ResolvedExpr) -
         ResolvedExpr::Null => RowType::Untyped,
         ResolvedExpr::Number(_) => RowType::Of(Letter::N),
         ResolvedExpr::Text(_) => RowType::Of(Letter::T),
-        ResolvedExpr::Column(place) => named(columns, *place),
+        ResolvedExpr::Column(index) => named(columns, *index),
         ResolvedExpr::Variable(slot) => named(variables, *slot),
         ResolvedExpr::LogicalOperator { operands, .. } => {
             where_true(are_all(columns, variables, Letter::B, operands), Letter::B)

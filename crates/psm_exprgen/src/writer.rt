@@ -269,10 +269,10 @@ impl Writer {
 
     /// The number of the line that follows. More lines than fit in 32 bits count as out of memory.
     pub fn here(&self) -> Result<u32, AllocError>
-        ensures { IfOk result (λ place. place ≡ here self.now) }
+        ensures { IfOk result (λ index. index ≡ here self.now) }
     {
         match u32::try_from(self.code.len()) {
-            Ok(place) => Ok(place),
+            Ok(index) => Ok(index),
             Err(_) => Err(AllocError),
         }
     }

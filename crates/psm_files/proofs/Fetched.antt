@@ -3,7 +3,7 @@ use Rattle.std.proofs.Common.{◌≡◌, ◌≢◌, ℕ, ◌<◌, ◌≤◌, Boo
 use Rattle.std.specs.Prelude.{IfSome, MatchBool, nat_eq, replicate}
 use Rattle.std.specs.Cmp.Lexicographic.{pointwise, told_text}
 use Rattle.std.proofs.lemmas.List.{length-replicate}
-use Rattle.psm_files.specs.Fetches.{Tells}
+use Rattle.psm_files.specs.Fetches.{AreHeld}
 
 -- a count that stays at a name and at all others stays at each
 pub stay_all : (before after : List ℕ → ℕ) (name : List ℕ) → after name ≡ before name → ((n : List ℕ) → n ≢ name → after n ≡ before n) → (n : List ℕ) → after n ≡ before n
@@ -14,7 +14,7 @@ stay_all before after name at others n = here (pointwise nat_eq n name) (told_te
     here false ne = others n ne
 
 -- a file of which more than n bytes were counted
-pub long_file : (reported : Option (List ℕ)) (counted most : ℕ) → IfSome reported (λ held. counted ≤ length held) → most < counted → (bytes : List ℕ) × Tells reported bytes × (most < length bytes)
+pub long_file : (contents : Option (List ℕ)) (counted most : ℕ) → IfSome contents (λ held. counted ≤ length held) → most < counted → (bytes : List ℕ) × AreHeld contents bytes × (most < length bytes)
 long_file None counted most h lt =
     let zeros : List ℕ = replicate counted 0 in
     let e : length zeros ≡ counted = length-replicate counted 0 in

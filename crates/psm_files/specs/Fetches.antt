@@ -1,4 +1,4 @@
--- What the fetches of a call tell of the files that are fetched.
+-- What the fetches of a call give of the files that are fetched.
 use Rattle.std.specs.Prelude.{◌≡◌, ◌≢◌, ℕ, ◌<◌, ◌≤◌, List, length, Option, IfSome, Result, Ok, Err}
 use Rattle.std.specs.Global.{Vec}
 use Rattle.psm_io.specs.Count.{Rose}
@@ -9,7 +9,7 @@ use Rattle.psm_files.specs.declared.file.FetchFault.TheVariants.{Unread, TooLong
 abbrev pub most_bytes : ℕ
 most_bytes = 16777216
 
--- what a shelf tells of each name, and how often a fetch of a name had failed, before and after a call
+-- what a shelf holds of each name, if it is known, and how often a fetch of a name had failed, before and after a call
 pub record Fetches : Type 0 where
   pub held : List ℕ → Option (List ℕ)
   pub before : List ℕ → ℕ
@@ -19,9 +19,9 @@ pub record Fetches : Type 0 where
 abbrev pub fetches_of : {F : Type 0} → (F → List ℕ → Option (List ℕ)) → (F → List ℕ → ℕ) → F → F → Fetches
 fetches_of held faults old new = record { held = held old; before = faults old; after = faults new }
 
--- the contents of a file are those that the shelf tells, where it tells them
-abbrev pub Tells : Option (List ℕ) → List ℕ → Type 0
-Tells reported bytes = IfSome reported (λ held. held ≡ bytes)
+-- the contents of a file are those that the shelf holds, where these are known
+abbrev pub AreHeld : Option (List ℕ) → List ℕ → Type 0
+AreHeld contents bytes = IfSome contents (λ held. held ≡ bytes)
 
 -- no fetch failed
 abbrev pub NoneFailed : Fetches → Type 0
@@ -31,7 +31,7 @@ NoneFailed fetches = (name : List ℕ) → fetches.after name ≡ fetches.before
 
 -- the bytes that it gave
 pub record IsRead (fetches : Fetches) (name bytes : List ℕ) : Type 0 where
-  pub reported : Tells (fetches.held name) bytes
+  pub contents : AreHeld (fetches.held name) bytes
   pub short : length bytes ≤ most_bytes
   pub none_failed : NoneFailed fetches
 
@@ -43,7 +43,7 @@ pub record IsUnread (fetches : Fetches) (name : List ℕ) : Type 0 where
 -- the file is too long
 pub record IsTooLong (fetches : Fetches) (name : List ℕ) : Type 0 where
   pub bytes : List ℕ
-  pub reported : Tells (fetches.held name) bytes
+  pub contents : AreHeld (fetches.held name) bytes
   pub long : most_bytes < length bytes
   pub none_failed : NoneFailed fetches
 

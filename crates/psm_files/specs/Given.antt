@@ -1,7 +1,7 @@
 -- What is expected of a call that reads a file, by what its fetches give.
 use Rattle.std.specs.Prelude.{◌≡◌, ℕ, ◌<◌, ◌≤◌, ◌⊎◌, List, length, Option, Some}
 use Rattle.psm_files.specs.Expected.{Expected, with_line}
-use Rattle.psm_files.specs.Fetches.{Fetches, IsUnread, NoneFailed, Tells, most_bytes}
+use Rattle.psm_files.specs.Fetches.{Fetches, IsUnread, NoneFailed, AreHeld, most_bytes}
 use Rattle.psm_files.specs.Message.{cannot_read, too_long}
 use Rattle.psm_files.specs.declared.status.Status.TheVariants.{ReadFault, TooLong}
 
@@ -11,13 +11,13 @@ pub record Given : Type 1 where
   pub Fails : List ℕ → Type 0
   pub NoneFails : Type 0
 
--- as the fetches of a call tell it
+-- as the fetches of a call give it
 abbrev pub as_fetched : Fetches → Given
-as_fetched fetches = record { Bytes = λ name bytes. Tells (fetches.held name) bytes; Fails = IsUnread fetches; NoneFails = NoneFailed fetches }
+as_fetched fetches = record { Bytes = λ name bytes. AreHeld (fetches.held name) bytes; Fails = IsUnread fetches; NoneFails = NoneFailed fetches }
 
--- as a shelf tells it of which no fetch fails
-abbrev pub as_told : (List ℕ → Option (List ℕ)) → Given
-as_told held = record { Bytes = λ name bytes. held name ≡ Some bytes; Fails = λ name. ⊥; NoneFails = Unit {0} }
+-- as a shelf holds it of which no fetch fails
+abbrev pub as_held : (List ℕ → Option (List ℕ)) → Given
+as_held held = record { Bytes = λ name bytes. held name ≡ Some bytes; Fails = λ name. ⊥; NoneFails = Unit {0} }
 
 -- ---- what is expected for a file of a name
 

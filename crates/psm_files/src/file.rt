@@ -21,7 +21,7 @@ pub enum FetchFault {
 /// The bytes of the file of that name, at most 16777216 of them.
 pub fn fetch<F: Shelf>(alloc: Global, name: &str, shelf: &mut F) -> Result<Vec<u8>, FetchFault>
     ensures gets { Gets (fetches_of F.held F.faults shelf.old shelf.new) name.now result }
-    ensures reported { (n : List ℕ) → F.held shelf.new n ≡ F.held shelf.old n }
+    ensures contents { (n : List ℕ) → F.held shelf.new n ≡ F.held shelf.old n }
 {
     match shelf.fetch(alloc, name, MOST_BYTES) {
         Ok(bytes) => Ok(bytes),

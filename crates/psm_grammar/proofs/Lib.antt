@@ -11,7 +11,7 @@ pub mod Unique
 pub mod Answer
 pub mod Whole
 pub mod Moved
-pub mod Retold
+pub mod Respelled
 pub mod Loops
 pub mod Answered
 pub mod Shorter

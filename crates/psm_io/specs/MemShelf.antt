@@ -33,9 +33,9 @@ abbrev pub found_next : Shelved → List ℕ → Option (List ℕ)
 found_next shelf name = if list_any (λ n. nat_eq n (next_count shelf.calls)) shelf.fails then None
     else first_named name shelf.files
 
--- what is due to the next call
-abbrev pub due : Shelved → List ℕ → ℕ → Result (List ℕ) ShelfFault
-due shelf name most = at_most_of most (found_next shelf name)
+-- what is expected of the next call
+abbrev pub expected : Shelved → List ℕ → ℕ → Result (List ℕ) ShelfFault
+expected shelf name most = at_most_of most (found_next shelf name)
 
 -- an answer, with its bytes as a list
 abbrev pub given : Result (Vec ℕ) ShelfFault → Result (List ℕ) ShelfFault

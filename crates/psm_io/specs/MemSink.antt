@@ -19,10 +19,10 @@ listed_at call entries = option_map (λ e. e.1) (find (λ e. nat_eq e.0 call) en
 abbrev pub kept_next : Sunk → Option ℕ
 kept_next sink = listed_at (next_count sink.calls) sink.fails
 
--- what is due to a call
-abbrev pub due_put : Option ℕ → Result (Unit {0}) SinkFault
-due_put None = Ok tt
-due_put (Some kept) = Err Failed
+-- what is expected of a call
+abbrev pub expected_put : Option ℕ → Result (Unit {0}) SinkFault
+expected_put None = Ok tt
+expected_put (Some kept) = Err Failed
 
 -- what a put of a piece appends
 abbrev pub appended : Option ℕ → List ℕ → Result (Unit {0}) SinkFault → List ℕ

@@ -16,7 +16,7 @@ use std::rt::Files;
 /// How many bytes one read asks for at most.
 const PIECE: usize = 16384;
 
-/// The files of the system. What they hold is not told.
+/// The files of the system. What they hold is not known.
 #[derive(Drop)]
 pub struct FileShelf<R: Files> {
     rt: R,

@@ -5,7 +5,7 @@ ghost use Rattle.std.specs.Option.{option_copied};
 ghost use Rattle.psm_io.specs.Count.{next_count};
 ghost use Rattle.psm_io.specs.Shelf.{Fetched};
 ghost use Rattle.psm_io.specs.Failures.{times, names_after};
-ghost use Rattle.psm_io.specs.MemShelf.{file_of, first_named, at_most_of, found_next, due, given};
+ghost use Rattle.psm_io.specs.MemShelf.{file_of, first_named, at_most_of, found_next, expected, given};
 
 use crate::failures::Failures;
 use crate::shelf::{Shelf, ShelfFault};
@@ -64,9 +64,9 @@ impl Shelf for MemShelf {
             (times name.now self.old.failed) (times name.now self.new.failed) result }
         ensures never_falls { times name.now self.old.failed ≤ times name.now self.new.failed }
         ensures others { (n : List ℕ) → n ≢ name.now → times n self.new.failed ≡ times n self.old.failed }
-        ensures told { (n : List ℕ) → first_named n self.new.files ≡ first_named n self.old.files }
+        ensures contents { (n : List ℕ) → first_named n self.new.files ≡ first_named n self.old.files }
 
-        ensures due { (given result ≡ due self.old name.now most) ⊎ (result ≡ Err ShelfFault.Memory) }
+        ensures expected { (given result ≡ expected self.old name.now most) ⊎ (result ≡ Err ShelfFault.Memory) }
         ensures files { self.new.files ≡ self.old.files }
         ensures fails { self.new.fails ≡ self.old.fails }
         ensures calls { self.new.calls ≡ next_count self.old.calls }

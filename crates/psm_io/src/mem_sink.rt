@@ -3,7 +3,7 @@ ghost use Rattle.std.specs.Prelude.{◌≡◌, ◌≤◌, ℕ, List, [], ◌++�
 ghost use Rattle.psm_io.specs.Sink.{Put};
 ghost use Rattle.psm_io.specs.Count.{next_count};
 ghost use Rattle.psm_io.specs.Faults.{faults_after};
-ghost use Rattle.psm_io.specs.MemSink.{kept_next, listed_at, due_put, appended};
+ghost use Rattle.psm_io.specs.MemSink.{kept_next, listed_at, expected_put, appended};
 
 use crate::sink::{Sink, SinkFault};
 use std::alloc::Global;
@@ -66,7 +66,7 @@ impl Sink for MemSink {
             self.old.faults self.new.faults bytes.now result }
         ensures never_falls { self.old.faults ≤ self.new.faults }
 
-        ensures due { (result ≡ due_put (kept_next self.old)) ⊎ (result ≡ Err SinkFault.Memory) }
+        ensures expected { (result ≡ expected_put (kept_next self.old)) ⊎ (result ≡ Err SinkFault.Memory) }
         ensures written { self.new.written ≡ self.old.written ++ appended (kept_next self.old) bytes.now result }
         ensures fails { self.new.fails ≡ self.old.fails }
         ensures calls { self.new.calls ≡ next_count self.old.calls }
@@ -101,7 +101,7 @@ fn kept_at(fails: &[(u32, usize)], call: u64) -> Option<usize>
 
 /// That many bytes of the piece, or all of it.
 fn prefix(piece: &[u8], kept: Option<usize>) -> &[u8]
-    ensures { result.now ≡ appended kept piece.now (due_put kept) }
+    ensures { result.now ≡ appended kept piece.now (expected_put kept) }
 {
     match kept {
         Some(kept) if kept < piece.len() => &piece[..kept],

@@ -19,7 +19,7 @@ pub enum ShelfFault {
 
 /// Where files come from.
 ///
-/// `held` is the bytes of a file, where the shelf tells them. `faults` is how often a fetch of a name has
+/// `held` is the bytes of a file, where they are known. `faults` is how often a fetch of a name has
 /// failed: a count that stands still at the last value of a `u64`.
 pub trait Shelf {
     ghost held: { Self → List ℕ → Option (List ℕ) };
@@ -31,5 +31,5 @@ pub trait Shelf {
         ensures answer { Fetched (held self.old name.now) most (faults self.old name.now) (faults self.new name.now) result }
         ensures never_falls { faults self.old name.now ≤ faults self.new name.now }
         ensures others { (n : List ℕ) → n ≢ name.now → faults self.new n ≡ faults self.old n }
-        ensures told { (n : List ℕ) → held self.new n ≡ held self.old n };
+        ensures contents { (n : List ℕ) → held self.new n ≡ held self.old n };
 }

@@ -15,7 +15,7 @@ pub enum SinkFault {
 
 /// Where text goes.
 ///
-/// `written` is what the sink holds, where it tells that. `faults` is how often a put has failed: a count
+/// `written` is what the sink holds, where it is known. `faults` is how often a put has failed: a count
 /// that stands still at the last value of a `u64`.
 pub trait Sink {
     ghost written: { Self → Option (List ℕ) };

@@ -10,7 +10,7 @@ use std::io;
 use std::io::Write;
 use std::marker::Model;
 
-/// The standard output. What is written there is not told.
+/// The standard output. What is written there is not known.
 #[derive(Drop)]
 pub struct StdSink<R: Print> {
     rt: R,

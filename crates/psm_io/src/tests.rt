@@ -15,7 +15,7 @@ fn file(alloc: Global, name: &str, bytes: &[u8]) -> Result<(String, Vec<u8>), Al
 fn is_answer(got: &Result<Vec<u8>, ShelfFault>, want: &Answer) -> bool {
     match (got, want) {
         (Ok(bytes), Ok(held)) => bytes.as_slice() == *held,
-        (Err(fault), Err(due)) => *fault == *due,
+        (Err(fault), Err(expected)) => *fault == *expected,
         _ => false,
     }
 }

@@ -1,4 +1,4 @@
--- Routines that can be told apart, by their signatures.
+-- Routines that can be distinguished, by their signatures.
 use Rattle.std.proofs.Common.{◌≡◌, Bool, true, false, ◌&&◌, not, List, [], ◌∷◌, length, map, refl, ap, sym, ◌∙◌}
 use Rattle.std.proofs.Math.Bool.{and-true}
 use Rattle.std.specs.Prelude.{nat_eq, if◌then◌else◌}
@@ -46,7 +46,7 @@ module _ (q r : RawRoutine) where
   unfolding shaped
   apart_is = apart_by q.is_function r.is_function
 
--- routines can be told from one more where none of their signatures is the same
+-- routines can be distinguished from one more where none of their signatures is the same
 pub all_apart : (r : RawRoutine) (qs : List RawRoutine) → list_all (are_apart r) qs ≡ list_all (λ s. not (is_same_signature s (signature_of r))) (map signature_of qs)
 all_apart r [] = refl
 all_apart r (q ∷ qs) = ap (λ b. b && list_all (are_apart r) qs) (apart_is q r) ∙ ap (λ b. not (is_same_signature (signature_of q) (signature_of r)) && b) (all_apart r qs)

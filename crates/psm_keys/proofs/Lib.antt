@@ -1,6 +1,6 @@
 pub mod Added
 pub mod Apart
 pub mod Distinct
-pub mod Told
+pub mod KeySignature
 pub mod Turned
 pub mod Values

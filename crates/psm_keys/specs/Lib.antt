@@ -1,4 +1,4 @@
 pub mod Fresh
 pub mod Handled
 pub mod Signature
-pub mod Told
+pub mod KeySignature

@@ -1,4 +1,4 @@
--- What tells a routine from the others of its name.
+-- What distinguishes a routine from the others of its name.
 use Rattle.std.specs.Prelude.{ℕ, Bool, ◌&&◌, nat_eq, List, [], length, map, if◌then◌else◌}
 use Rattle.std.specs.Cmp.Lexicographic.{pointwise}
 use Rattle.psm_value.specs.declared.sqltype.SqlType.{SqlType}

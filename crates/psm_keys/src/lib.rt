@@ -1,5 +1,5 @@
 //! Sets of what may not stand twice in a listing: names, numbers of columns, routines, and the condition values of handlers. Each is
-//! seen as the list of what was added so far, and tells whether one more is among them, through a map.
+//! seen as the list of what was added so far, and says whether one more is among them, through a map.
 #![tactic(auto)]
 
 mod handled_values;

@@ -1,9 +1,9 @@
-//! Routines that can be told apart (ISO/IEC 9075-4:1996): procedures of one name by the number of parameters, functions of one name
+//! Routines that can be distinguished (ISO/IEC 9075-4:1996): procedures of one name by the number of parameters, functions of one name
 //! by their kinds.
 ghost use Rattle.std.specs.Prelude.{◌≡◌, [], IfOk, OnErr};
 ghost use Rattle.psm_keys.specs.Fresh.{is_new, with_new};
 ghost use Rattle.psm_keys.specs.Signature.{is_same_signature, kind_number, kind_numbers, signature_of};
-ghost use Rattle.psm_keys.specs.Told.{told};
+ghost use Rattle.psm_keys.specs.KeySignature.{key_signature};
 
 use crate::names::NameKey;
 use indexmap::IndexSet;
@@ -12,7 +12,7 @@ use psm_value::SqlType;
 use std::alloc::{AllocError, Global};
 use std::marker::Model;
 
-/// What tells a routine from the others of its name, as a key of a map.
+/// What distinguishes a routine from the others of its name, as a key of a map.
 #[derive(PartialEq, Eq, Hash, Drop)]
 struct SignatureKey<'a> {
     name: NameKey<'a>,
@@ -33,11 +33,11 @@ pub struct SignatureSet<'a> {
 impl<'a> Model for SignatureSet<'a> {
     ghost use Rattle.std.specs.Prelude.{List, map};
     ghost use Rattle.psm_keys.specs.Signature.{Signature};
-    ghost use Rattle.psm_keys.specs.Told.{told};
+    ghost use Rattle.psm_keys.specs.KeySignature.{key_signature};
 
     ghost Value = { List Signature };
 
-    ghost view = { λ s. map told s.keys.keys };
+    ghost view = { λ s. map key_signature s.keys.keys };
 }
 
 impl<'a> SignatureSet<'a> {
@@ -51,7 +51,7 @@ impl<'a> SignatureSet<'a> {
         }
     }
 
-    /// Puts a routine after the others, or answers `false` where it can't be told from one of them.
+    /// Puts a routine after the others, or answers `false` where it can't be distinguished from one of them.
     pub fn add(&mut self, routine: &'a RawRoutine) -> Result<bool, AllocError>
         ensures answer { IfOk result (λ new. new ≡ is_new is_same_signature (signature_of routine.now) self.old) }
         ensures after { IfOk result (λ new. self.new ≡ with_new new (signature_of routine.now) self.old) }
@@ -64,7 +64,7 @@ impl<'a> SignatureSet<'a> {
 }
 
 fn key_of<'a>(alloc: Global, routine: &'a RawRoutine) -> Result<SignatureKey<'a>, AllocError>
-    ensures { IfOk result (λ key. told key ≡ signature_of routine.now) }
+    ensures { IfOk result (λ key. key_signature key ≡ signature_of routine.now) }
 {
     let name = NameKey {
         name: &routine.name,

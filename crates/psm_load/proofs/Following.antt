@@ -1,10 +1,10 @@
--- A part ends at the first line that isn't one of the kind that is due, or goes on behind the lines that are due for it.
+-- A part ends at the first line that isn't one of the kind that is due, or goes on after the lines that are due for it.
 use Rattle.std.proofs.Common.{◌≡◌, ℕ, zero, suc, Bool, true, false, List, [], ◌∷◌, ◌++◌, Option, Some, None, Result, Ok, Err, refl, sym, ap, subst, ◌∙◌, append_assoc}
 use Rattle.std.specs.Prelude.{replicate}
 use Rattle.psm_code.specs.declared.rule.CodeRule.{CodeRule}
 use Rattle.psm_words.specs.Reading.{◌>>=◌}
 use Rattle.psm_load_line.specs.Readers.{LineReader}
-use Rattle.psm_load.specs.Due.{Due, behind, fits, going_on, misfit, test_due, Expression}
+use Rattle.psm_load.specs.Due.{Due, due_after, fits, going_on, misfit, test_due, Expression}
 use Rattle.psm_load.specs.Parts.{At, Part, after_line, and_then, given, if_there, noting, one, taken, times, ◌>>◌}
 
 abbrev pub Lines : Type 0
@@ -13,7 +13,7 @@ Lines = List (List ℕ)
 abbrev pub Answer : Type 0 → Type 0
 Answer A = Result (A × (At × Lines)) ℕ
 
--- the first line that doesn't fit, after a part behind which others are due
+-- the first line that doesn't fit, after a part that is followed by others that are due
 abbrev pub after_part : {A : Type 0} → Answer A → List Due → Option ℕ
 after_part (Err n) ds = Some n
 after_part (Ok x) ds = misfit x.1.0.number ds x.1.1
@@ -42,8 +42,8 @@ follows_made {A} {B} {due} {p} f g = record { misfits = λ at ds ls. g.misfits a
 pub follows_due : {A : Type 0} {due other : List Due} {p : Part A} → due ≡ other → Follows due p → Follows other p
 follows_due {p = p} e f = subst (λ d. Follows d p) e f
 
--- a line, and those that stand behind it
-pub follows_line : {A B : Type 0} {next : A → Part B} (d : Due) (breaks : A → Option CodeRule) (read : LineReader A) (more : A → List Due) → ((l : List ℕ) → behind d l ≡ (read l >>= λ a. Some (more a))) → ((a : A) → Follows (more a) (next a)) → Follows (d ∷ []) (noting breaks read >> next)
+-- a line, and those that stand after it
+pub follows_line : {A B : Type 0} {next : A → Part B} (d : Due) (breaks : A → Option CodeRule) (read : LineReader A) (more : A → List Due) → ((l : List ℕ) → due_after d l ≡ (read l >>= λ a. Some (more a))) → ((a : A) → Follows (more a) (next a)) → Follows (d ∷ []) (noting breaks read >> next)
 follows_line {A} {B} {next} d breaks read more e f = record { misfits = misfits } where
   by : (at : At) (ds : List Due) (ls : Lines) (o : Option A) → going_on at.number (o >>= λ a. Some (more a)) (λ ms. misfit (suc at.number) (ms ++ ds) ls) ≡ after_part (and_then (taken at breaks ls o) next) ds
   by at ds ls None = refl
@@ -53,8 +53,8 @@ follows_line {A} {B} {next} d breaks read more e f = record { misfits = misfits 
   misfits at ds [] = refl
   misfits at ds (l ∷ ls) = ap (λ o. going_on at.number o (λ ms. misfit (suc at.number) (ms ++ ds) ls)) (e l) ∙ by at ds ls (read l)
 
--- the same where others are due behind those
-pub follows_line_and : {A B : Type 0} {next : A → Part B} (d : Due) (others : List Due) (breaks : A → Option CodeRule) (read : LineReader A) (more : A → List Due) → ((l : List ℕ) → behind d l ≡ (read l >>= λ a. Some (more a))) → ((a : A) → Follows (more a ++ others) (next a)) → Follows (d ∷ others) (noting breaks read >> next)
+-- the same where others are due after those
+pub follows_line_and : {A B : Type 0} {next : A → Part B} (d : Due) (others : List Due) (breaks : A → Option CodeRule) (read : LineReader A) (more : A → List Due) → ((l : List ℕ) → due_after d l ≡ (read l >>= λ a. Some (more a))) → ((a : A) → Follows (more a ++ others) (next a)) → Follows (d ∷ others) (noting breaks read >> next)
 follows_line_and {A} {B} {next} d others breaks read more e f = record { misfits = misfits } where
   by : (at : At) (ds : List Due) (ls : Lines) (o : Option A) → going_on at.number (o >>= λ a. Some (more a)) (λ ms. misfit (suc at.number) (ms ++ (others ++ ds)) ls) ≡ after_part (and_then (taken at breaks ls o) next) ds
   by at ds ls None = refl
@@ -64,8 +64,8 @@ follows_line_and {A} {B} {next} d others breaks read more e f = record { misfits
   misfits at ds [] = refl
   misfits at ds (l ∷ ls) = ap (λ o. going_on at.number o (λ ms. misfit (suc at.number) (ms ++ (others ++ ds)) ls)) (e l) ∙ by at ds ls (read l)
 
--- a line behind which none stands
-pub follows_one : {A : Type 0} (d : Due) (read : LineReader A) → ((l : List ℕ) → behind d l ≡ fits (read l)) → Follows (d ∷ []) (one read)
+-- a line after which none stands
+pub follows_one : {A : Type 0} (d : Due) (read : LineReader A) → ((l : List ℕ) → due_after d l ≡ fits (read l)) → Follows (d ∷ []) (one read)
 follows_one {A} d read e = record { misfits = misfits } where
   by : (at : At) (ds : List Due) (ls : Lines) (o : Option A) → going_on at.number (fits o) (λ ms. misfit (suc at.number) (ms ++ ds) ls) ≡ after_part (taken at (λ a. None) ls o) ds
   by at ds ls None = refl

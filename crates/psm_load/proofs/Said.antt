@@ -53,7 +53,7 @@ line_said_as {A} {B} f read old new line r out t h e = subst (Gives (says f read
     by (Err Misfit) h = says_err f read old line.number (read_err read old new line t (mapped_none f (read line.bytes.now) h))
     by (Err Memory) h = tt
 
--- a line is read whose words can be told from what is kept
+-- a line is read whose words can be found from what is kept
 pub line_seen : {A B : Type 0} (f : A → B) (view : B → A) (read : LineReader A) (old new : Left) (line : NumberedLine) (r : Result B Unread) (out : Result B Stop)
     → ((a : A) → view (f a) ≡ a) → Takes old new line → Reads (option_map f (read line.bytes.now)) r → out ≡ placed line.number r → GivesAs view (one read) old new out
 line_seen {A} {B} f view read old new line r out v t h e = subst (GivesAs view (one read) old new) (sym e) (by r h)

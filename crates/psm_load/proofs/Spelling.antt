@@ -49,10 +49,10 @@ pub spells_then : {A B : Type 0} {T : Type 0} {value : T → A} {lines : T → L
     → Spells T value lines p → ((a : A) → Spells (U a) (worth a) (others a) (next a))
     → Spells ((t : T) × U (value t)) (λ t. worth (value t.0) t.1) (λ t. lines t.0 ++ others (value t.0) t.1) (p >> next)
 spells_then {A} {B} {T} {value} {lines} {p} {U} {worth} {others} {next} s n = record { takes = takes; again = again } where
-  join : (ls : Lines) (b : B) (rest : Lines) (a : A) (behind : Lines) (t : T) → a ≡ value t → ls ≡ lines t ++ behind → (u : U a) → b ≡ worth a u → behind ≡ others a u ++ rest
+  join : (ls : Lines) (b : B) (rest : Lines) (a : A) (others_after : Lines) (t : T) → a ≡ value t → ls ≡ lines t ++ others_after → (u : U a) → b ≡ worth a u → others_after ≡ others a u ++ rest
       → (x : (t : T) × U (value t)) × (b ≡ worth (value x.0) x.1) × (ls ≡ (lines x.0 ++ others (value x.0) x.1) ++ rest)
-  join ls b rest a behind t e f u g h = by (subst (λ (a : A). (u : U a) × (b ≡ worth a u) × (behind ≡ others a u ++ rest)) e (u, g, h)) where
-    by : ((u : U (value t)) × (b ≡ worth (value t) u) × (behind ≡ others (value t) u ++ rest)) → (x : (t : T) × U (value t)) × (b ≡ worth (value x.0) x.1) × (ls ≡ (lines x.0 ++ others (value x.0) x.1) ++ rest)
+  join ls b rest a others_after t e f u g h = by (subst (λ (a : A). (u : U a) × (b ≡ worth a u) × (others_after ≡ others a u ++ rest)) e (u, g, h)) where
+    by : ((u : U (value t)) × (b ≡ worth (value t) u) × (others_after ≡ others (value t) u ++ rest)) → (x : (t : T) × U (value t)) × (b ≡ worth (value x.0) x.1) × (ls ≡ (lines x.0 ++ others (value x.0) x.1) ++ rest)
     by v = ((t, v.0), v.1, f ∙ ap (λ r. lines t ++ r) v.2 ∙ sym (append_assoc (lines t) (others (value t) v.0) rest))
 
   takes : (at : At) (ls : Lines) (b : B) (to : At) (rest : Lines) → (p >> next) at ls ≡ Ok (b, (to, rest)) → to.odd ≡ None

@@ -75,7 +75,7 @@ texts_length keys n (t ∷ ts) = ap suc (texts_length keys (suc n) ts)
 
 -- ---- their lines
 
--- which table is the referencing one is told by the place of a line
+-- the position of a line says which table is the referencing one
 abbrev pub text_lines : TableText → List (List ℕ)
 text_lines t = table_lines (map (key_from 0) t.references) t.table
 

@@ -169,7 +169,7 @@ routine_counts t =
     ap₂ paired (length_map condition_of h.0.0 ∙ h.0.1) (ap₂ paired h.1.0.1 (ap₂ paired (length_map handler_by h.1.1.0 ∙ h.1.1.1) t.1.1.1.1.1)) in
     ap₂ (λ (d : DataCounts) (c : ControlCounts). paired t.0.0.0 (paired t.0.0.1.0 (paired d (paired c t.0.0.1.1.1.1)))) kept control
 
--- the four groups behind the line of a routine
+-- the four groups after the line of a routine
 regroup : (a b c d : Lines) → a ++ (b ++ (c ++ d)) ≡ ((a ++ b) ++ c) ++ d
 regroup a b c d = sym (append_assoc a b (c ++ d)) ∙ sym (append_assoc (a ++ b) c d)
 

@@ -213,7 +213,7 @@ spells_table = spells_as there back (
 abbrev Exprs : Type 0
 Exprs = (ls : List Line) × IsListedExpr ls
 
--- what stands behind the line of an item
+-- what stands after the line of an item
 abbrev Operand : ItemHead → Type 0
 Operand Value = Exprs
 Operand (Function f) = Exprs
@@ -276,7 +276,7 @@ spells_more_sets n = spells_flat aggregate_lines n (spells_as (λ t. set_listed 
   back : (u : (a : Aggregate) × IsSet a) → (t : (i : (i : ItemHead) × Unit {0} × (breaks_sets i ≡ None)) × Operand i.0) × (u.0 ≡ set_of t.0.0 t.1) × (aggregate_lines u.0 ≡ item_head_line t.0.0 ∷ operand_lines t.0.0 t.1)
   back u = let k = set_said u.0.function u.0.operand u.1 in (((k.0, tt, k.2), k.1), k.3, k.4)
 
--- the others, behind the first
+-- the others, after the first
 abbrev Others : ℕ → ItemHead → Type 0
 Others n Value = Exprs × Valid IsListedExpr n
 Others n (Function f) = Exprs × Valid IsSet n
@@ -364,7 +364,7 @@ spells_set_item : Spells ((s : SetItem) × IsSetItem s) (λ t. t.0) (λ t. set_l
 spells_set_item = spells_as (λ t. ((record { column = t.0.0; source = t.1.0 }, (t.0.1, t.1.1)), refl, refl)) (λ u. (((u.0.column, u.1.0), (u.0.source, u.1.1)), refl, refl))
     (spells_then (spells_one set_written) (λ column. spells_made _ spells_expression))
 
--- what stands behind the line of a plan
+-- what stands after the line of a plan
 abbrev PlanTrace : PlanHead → Type 0
 PlanTrace (Insert t rows column columns) = Unit {0}
 PlanTrace (InsertQuery t q column columns) = Unit {0}

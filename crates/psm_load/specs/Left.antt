@@ -84,7 +84,7 @@ after first p = p >> λ others. given (first ∷ others)
 pub record Repeated {A : Type 0} (part : Part A) (count : ℕ) (old : Left) (start items : List A) (n : ℕ) (now : Left) : Type 0 where
   pub same : following items (times n part now.at now.lines) ≡ following start (times count part old.at old.lines)
 
--- The tables and the constraints that were read of so many tables, with n more to come.
+-- The tables and the constraints that were read of `count` tables, with n more to come.
 pub record TablesRead (count : ℕ) (old : Left) (tables : List CodeTable) (keys : List ForeignKey) (n : ℕ) (now : Left) : Type 0 where
   pub texts : List TableText
   pub tables_are : tables ≡ tables_of texts

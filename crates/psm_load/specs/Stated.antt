@@ -93,7 +93,7 @@ breaks_sets Value = Some Definition
 breaks_sets (Function f) = None
 breaks_sets Rows = None
 
--- the lines that stand behind the line of an item
+-- the lines that stand after the line of an item
 abbrev pub value_of_item : ItemHead → Part (List Line)
 value_of_item Value = expression
 value_of_item (Function f) = expression
@@ -110,7 +110,7 @@ more_rows n = times n (noting breaks_rows item_at >> value_of_item)
 abbrev pub more_sets : ℕ → Part (List Aggregate)
 more_sets n = times n (noting breaks_sets item_at >> set_of_item)
 
--- the first item tells of which kind the others are
+-- the first item says of which kind the others are
 abbrev pub items_by : ℕ → ItemHead → Part Items
 items_by n Value = expression >> λ lines. more_rows n >> λ others. given (items.Rows (lines ∷ others))
 items_by n (Function f) = set_of_item (Function f) >> λ a. more_sets n >> λ others. given (items.Sets (a ∷ others))

@@ -34,7 +34,7 @@ fn first_item(lines: &mut LinesLeft<'_>) -> Result<ItemHead, Stop>
     line.says(item_head(line.bytes))
 }
 
-// The first item, which tells of which kind the others are, and n others.
+// The first item, which says of which kind the others are, and n others.
 fn items_by(
     alloc: Global,
     first: ItemHead,

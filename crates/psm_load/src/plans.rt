@@ -54,7 +54,7 @@ fn head(alloc: Global, lines: &mut LinesLeft<'_>) -> Result<PlanHead, Stop>
     line.says(plan_head(alloc, line.bytes))
 }
 
-// The lines behind that of a plan.
+// The lines after that of a plan.
 fn plan(alloc: Global, head: PlanHead, lines: &mut LinesLeft<'_>) -> Result<Plan, Stop>
     ensures { Gives (plan_read head) lines.old lines.new result }
 {
@@ -94,7 +94,7 @@ fn plan(alloc: Global, head: PlanHead, lines: &mut LinesLeft<'_>) -> Result<Plan
     }
 }
 
-// The lines behind that of an UPDATE: its assignments, and its test.
+// The lines after that of an UPDATE: its assignments, and its test.
 fn update(
     alloc: Global,
     table: u32,

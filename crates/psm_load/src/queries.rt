@@ -43,7 +43,7 @@ fn head(lines: &mut LinesLeft<'_>) -> Result<QueryHead, Stop>
     line.says(query_head(line.bytes))
 }
 
-// The lines behind that of a query.
+// The lines after that of a query.
 fn query(alloc: Global, head: QueryHead, lines: &mut LinesLeft<'_>) -> Result<Query, Stop>
     ensures { Gives (query_by (query_words head)) lines.old lines.new result }
 {

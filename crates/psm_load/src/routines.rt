@@ -54,7 +54,7 @@ fn head(alloc: Global, lines: &mut LinesLeft<'_>) -> Result<RoutineHead, Stop>
     line.says(routine_head(alloc, line.bytes))
 }
 
-// The lines behind that of a routine.
+// The lines after that of a routine.
 fn routine(alloc: Global, head: RoutineHead, lines: &mut LinesLeft<'_>) -> Result<RawRoutine, Stop>
     ensures { Gives (routine_by (routine_words head)) lines.old lines.new result }
 {

@@ -115,7 +115,7 @@ fn head(alloc: Global, lines: &mut LinesLeft<'_>) -> Result<TableHead, Stop>
     line.says(table_head(alloc, line.bytes))
 }
 
-// The lines behind that of a table.
+// The lines after that of a table.
 fn table(alloc: Global, head: TableHead, lines: &mut LinesLeft<'_>) -> Result<TableText, Stop>
     ensures { Gives (table_read head) lines.old lines.new result }
 {

@@ -1,4 +1,4 @@
--- What is read up to the end of a line, behind what was read before.
+-- What is read up to the end of a line, after what was read before.
 use Rattle.std.proofs.Common.{◌≡◌, ℕ, List, [], ◌∷◌, Option, None, Some, refl}
 use Rattle.psm_words.specs.Reading.{◌>>=◌}
 use Rattle.std.specs.Prelude.{option_map}

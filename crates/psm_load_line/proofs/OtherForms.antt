@@ -109,10 +109,10 @@ reference_rest = record { again = again; takes = takes } where
   again : (x : ReferenceWords) → AreReferenceWords x → on_both_sides (codes " TO") (some index) referred_at (further (reference_words x)) ≡ Some x
   again x v =
       let before : List ℕ = further (map number (x.0.0 ∷ x.0.1)) in
-      let behind : List ℕ = further (number x.1.0 ∷ map number (x.1.1.0 ∷ x.1.1.1)) in
+      let following : List ℕ = further (number x.1.0 ∷ map number (x.1.1.0 ∷ x.1.1.1)) in
       ap (on_both_sides (codes " TO") (some index) referred_at) (further_append (map number (x.0.0 ∷ x.0.1)) (codes "TO" ∷ number x.1.0 ∷ map number (x.1.1.0 ∷ x.1.1.1)))
-      ∙ ap (λ (o : Option (List ℕ × List ℕ)). o >>= λ y. some index y.0 >>= λ a. referred_at y.1 >>= λ b. Some (a, b)) (parted_again before behind (numbers_toless (x.0.0 ∷ x.0.1) v.0))
-      ∙ ap (λ (o : Option (ℕ × List ℕ)). o >>= λ a. referred_at (codes " TO" ++ behind) >>= λ b. Some (a, b)) (indices_rest.again x.0 v.0)
+      ∙ ap (λ (o : Option (List ℕ × List ℕ)). o >>= λ y. some index y.0 >>= λ a. referred_at y.1 >>= λ b. Some (a, b)) (parted_again before following (numbers_toless (x.0.0 ∷ x.0.1) v.0))
+      ∙ ap (λ (o : Option (ℕ × List ℕ)). o >>= λ a. referred_at (codes " TO" ++ following) >>= λ b. Some (a, b)) (indices_rest.again x.0 v.0)
       ∙ ap (λ (o : Option (ℕ × (ℕ × List ℕ))). o >>= λ b. Some (x.0, b)) (referred_written.again x.1 v.1)
 
   takes : (s : List ℕ) (x : ReferenceWords) → on_both_sides (codes " TO") (some index) referred_at s ≡ Some x → (s ≡ further (reference_words x)) × AreReferenceWords x

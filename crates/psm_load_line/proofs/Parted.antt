@@ -47,31 +47,31 @@ not_both true false c h = refl
 not_both false b c h = refl
 
 -- a place where it doesn't stand
-goes_on : (c : ℕ) (s before behind : List ℕ) → starts_with nat_eq (c ∷ s) to ≡ false → parted to s ≡ Some (before, behind) → parted to (c ∷ s) ≡ Some (c ∷ before, behind)
-goes_on c s before behind f e = ap (λ b. if b then Some ([], c ∷ s) else (parted to s >>= prefixed c)) f ∙ ap (λ (o : Option (List ℕ × List ℕ)). o >>= prefixed c) e
+goes_on : (c : ℕ) (s before following : List ℕ) → starts_with nat_eq (c ∷ s) to ≡ false → parted to s ≡ Some (before, following) → parted to (c ∷ s) ≡ Some (c ∷ before, following)
+goes_on c s before following f e = ap (λ b. if b then Some ([], c ∷ s) else (parted to s >>= prefixed c)) f ∙ ap (λ (o : Option (List ℕ × List ℕ)). o >>= prefixed c) e
 
-pub parted_again : (s behind : List ℕ) → list_all toless s ≡ true → parted to (s ++ (to ++ behind)) ≡ Some (s, to ++ behind)
-parted_again [] behind h = refl
-parted_again (c ∷ []) behind h = goes_on c (to ++ behind) [] (to ++ behind) (not_both (nat_eq 32 c) (nat_eq 84 32) false refl) refl
-parted_again (c ∷ d ∷ s) behind h =
+pub parted_again : (s following : List ℕ) → list_all toless s ≡ true → parted to (s ++ (to ++ following)) ≡ Some (s, to ++ following)
+parted_again [] following h = refl
+parted_again (c ∷ []) following h = goes_on c (to ++ following) [] (to ++ following) (not_both (nat_eq 32 c) (nat_eq 84 32) false refl) refl
+parted_again (c ∷ d ∷ s) following h =
     let rest = and_second (toless c) (toless d && list_all toless s) h in
-    goes_on c (d ∷ (s ++ (to ++ behind))) (d ∷ s) (to ++ behind) (not_both (nat_eq 32 c) (nat_eq 84 d) (pointwise nat_eq (79 ∷ []) (take 1 (s ++ (to ++ behind)))) (and_first (toless d) (list_all toless s) rest)) (parted_again (d ∷ s) behind rest)
+    goes_on c (d ∷ (s ++ (to ++ following))) (d ∷ s) (to ++ following) (not_both (nat_eq 32 c) (nat_eq 84 d) (pointwise nat_eq (79 ∷ []) (take 1 (s ++ (to ++ following)))) (and_first (toless d) (list_all toless s) rest)) (parted_again (d ∷ s) following rest)
 
-pub parted_takes : (w s before behind : List ℕ) → parted w s ≡ Some (before, behind) → s ≡ before ++ behind
-parted_takes w [] before behind e = absurd cc
-parted_takes w (c ∷ s) before behind e = by (starts_with nat_eq (c ∷ s) w) (parted_takes w s) e where
-  by : (b : Bool) → ((a r : List ℕ) → parted w s ≡ Some (a, r) → s ≡ a ++ r) → (if b then Some ([], c ∷ s) else (parted w s >>= prefixed c)) ≡ Some (before, behind) → c ∷ s ≡ before ++ behind
+pub parted_takes : (w s before following : List ℕ) → parted w s ≡ Some (before, following) → s ≡ before ++ following
+parted_takes w [] before following e = absurd cc
+parted_takes w (c ∷ s) before following e = by (starts_with nat_eq (c ∷ s) w) (parted_takes w s) e where
+  by : (b : Bool) → ((a r : List ℕ) → parted w s ≡ Some (a, r) → s ≡ a ++ r) → (if b then Some ([], c ∷ s) else (parted w s >>= prefixed c)) ≡ Some (before, following) → c ∷ s ≡ before ++ following
   by true ih q =
-      let same = some_is {A = List ℕ × List ℕ} ([], c ∷ s) (before, behind) q in
+      let same = some_is {A = List ℕ × List ℕ} ([], c ∷ s) (before, following) q in
       ap (λ (x : List ℕ × List ℕ). x.0 ++ x.1) same
   by false ih q =
-      let f = bind_some (parted w s) (prefixed c) (before, behind) q in
-      let same = some_is {A = List ℕ × List ℕ} (c ∷ f.0.0, f.0.1) (before, behind) f.2 in
+      let f = bind_some (parted w s) (prefixed c) (before, following) q in
+      let same = some_is {A = List ℕ × List ℕ} (c ∷ f.0.0, f.0.1) (before, following) f.2 in
       ap (λ t. c ∷ t) (ih f.0.0 f.0.1 f.1) ∙ ap (λ (x : List ℕ × List ℕ). x.0 ++ x.1) same
 
 -- ---- place by place
 
--- what stands before a place, put before what was found behind it
+-- what stands before a place, put before what was found after it
 abbrev pub onto : List ℕ → List ℕ × List ℕ → Option (List ℕ × List ℕ)
 onto before x = Some (before ++ x.0, x.1)
 
@@ -103,13 +103,13 @@ parted_next w text at l e h =
     let one : parted w (drop at text) ≡ (parted w rest >>= prefixed c) = ap (parted w) split ∙ ap (λ b. if b then Some ([], c ∷ rest) else (parted w rest >>= prefixed c)) other in
     h ∙ ap (λ (o : Option (List ℕ × List ℕ)). o >>= onto (take at text)) one ∙ moved c (take at text) (take (at + 1) text) (parted w rest) (take_at_read text at 0 l).1
 
--- ---- behind it
+-- ---- after it
 
 abbrev joined : ℕ → ℕ × List ℕ → Option (ℕ × (ℕ × List ℕ))
 joined to x = Some (to, x)
 
-pub referred_read : (s rest behind : List ℕ) (to : ℕ) (x : ℕ × List ℕ) → after (codes " TO") s ≡ Some rest → index rest ≡ Some (to, behind) → some index behind ≡ Some x → referred_at s ≡ Some (to, x)
-referred_read s rest behind to x k e m =
+pub referred_read : (s rest following : List ℕ) (to : ℕ) (x : ℕ × List ℕ) → after (codes " TO") s ≡ Some rest → index rest ≡ Some (to, following) → some index following ≡ Some x → referred_at s ≡ Some (to, x)
+referred_read s rest following to x k e m =
     ap (λ (o : Option (List ℕ)). o >>= on index (some index)) k
     ∙ ap (λ (o : Option (ℕ × List ℕ)). o >>= λ a. some index a.1 >>= joined a.0) e
     ∙ ap (λ (o : Option (ℕ × List ℕ)). o >>= joined to) m

@@ -248,11 +248,11 @@ bare_takes (c ∷ s) = by (nat_eq c 32) (bare_takes s) where
   by false e = ap (λ u. c ∷ u) e
 
 -- each entry of a table is the word of its value, which is valid
-abbrev pub Tells : {A : Type 0} → (A → List ℕ) → (A → Type 0) → List (List ℕ × A) → Type 0
-Tells write V [] = Unit {0}
-Tells write V (entry ∷ entries) = ((write entry.1 ≡ entry.0) × V entry.1) × Tells write V entries
+abbrev pub AreWritten : {A : Type 0} → (A → List ℕ) → (A → Type 0) → List (List ℕ × A) → Type 0
+AreWritten write V [] = Unit {0}
+AreWritten write V (entry ∷ entries) = ((write entry.1 ≡ entry.0) × V entry.1) × AreWritten write V entries
 
-chosen_takes : {A : Type 0} (write : A → List ℕ) (V : A → Type 0) (entries : List (List ℕ × A)) (w : List ℕ) (a : A) → Tells write V entries → chosen entries w ≡ Some a → (w ≡ write a) × V a
+chosen_takes : {A : Type 0} (write : A → List ℕ) (V : A → Type 0) (entries : List (List ℕ × A)) (w : List ℕ) (a : A) → AreWritten write V entries → chosen entries w ≡ Some a → (w ≡ write a) × V a
 chosen_takes write V [] w a t e = absurd cc
 chosen_takes {A} write V (entry ∷ entries) w a t e = by (pointwise nat_eq entry.0 w) refl (λ f. chosen_takes write V entries w a t.1 f) e where
   by : (b : Bool) → pointwise nat_eq entry.0 w ≡ b → (chosen entries w ≡ Some a → (w ≡ write a) × V a) → (if b then Some entry.1 else chosen entries w) ≡ Some a → (w ≡ write a) × V a
@@ -262,9 +262,9 @@ chosen_takes {A} write V (entry ∷ entries) w a t e = by (pointwise nat_eq entr
 abbrev word_on : {A : Type 0} → List ℕ → A → Option (A × List ℕ)
 word_on u a = Some (a, u)
 
-pub table_word : {A : Type 0} (write : A → List ℕ) (V : A → Type 0) (entries : List (List ℕ × A)) → ((a : A) → V a → is_solid (write a) ≡ true) → ((a : A) → V a → chosen entries (write a) ≡ Some a) → Tells write V entries
+pub table_word : {A : Type 0} (write : A → List ℕ) (V : A → Type 0) (entries : List (List ℕ × A)) → ((a : A) → V a → is_solid (write a) ≡ true) → ((a : A) → V a → chosen entries (write a) ≡ Some a) → AreWritten write V entries
     → Spelled write V (one_of entries)
-table_word {A} write V entries solid found tells = record { again = again; takes = takes } where
+table_word {A} write V entries solid found written = record { again = again; takes = takes } where
   again : (a : A) (rest : List ℕ) → V a → is_boundary rest ≡ true → one_of entries (write a ++ rest) ≡ Some (a, rest)
   again a rest v b =
       ap (λ (x : List ℕ × List ℕ). chosen entries x.0 >>= word_on x.1) (bare_again (write a) rest (solid a v) b)
@@ -274,7 +274,7 @@ table_word {A} write V entries solid found tells = record { again = again; takes
   takes s a rest e =
       let f = bind_some (chosen entries (bare s).0) (word_on (bare s).1) (a, rest) e in
       let made : A × List ℕ = (f.0, (bare s).1) in
-      let w = chosen_takes write V entries (bare s).0 f.0 tells f.1 in
+      let w = chosen_takes write V entries (bare s).0 f.0 written f.1 in
       subst (λ (x : A × List ℕ). (s ≡ write x.0 ++ x.1) × V x.0) (some_is made (a, rest) f.2) (bare_takes s ∙ ap (λ u. u ++ (bare s).1) w.0, w.1)
 
 -- ---- a word that says how the rest of the line is read

@@ -97,9 +97,9 @@ pub fn reference(alloc: Global, line: &[u8]) -> Result<Reference, Unread>
     ensures { Reads (option_map reference_of (reference_at line.now)) result }
 {
     let rest = keyword(b"REF", line).ok_or(Unread::Misfit)?;
-    let (before, behind) = parted(b" TO", rest).ok_or(Unread::Misfit)?;
+    let (before, following) = parted(b" TO", rest).ok_or(Unread::Misfit)?;
     let columns = columns(alloc, before)?;
-    let (to, target) = referred(alloc, behind)?;
+    let (to, target) = referred(alloc, following)?;
     Ok(Reference {
         columns,
         to,

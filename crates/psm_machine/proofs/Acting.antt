@@ -34,19 +34,19 @@ activating_given at frames m c e = activating_is at frames m ∙ by (activating_
     or_given (Some x) = got x m
 
 -- a condition stops the instruction
-pub raises_with : (A : Type 0) (due : Entries) (m : Machine) (s : Stop) → StopsWith due s → Evaluates {A = A} (raises due m) (Err s) m
-raises_with A due m (stop.Raises c) h = ap (λ x. raises {A = A} x m) (sym h)
-raises_with A due m stop.NoTurns h = absurd h
-raises_with A due m stop.Stuck h = absurd h
-raises_with A due m stop.Memory h = tt
+pub raises_with : (A : Type 0) (expected : Entries) (m : Machine) (s : Stop) → StopsWith expected s → Evaluates {A = A} (raises expected m) (Err s) m
+raises_with A expected m (stop.Raises c) h = ap (λ x. raises {A = A} x m) (sym h)
+raises_with A expected m stop.NoTurns h = absurd h
+raises_with A expected m stop.Stuck h = absurd h
+raises_with A expected m stop.Memory h = tt
 
 -- so does that of an SQLSTATE
 pub raises_comes : (A : Type 0) (state : List ℕ) (m : Machine) (s : Stop) → StopsAt state s → Evaluates {A = A} (raises (of_state state) m) (Err s) m
 raises_comes A state m s h = raises_with A (of_state state) m s h
 
 -- an act that raises a condition comes to it
-pub raising_comes : (A : Type 0) (came : Came A) (due : Entries) (m : Machine) (s : Stop) → came ≡ raises due m → StopsWith due s → Evaluates came (Err s) m
-raising_comes A came due m s e h = subst (λ (x : Came A). Evaluates x (Err s) m) (sym e) (raises_with A due m s h)
+pub raising_comes : (A : Type 0) (came : Came A) (expected : Entries) (m : Machine) (s : Stop) → came ≡ raises expected m → StopsWith expected s → Evaluates came (Err s) m
+raising_comes A came expected m s e h = subst (λ (x : Came A). Evaluates x (Err s) m) (sym e) (raises_with A expected m s h)
 
 pub activating_none : (at : Mark → List Contents) (frames : List Frame) (m : Machine) → activating_of frames ≡ None → (s : Stop) → StopsAt (codes "0K000") s → Evaluates (activating (frames_of at frames) m) (Err s) m
 activating_none at frames m e s h = subst (λ (x : Came Entries). Evaluates x (Err s) m) (sym (activating_is at frames m ∙ ap (λ o. given_of o m) e)) (raises_comes Entries (codes "0K000") m s h)

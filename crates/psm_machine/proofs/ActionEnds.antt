@@ -80,8 +80,8 @@ no_action r n (code.InAction l resume area ∷ frames) m e = by (nat_eq n l) e w
   by true e = cc
   by false e = refl
 
-pub lacks_action : (r : RawRoutine) (n : ℕ) (m : code.Machine) → None ≡ resume_of n m.running.frames → rows.end_action r n m ≡ ends code.Stuck m
-lacks_action r n m e = no_action r n m.running.frames m e
+pub stuck_at_action : (r : RawRoutine) (n : ℕ) (m : code.Machine) → None ≡ resume_of n m.running.frames → rows.end_action r n m ≡ ends code.Stuck m
+stuck_at_action r n m e = no_action r n m.running.frames m e
 
 -- ---- it ends
 

@@ -52,7 +52,7 @@ pub passed_by : (ps : List Parameter) (i : ℕ) (p : Parameter) (ds : List Datum
 passed_by ps i p ds m before l e t b =
     b ∙ ap (λ qs. pops (length (taking qs)) ds m) (next_one ps i p l e) ∙ ap (λ b. pops (length (if b then p ∷ taking (drop (i + 1) ps) else taking (drop (i + 1) ps))) ds m) t
 
--- where the operands lack one
+-- where there is no operand
 pub taken_stops : (ps : List Parameter) (i : ℕ) (p : Parameter) (ds : List Datum) (m now : Machine) (s : Stop) → i < length ps → p ≡ get_or ps i p → takes p.mode ≡ true → Evaluates (pop m) (Err s) now →
     Evaluates (pops (length (taking (drop i ps))) ds m) (Err s) now
 taken_stops ps i p ds m now s l e t h =
@@ -130,5 +130,5 @@ too_many : (done args : List Datum) (m : Machine) → 0 < length args → entere
 too_many done [] m h = absurd (omega (arith, h))
 too_many done (a ∷ args) m h = refl
 
-pub entered_lacks : (ps : List Parameter) (done args : List Datum) (m : Machine) → ps ≡ [] → 0 < length args → entered_with done ps (reverse args) m ≡ ends Stuck m
-entered_lacks ps done args m e h = ap (λ qs. entered_with done qs (reverse args) m) e ∙ too_many done (reverse args) m (omega (arith, h, length-reverse args))
+pub entered_stuck : (ps : List Parameter) (done args : List Datum) (m : Machine) → ps ≡ [] → 0 < length args → entered_with done ps (reverse args) m ≡ ends Stuck m
+entered_stuck ps done args m e h = ap (λ qs. entered_with done qs (reverse args) m) e ∙ too_many done (reverse args) m (omega (arith, h, length-reverse args))

@@ -37,14 +37,14 @@ is_inside (y ∷ ys) (suc i) x e = let h : i < length ys = is_inside ys i x e in
 
 -- ---- statements on tables
 
-pub raised_comes : {A : Type 0} (due : Result A SqlState) (c : Entries) (m : Machine) → IsRaised due c → tried due m ≡ record { given = Raises c; machine = m }
+pub raised_comes : {A : Type 0} (expected : Result A SqlState) (c : Entries) (m : Machine) → IsRaised expected c → tried expected m ≡ record { given = Raises c; machine = m }
 raised_comes (Ok a) c m h = absurd h
 raised_comes {A} (Err s) c m h = ap (λ x. raises {A = A} x m) (sym h)
 
-pub part_comes : {A : Type 0} (due : Result A SqlState) (r : Result A DataFault) (m : Machine) → Answers due r → Evaluates (tried due m) (part_of r) m
-part_comes due (Ok a) m h = ap (λ x. tried x m) h
-part_comes due (Err (fault.Raised c)) m h = raised_comes due c m h
-part_comes due (Err fault.Memory) m h = tt
+pub part_comes : {A : Type 0} (expected : Result A SqlState) (r : Result A DataFault) (m : Machine) → Answers expected r → Evaluates (tried expected m) (part_of r) m
+part_comes expected (Ok a) m h = ap (λ x. tried x m) h
+part_comes expected (Err (fault.Raised c)) m h = raised_comes expected c m h
+part_comes expected (Err fault.Memory) m h = tt
 
 pub answer_comes : (q : Query) (tables : List Contents) (at : Mark → List Contents) (r : Run) (res : Result Answer DataFault) → MayAsk tables r.running.variables.items q
     → IfSome (slice_get tables q.table) (λ c. Answers (answer (over r.running.variables.items) (query_of q) c.rows) res) → Evaluates (answer_of q (machine_of tables at r)) (part_of res) (machine_of tables at r)

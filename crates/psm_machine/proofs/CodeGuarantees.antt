@@ -39,7 +39,7 @@ use Rattle.psm_code.proofs.Queried.{kept_at, well_formed_query, WellFormedQueryC
 use Rattle.psm_code.proofs.Rowing.{inserted_rows}
 use Rattle.psm_code.proofs.Guarantees.{checks_type_check, query_type_checks, sets_type_check, test_given}
 use Rattle.psm_machine.specs.Allowed.{HasTable, MayAsk, MayChange, MayChangeAt, MayDo, MayErase, MayEraseAt, MayMove, MayOpen, MayPut, OfCursor, OverQuery, RunsWellFormed}
-use Rattle.psm_machine.specs.Inserting.{put_due}
+use Rattle.psm_machine.specs.Inserting.{put_expected}
 use Rattle.psm_machine.proofs.Asking.{of_some, some_of}
 
 -- of what may be there
@@ -83,8 +83,8 @@ module _ (code : RawCode) (tables : List Contents) (well_formed_code : first_fau
   pub put_right : (n : ℕ) → MayPut code tables n
   put_right n = if_some (λ t. HasTable code.keys t tables n) (slice_get code.tables n) (λ t e. has_table n t e)
 
-  -- and the tables stay those of the code with the rows that are due
-  pub put_kept : (n : ℕ) (t : CodeTable) (c : Contents) → slice_get code.tables n ≡ Some t → slice_get tables n ≡ Some c → (columns : List ℕ) (rows : List (List Datum)) (changed : Changed) → put_due (are_keyed_with code.keys (rows_in tables) n) t columns rows c ≡ Ok changed
+  -- and the tables stay those of the code with the rows that are expected
+  pub put_kept : (n : ℕ) (t : CodeTable) (c : Contents) → slice_get code.tables n ≡ Some t → slice_get tables n ≡ Some c → (columns : List ℕ) (rows : List (List Datum)) (changed : Changed) → put_expected (are_keyed_with code.keys (rows_in tables) n) t columns rows c ≡ Ok changed
       → AreLawful code (slice_set tables n (record c { rows = changed.rows }))
   put_kept n t c e f columns rows changed q =
       let k = kept_at code.tables tables n t kept.kept e in

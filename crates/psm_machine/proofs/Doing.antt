@@ -5,7 +5,7 @@ use Rattle.psm_cond.specs.declared.item.DiagnosticsArea.{DiagnosticsArea}
 use Rattle.psm_cond.specs.declared.item.StatementItem.{StatementItem}
 use Rattle.psm_exprcode.specs.declared.op.Op.{Op}
 use Rattle.psm_exprcode.specs.declared.operand.Next.{Next}
-use Rattle.psm_exprcode.specs.declared.operand.Next.TheVariants.{Ahead}
+use Rattle.psm_exprcode.specs.declared.operand.Next.TheVariants.{FallThrough}
 use Rattle.psm_code.specs.declared.code.RawCode.{RawCode}
 use Rattle.psm_code.specs.declared.code.RawRoutine.{RawRoutine}
 use Rattle.psm_code.specs.declared.instruction.Instruction.{Instruction}
@@ -49,7 +49,7 @@ leads_stopped successor m now s r e h = subst (λ x. Leads successor m x now) (s
 
 -- after a part that came
 pub goes_after : (came : Came (Unit {0})) (u : Unit {0}) (m now : Machine) (r : Result Outcome Stop) → came ≡ record { given = Got u; machine = m } → Leads fall_through m r now → StepsTo (go_on came.given (λ x. got fall_through) came.machine) r now
-goes_after came u m now r e l = goes_to (go_on came.given (λ x. got fall_through) came.machine) Ahead m now r (ap (λ (x : Came (Unit {0})). go_on x.given (λ y. got fall_through) x.machine) e) l
+goes_after came u m now r e l = goes_to (go_on came.given (λ x. got fall_through) came.machine) FallThrough m now r (ap (λ (x : Came (Unit {0})). go_on x.given (λ y. got fall_through) x.machine) e) l
 
 -- at the first line of an activation
 pub goes_here : (came : Came (Unit {0})) (u : Unit {0}) (m : Machine) → came ≡ record { given = Got u; machine = m } → StepsTo (go_on came.given (λ x. got here) came.machine) (Ok outcome.More) m

@@ -58,10 +58,10 @@ exit_came r k (Block l found) at frames fs m cs callers ts b e c f p t =
     ∙ ap (λ (x : List Contents). record { given = Got tt; machine = with_parts cs fs callers x m }) (sym t)
 exit_came r k (Action h resume c0 rows) at frames fs m cs callers ts b e c f p t = cc
 
-lacks_in : (r : RawRoutine) (k : ℕ) (frames : List code.Frame) (m : code.Machine) → is_innermost k frames ≡ false → exited r k frames m ≡ ends code.Stuck m
-lacks_in r k [] m e = refl
-lacks_in r k (code.InBlock l found ∷ frames) m e = ap (λ x. (if x then change (λ n. with_frames frames (block_left r false k found n)) else ends code.Stuck) m) e
-lacks_in r k (code.InAction h resume area ∷ frames) m e = refl
+stuck_in : (r : RawRoutine) (k : ℕ) (frames : List code.Frame) (m : code.Machine) → is_innermost k frames ≡ false → exited r k frames m ≡ ends code.Stuck m
+stuck_in r k [] m e = refl
+stuck_in r k (code.InBlock l found ∷ frames) m e = ap (λ x. (if x then change (λ n. with_frames frames (block_left r false k found n)) else ends code.Stuck) m) e
+stuck_in r k (code.InAction h resume area ∷ frames) m e = refl
 
-pub exit_lacks : (r : RawRoutine) (k : ℕ) (m : code.Machine) → is_innermost k m.running.frames ≡ false → exit r k m ≡ ends code.Stuck m
-exit_lacks r k m e = lacks_in r k m.running.frames m e
+pub exit_stuck : (r : RawRoutine) (k : ℕ) (m : code.Machine) → is_innermost k m.running.frames ≡ false → exit r k m ≡ ends code.Stuck m
+exit_stuck r k m e = stuck_in r k m.running.frames m e

@@ -93,24 +93,24 @@ found_comes q vars (Some row) m h = items_come q.items vars row m h
 
 plain_comes : (number : ℕ) (q : Query) (p : Position) (vars : List Datum) (x : Result (Option (List Datum) × Position) SqlState) (m : Machine) → HasRows q.items → slice_get m.running.cursors number ≡ Some (Plain p vars)
     → ◌>>=◌ (tried x) (λ found. ◌>>◌ (change (with_cursor number (Plain found.1 vars))) (items_of_found q vars found.0)) m
-    ≡ tried (moved_by q vars p x).due (with_cursor number (Plain (moved_by q vars p x).place vars) m)
+    ≡ tried (moved_by q vars p x).expected (with_cursor number (Plain (moved_by q vars p x).position vars) m)
 plain_comes number q p vars (Ok found) m h e = found_comes q vars found.0 (with_cursor number (Plain found.1 vars) m) h
 plain_comes number q p vars (Err s) m h e = ap (λ n. raises {A = Option (List Datum)} (of_state s) n) (same_cursor number (Plain p vars) m e)
 
--- the act gives what is due, and leaves the cursor where it is due
+-- the act gives what is expected, and leaves the cursor where it is expected
 next_is : (r : RawRoutine) (number : ℕ) (x : CodeCursor) (c : Cursor) (m : Machine) → (may : MayMove r m.tables x c) → is_opened c ≡ true → slice_get m.running.cursors number ≡ Some c
-    → next_of r number x c m ≡ tried (fetched may.query may.table c).due (with_cursor number (fetched may.query may.table c).place m)
+    → next_of r number x c m ≡ tried (fetched may.query may.table c).expected (with_cursor number (fetched may.query may.table c).position m)
 next_is r number x Closed m may o e = absurd (cc)
 next_is r number x (Insensitive []) m may o e = ap (λ n. got {A = Option (List Datum)} None n) (same_cursor number (Insensitive []) m e)
 next_is r number x (Insensitive (row ∷ rows)) m may o e = refl
 next_is r number x (Plain p vars) m may o e =
     rw (may.asked, may.there) (plain_comes number may.query p vars (advanced (over vars) (query_of may.query) may.table.def.key may.table.rows p) m may.type_checks.0.rows e)
 
-fetch_by : (act : Act (Option (List Datum))) (m : Machine) (number : ℕ) (c after : Cursor) (f : Fetch Cursor) (res : Result (Option (List Datum)) DataFault) → act m ≡ tried f.due (with_cursor number f.place m)
+fetch_by : (act : Act (Option (List Datum))) (m : Machine) (number : ℕ) (c after : Cursor) (f : Fetch Cursor) (res : Result (Option (List Datum)) DataFault) → act m ≡ tried f.expected (with_cursor number f.position m)
     → Fetches f c after res → Evaluates (act m) (part_of res) (with_cursor number after m)
-fetch_by act m number c after f (Ok row) e h = e ∙ ap (λ d. tried d (with_cursor number f.place m)) h.0 ∙ ap (λ c. got row (with_cursor number c m)) (sym h.1)
+fetch_by act m number c after f (Ok row) e h = e ∙ ap (λ d. tried d (with_cursor number f.position m)) h.0 ∙ ap (λ c. got row (with_cursor number c m)) (sym h.1)
 fetch_by act m number c after f (Err (fault.Raised x)) e h =
-    e ∙ raised_comes f.due x (with_cursor number f.place m) h.0 ∙ ap (λ c. raises {A = Option (List Datum)} x (with_cursor number c m)) (sym h.1)
+    e ∙ raised_comes f.expected x (with_cursor number f.position m) h.0 ∙ ap (λ c. raises {A = Option (List Datum)} x (with_cursor number c m)) (sym h.1)
 fetch_by act m number c after f (Err fault.Memory) e h = tt
 
 -- the cursor of a number is moved

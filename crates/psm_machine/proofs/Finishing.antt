@@ -100,12 +100,12 @@ module _ (code : RawCode) (n : ℕ) (args : List Datum) (turns : ℕ) (found ent
     ends_well_formed : (f : Finished) → Finishes code (started code n args entry turns) f now → (is_due (end_of f.ending) ≡ true) × AreLawful code now
     ends_well_formed f h =
         let there = from_there f h in
-        let due = run_well_formed code well_formed_code n t.routine t.there args found turns t.many k (end_of f.ending) there.last (record { count = there.count; leads = there.leads }) in
-        (due.0, subst (AreLawful code) there.tables_left due.1)
+        let expected = run_well_formed code well_formed_code n t.routine t.there args found turns t.many k (end_of f.ending) there.last (record { count = there.count; leads = there.leads }) in
+        (expected.0, subst (AreLawful code) there.tables_left expected.1)
 
-    pub ends_due : (r : Result Finished AllocError) → IfOk r (λ f. Finishes code (started code n args entry turns) f now) → IfOk r (λ f. is_due (end_of f.ending) ≡ true)
-    ends_due (Ok f) h = (ends_well_formed f h).0
-    ends_due (Err x) h = tt
+    pub ends_expected : (r : Result Finished AllocError) → IfOk r (λ f. Finishes code (started code n args entry turns) f now) → IfOk r (λ f. is_due (end_of f.ending) ≡ true)
+    ends_expected (Ok f) h = (ends_well_formed f h).0
+    ends_expected (Err x) h = tt
 
     pub kept_on : (r : Result Finished AllocError) → IfOk r (λ f. Finishes code (started code n args entry turns) f now) → leaves_tables r ≡ true → AreLawful code now
     kept_on (Ok f) h l = (ends_well_formed f h).1

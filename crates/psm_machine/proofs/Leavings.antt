@@ -128,14 +128,14 @@ record Lacks (code : RawCode) (m : Machine) : Type 0 where
   is : result code m ≡ ends Stuck last
   as_was : at_end last ≡ at_end m
 
-lacks_result : (code : RawCode) (os : List Operand) (m : Machine) → m.running.operands ≡ os → routine_at code m.running.routine ≡ None → Lacks code m
-lacks_result code [] m q e = record { last = m; is = rw q refl; as_was = refl }
-lacks_result code (Value d ∷ os) m q e = record { last = record m { running = record m.running { operands = os } }; is = rw (q, e) refl; as_was = refl }
-lacks_result code (Truth t ∷ os) m q e = record { last = m; is = rw q refl; as_was = refl }
+stuck_at_result : (code : RawCode) (os : List Operand) (m : Machine) → m.running.operands ≡ os → routine_at code m.running.routine ≡ None → Lacks code m
+stuck_at_result code [] m q e = record { last = m; is = rw q refl; as_was = refl }
+stuck_at_result code (Value d ∷ os) m q e = record { last = record m { running = record m.running { operands = os } }; is = rw (q, e) refl; as_was = refl }
+stuck_at_result code (Truth t ∷ os) m q e = record { last = m; is = rw q refl; as_was = refl }
 
 pub no_routine : (code : RawCode) (m : Machine) → routine_at code m.running.routine ≡ None → EndsWith Stuck (return code m) m
 no_routine code m e =
-    let l = lacks_result code m.running.operands m refl e in (
+    let l = stuck_at_result code m.running.operands m refl e in (
       ap (λ (came : Came Datum). (go_on came.given (λ d. got (returning d)) came.machine).given) l.is,
       ap (λ (came : Came Datum). at_end (go_on came.given (λ d. got (returning d)) came.machine).machine) l.is ∙ l.as_was,
     )

@@ -26,7 +26,7 @@ nested_still holds at new at_new ms n k = nested_by holds new ms (each_map (Stay
 
 -- a mark that is opened is the innermost one
 pub nested_new : (holds : Mark → Type 0) (at : Mark → List Contents) (new : Mark → Type 0) (at_new : Mark → List Contents) (ms : List Mark) (m : Mark) (count : ℕ) →
-    Nested holds ms → Keeps AnyMark holds at new at_new → ((o : Mark) → holds o → o.depth < count) → m.depth ≡ count → ((o : Mark) → holds o → o.place ≤ m.place) → new m → Nested new (m ∷ ms)
+    Nested holds ms → Keeps AnyMark holds at new at_new → ((o : Mark) → holds o → o.depth < count) → m.depth ≡ count → ((o : Mark) → holds o → o.position ≤ m.position) → new m → Nested new (m ∷ ms)
 nested_new holds at new at_new ms m count n k below e last h = (
   h,
   each_map holds (IsOutside m) ms (λ o p. (subst (λ x. o.depth < x) (sym e) (below o p), last o p)) (nested_each holds ms n),

@@ -84,13 +84,13 @@ then_leaves n t number c moved = do
   leaves n t moved.rows 1
   leave_row moved.moved number c
 
-moved_by : (t : Contents) (due : Result Moved Failure) (number : ℕ) (c : Cursor) (n : ℕ) (old : List Contents) (at : Mark → List Contents) (r : Run) (new : List Contents) (res : Result Bool DataFault)
-    → EndsAt t due old n new res → Moves (◌>>=◌ (unless_failed t.def due) (then_leaves n t number c)) number c old at r new (part_of res)
-moved_by t due number c n old at r new (Ok b) h =
+moved_by : (t : Contents) (expected : Result Moved Failure) (number : ℕ) (c : Cursor) (n : ℕ) (old : List Contents) (at : Mark → List Contents) (r : Run) (new : List Contents) (res : Result Bool DataFault)
+    → EndsAt t expected old n new res → Moves (◌>>=◌ (unless_failed t.def expected) (then_leaves n t number c)) number c old at r new (part_of res)
+moved_by t expected number c n old at r new (Ok b) h =
     ap (λ d. ◌>>=◌ (unless_failed t.def d) (then_leaves n t number c) (machine_of old at r)) h.1 ∙ ap (λ tables. leave_row b number c (machine_of tables at (counting 1 r))) (sym h.2)
-moved_by t due number c n old at r new (Err (fault.Raised e)) h =
-    stopped_by t.def due (then_leaves n t number c) e (machine_of old at r) (machine_of new at r) h.0 (ap (λ tables. machine_of tables at r) (sym h.1))
-moved_by t due number c n old at r new (Err fault.Memory) h = tt
+moved_by t expected number c n old at r new (Err (fault.Raised e)) h =
+    stopped_by t.def expected (then_leaves n t number c) e (machine_of old at r) (machine_of new at r) h.0 (ap (λ tables. machine_of tables at r) (sym h.1))
+moved_by t expected number c n old at r new (Err fault.Memory) h = tt
 
 update_is : (code : RawCode) (r : RawRoutine) (number : ℕ) (sets : List SetItem) (x : CodeCursor) (q : Query) (t : CodeTable) (c : Cursor) (o : Contents) (row : List Datum) (old : List Contents) (at : Mark → List Contents) (run : Run)
     → slice_get r.cursors number ≡ Some x → slice_get r.queries x.query ≡ Some q → slice_get code.tables q.table ≡ Some t → slice_get old q.table ≡ Some o → slice_get run.running.cursors.items number ≡ Some c → current_row o c ≡ Some row
@@ -109,11 +109,11 @@ moves code r number sets x q t c key other old new at run res d a b h s z k j f 
     let i = subst (λ (d : Contents). IsSome (keyed d key)) (same_some (slice_get old q.table) other o z h.there) j in
     let row = some_there (keyed o key) i in
     let current = sym (current_found o c key k) ∙ row.1 in
-    let due : Schema (List Line) → Result Moved Failure = λ s. updated_row (over vars) plain s (map set_item sets) row.0 o.rows in
+    let expected : Schema (List Line) → Result Moved Failure = λ s. updated_row (over vars) plain s (map set_item sets) row.0 o.rows in
     let ended = of_some (λ d. EndsAtRow d (λ row. updated_row (over vars) plain (ends.keyed_schema code.keys old q.table d.def t.checks) (map set_item sets) row d.rows) (keyed d key) old q.table new res) (slice_get old q.table) o h.there f in
     let here = subst (λ z. EndsAtRow o (λ row. updated_row (over vars) plain (ends.keyed_schema code.keys old q.table o.def t.checks) (map set_item sets) row o.rows) z old q.table new res) row.1 ended in
-    let act : TableDef → Schema (List Line) → Act (Unit {0}) = λ e s. ◌>>=◌ (unless_failed e (due s)) (then_leaves q.table o number c) in
-    let done = moved_by o (due (ends.keyed_schema code.keys old q.table o.def t.checks)) number c q.table old at run new res here in
+    let act : TableDef → Schema (List Line) → Act (Unit {0}) = λ e s. ◌>>=◌ (unless_failed e (expected s)) (then_leaves q.table o number c) in
+    let done = moved_by o (expected (ends.keyed_schema code.keys old q.table o.def t.checks)) number c q.table old at run new res here in
     let named = subst (λ e. Moves (act e (ends.keyed_schema code.keys old q.table o.def t.checks)) number c old at run new (part_of res)) h.kept.same done in
     let ruled = subst (λ s. Moves (act t.definition s) number c old at run new (part_of res)) (schema_same code.keys old q.table t o.def h.kept.same) named in
     moves_like (update_at code r number sets) (act t.definition (schema_of (are_keyed_with code.keys (rows_in old) q.table) t)) number c old at run new (part_of res) (update_is code r number sets x q t c o row.0 old at run d a b h.there s current) ruled
@@ -130,13 +130,13 @@ abbrev pub gone_by : Result (Unit {0}) Stop → Result Bool Stop
 gone_by (Ok u) = Ok true
 gone_by (Err s) = Err s
 
-erased_by : (t : Contents) (due : Result (List (List Datum)) Failure) (number : ℕ) (c : Cursor) (n : ℕ) (old : List Contents) (at : Mark → List Contents) (r : Run) (new : List Contents) (res : Result (Unit {0}) DataFault)
-    → EndsErased t due old n new res → Moves (◌>>=◌ (unless_failed t.def due) (erasing n t number c)) number c old at r new (gone_by (part_of res))
-erased_by t due number c n old at r new (Ok u) h =
+erased_by : (t : Contents) (expected : Result (List (List Datum)) Failure) (number : ℕ) (c : Cursor) (n : ℕ) (old : List Contents) (at : Mark → List Contents) (r : Run) (new : List Contents) (res : Result (Unit {0}) DataFault)
+    → EndsErased t expected old n new res → Moves (◌>>=◌ (unless_failed t.def expected) (erasing n t number c)) number c old at r new (gone_by (part_of res))
+erased_by t expected number c n old at r new (Ok u) h =
     ap (λ d. ◌>>=◌ (unless_failed t.def d) (erasing n t number c) (machine_of old at r)) h.1 ∙ ap (λ tables. leave_row true number c (machine_of tables at (counting 1 r))) (sym h.2)
-erased_by t due number c n old at r new (Err (fault.Raised e)) h =
-    stopped_by t.def due (erasing n t number c) e (machine_of old at r) (machine_of new at r) h.0 (ap (λ tables. machine_of tables at r) (sym h.1))
-erased_by t due number c n old at r new (Err fault.Memory) h = tt
+erased_by t expected number c n old at r new (Err (fault.Raised e)) h =
+    stopped_by t.def expected (erasing n t number c) e (machine_of old at r) (machine_of new at r) h.0 (ap (λ tables. machine_of tables at r) (sym h.1))
+erased_by t expected number c n old at r new (Err fault.Memory) h = tt
 
 delete_is : (code : RawCode) (r : RawRoutine) (number : ℕ) (x : CodeCursor) (q : Query) (y : CodeTable) (c : Cursor) (t : Contents) (row : List Datum) (old : List Contents) (at : Mark → List Contents) (run : Run)
     → slice_get r.cursors number ≡ Some x → slice_get r.queries x.query ≡ Some q → slice_get code.tables q.table ≡ Some y → slice_get old q.table ≡ Some t → slice_get run.running.cursors.items number ≡ Some c → current_row t c ≡ Some row
@@ -152,10 +152,10 @@ erases code r number x q y c t key row old new at run res d a b h e s f k l =
     let kept : IsKept y t = subst (IsKept y) (same_some (slice_get old q.table) h.contents t h.there e) h.kept in
     let legal : IsLegal plain (ends.schema_of t.def y.checks) t.rows = subst (λ s. IsLegal plain s t.rows) (sym (schema_alone y t.def kept.same)) kept.legal in
     let own = ends.keyed_schema code.keys old q.table t.def y.checks in
-    let due : Schema (List Line) → Result (List (List Datum)) Failure = λ s. deleted_row plain s row t.rows in
-    let act : TableDef → Schema (List Line) → Act (Unit {0}) = λ e s. ◌>>=◌ (unless_failed e (due s)) (erasing q.table t number c) in
+    let expected : Schema (List Line) → Result (List (List Datum)) Failure = λ s. deleted_row plain s row t.rows in
+    let act : TableDef → Schema (List Line) → Act (Unit {0}) = λ e s. ◌>>=◌ (unless_failed e (expected s)) (erasing q.table t number c) in
     let ended = of_some (ErasesByRules code.keys key old q.table new res) (slice_get old q.table) t e l row k y.checks legal in
-    let done = erased_by t (due own) number c q.table old at run new res ended in
+    let done = erased_by t (expected own) number c q.table old at run new res ended in
     let named = subst (λ e. Moves (act e own) number c old at run new (gone_by (part_of res))) kept.same done in
     let ruled = subst (λ s. Moves (act y.definition s) number c old at run new (gone_by (part_of res))) (schema_same code.keys old q.table y t.def kept.same) named in
     moves_like (delete_at code r number) (act y.definition (schema_of (are_keyed_with code.keys (rows_in old) q.table) y)) number c old at run new (gone_by (part_of res)) (delete_is code r number x q y c t row old at run d a b e s f) ruled

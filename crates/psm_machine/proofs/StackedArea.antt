@@ -41,8 +41,8 @@ module _ (tables : List Contents) (at : Mark → List Contents) (r : Run) where
   stacked_is o e = area_is at (reverse r.running.frames.items) (machine_of tables at r) ∙ ap (λ x. given_of x (machine_of tables at r)) e
 
   -- without one a condition is raised
-  pub lacks_area : (A : Type 0) (go : Diagnostics → Act A) (s : Stop) → stacked_in r ≡ None → StopsAt (codes "0Z002") s → Evaluates (◌>>=◌ stacked_area go (machine_of tables at r)) (Err s) (machine_of tables at r)
-  lacks_area A go s e k =
+  pub stuck_at_area : (A : Type 0) (go : Diagnostics → Act A) (s : Stop) → stacked_in r ≡ None → StopsAt (codes "0Z002") s → Evaluates (◌>>=◌ stacked_area go (machine_of tables at r)) (Err s) (machine_of tables at r)
+  stuck_at_area A go s e k =
       let m = machine_of tables at r in
       subst (λ (came : Came Diagnostics). Evaluates (go_on came.given go came.machine) (Err s) m) (sym (stacked_is None e)) (raises_comes A (codes "0Z002") m s k)
 

@@ -4,7 +4,7 @@ use Rattle.psm_table.specs.Table.{Contents}
 use Rattle.psm_store.specs.declared.store.Mark.{Mark}
 use Rattle.psm_store.specs.Marks.{AnyMark, IsNewMark, IsOutside, Keeps}
 use Rattle.psm_unwind.specs.declared.run.Run.{Run}
-use Rattle.psm_unwind.specs.Marks.{Around, Nested, SameFrames, Stays, Unwinds, marks_in, marks_of, open_marks}
+use Rattle.psm_unwind.specs.Marks.{Encloses, Nested, SameFrames, Stays, Unwinds, marks_in, marks_of, open_marks}
 use Rattle.psm_unwind.proofs.Nestings.{each_right}
 use Rattle.psm_unwind.proofs.Unwinding.{stand_unwound}
 use Rattle.psm_machine.specs.Successors.{SameMarks, StandStill}
@@ -25,7 +25,7 @@ still_marks holds at count r new s = record {
     counted = omega (arith, s.bound, m.counted);
     most = omega (arith, s.bound, m.most);
   };
-  outer = λ m h a. ((h, refl), subst (λ (x : List Mark). Around x m) (sym s.marks) a);
+  outer = λ m h a. ((h, refl), subst (λ (x : List Mark). Encloses x m) (sym s.marks) a);
 }
 
 -- where the frames stay
@@ -37,7 +37,7 @@ pub still_unwound : (h0 : Mark → Type 0) (at0 : Mark → List Contents) (count
     Unwinds h0 at0 count0 tables0 r h1 at1 count1 tables1 new → StandStill h0 at0 count0 r h1 at1 count1 new
 still_unwound h0 at0 count0 tables0 r h1 at1 count1 tables1 new u = record {
   stand = λ s. stand_unwound h0 at0 count0 tables0 r h1 at1 count1 tables1 new s u;
-  outer = λ m h a. (u.leaves.keeps m h a, each_right (λ x. IsOutside x m) u.leaves.gone (open_marks new) (subst (λ (x : List Mark). Around x m) u.leaves.split a));
+  outer = λ m h a. (u.leaves.keeps m h a, each_right (λ x. IsOutside x m) u.leaves.gone (open_marks new) (subst (λ (x : List Mark). Encloses x m) u.leaves.split a));
 }
 
 -- where the run goes on from one to the other
@@ -53,5 +53,5 @@ still_then h0 at0 count0 r0 h1 at1 count1 r1 h2 at2 count2 r2 s t = record {
 
 -- a mark that is opened is inside all others
 pub outer_new : (holds : Mark → Type 0) (at : Mark → List Contents) (new : Mark → Type 0) (at_new : Mark → List Contents) (count : ℕ) (tables : List Contents) (ms : List Mark) (n : Mark) →
-    Keeps AnyMark holds at new at_new → ((o : Mark) → holds o → o.depth < count) → IsNewMark count tables holds new at_new n → (m : Mark) → holds m → Around ms m → Stays at new at_new m × Around (n ∷ ms) m
+    Keeps AnyMark holds at new at_new → ((o : Mark) → holds o → o.depth < count) → IsNewMark count tables holds new at_new n → (m : Mark) → holds m → Encloses ms m → Stays at new at_new m × Encloses (n ∷ ms) m
 outer_new holds at new at_new count tables ms n k below i m h a = (k m h tt, ((subst (λ x. m.depth < x) (sym i.deepest) (below m h), i.last m h), a))

@@ -17,7 +17,7 @@ use Rattle.psm_machine.specs.declared.stop.Stop.TheVariants as stop
 abbrev pub EndsWith : {A : Type 0} → code.End → Came A → code.Machine → Type 0
 EndsWith e came now = (came.given ≡ Ends e) × (at_end came.machine ≡ at_end now)
 
--- what is due comes, with the machine as it is now; memory may always run out
+-- what is expected comes, with the machine as it is now; memory may always run out
 abbrev pub Evaluates : {A : Type 0} → Came A → Result A Stop → code.Machine → Type 0
 Evaluates came (Ok a) now = came ≡ record { given = Got a; machine = now }
 Evaluates came (Err (stop.Raises c)) now = came ≡ record { given = Raises c; machine = now }
@@ -31,10 +31,10 @@ Does act r result new = (tables : List Contents) (at : Mark → List Contents) �
 
 -- that condition is to be raised; memory may always run out
 abbrev pub StopsWith : Entries → Stop → Type 0
-StopsWith due (stop.Raises c) = c ≡ due
-StopsWith due stop.NoTurns = ⊥
-StopsWith due stop.Stuck = ⊥
-StopsWith due stop.Memory = Unit {0}
+StopsWith expected (stop.Raises c) = c ≡ expected
+StopsWith expected stop.NoTurns = ⊥
+StopsWith expected stop.Stuck = ⊥
+StopsWith expected stop.Memory = Unit {0}
 
 -- the condition of an SQLSTATE alone
 abbrev pub StopsAt : SqlState → Stop → Type 0
@@ -45,10 +45,10 @@ abbrev pub Fails : ValueFault → Stop → Type 0
 Fails (value.Condition state) s = StopsAt state s
 Fails value.Memory s = s ≡ stop.Memory
 
--- an operation on values ends in what is due
+-- an operation on values ends in what is expected
 abbrev pub Tries : {A : Type 0} → Result A SqlState → Result A Stop → Type 0
-Tries due result = (m : code.Machine) → Evaluates (tried due m) result m
+Tries expected result = (m : code.Machine) → Evaluates (tried expected m) result m
 
--- an act that changes nothing ends in what is due
+-- an act that changes nothing ends in what is expected
 abbrev pub Finds : {A : Type 0} → Act A → Result A Stop → Type 0
 Finds act result = (m : code.Machine) → Evaluates (act m) result m

@@ -15,7 +15,7 @@ use Rattle.psm_machine.specs.declared.stop.Stop.{Stop}
 use Rattle.psm_machine.specs.declared.stop.Stop.TheVariants as stop
 use Rattle.psm_machine.specs.ActResults.{Evaluates}
 
--- an act on a run over tables ends in what is due, with the run and the tables as they are now, whatever the marks stand for
+-- an act on a run over tables ends in what is expected, with the run and the tables as they are now, whatever the marks stand for
 abbrev pub DoesOver : {A : Type 0} → List Contents → Act A → Run → Result A Stop → List Contents → Run → Type 0
 DoesOver tables act r result now new = (at : Mark → List Contents) → Evaluates (act (machine_of tables at r)) result (machine_of now at new)
 

@@ -17,7 +17,7 @@ use Rattle.psm_unwind.specs.declared.ending.Ending.TheVariants as ending
 use Rattle.psm_unwind.specs.declared.ending.Outcome.{Outcome}
 use Rattle.psm_unwind.specs.declared.ending.Outcome.TheVariants as outcome
 use Rattle.psm_unwind.specs.declared.run.Run.{Run}
-use Rattle.psm_unwind.specs.Marks.{Around, Stays, open_marks}
+use Rattle.psm_unwind.specs.Marks.{Encloses, Stays, open_marks}
 use Rattle.psm_unwind.specs.View.{LeadsTo, end_of, machine_of}
 use Rattle.psm_machine.specs.declared.running.Beginning.{Beginning}
 use Rattle.psm_machine.specs.declared.running.Beginning.TheVariants.{Runs, Over}
@@ -32,10 +32,10 @@ first_activation code n args = do
   parameters ← entered r.parameters args
   got (activation n r parameters)
 
--- whatever the tables are, a run begins as is due; or it is over, before anything has changed
+-- whatever the tables are, a run begins as expected; or it is over, before anything has changed
 abbrev pub Begins : (List Contents → state.Stepped) → ℕ → Beginning → Type 0
-Begins due turns (Runs r) = (tables : List Contents) (at : Mark → List Contents) → due tables ≡ state.More (machine_of tables at r)
-Begins due turns (Over e) = (tables : List Contents) → due tables ≡ state.Over (end_of e) (before_start turns tables)
+Begins expected turns (Runs r) = (tables : List Contents) (at : Mark → List Contents) → expected tables ≡ state.More (machine_of tables at r)
+Begins expected turns (Over e) = (tables : List Contents) → expected tables ≡ state.Over (end_of e) (before_start turns tables)
 
 -- what is always true of a machine is true where a run begins over the tables of the code
 abbrev pub BeginsWellFormed : RawCode → Beginning → Type 0
@@ -87,7 +87,7 @@ following (state.Raised c) found last = last
 following state.NoTurns found last = found
 following state.Stuck found last = found
 
--- a run of a routine reaches that end, with n turns left, and leaves the tables that are due
+-- a run of a routine reaches that end, with n turns left, and leaves the tables that are expected
 pub record RunsTo (code : RawCode) (n : ℕ) (args : List Datum) (found : List Contents) (turns : ℕ) (f : Finished) (now : List Contents) : Type 0 where
   pub last : state.Machine
   pub ran : Ran code n args found turns (end_of f.ending) last
@@ -107,4 +107,4 @@ leaves_tables (Err e) = false
 
 -- marks outside all that a run has open stay
 abbrev pub StayAround : (Mark → Type 0) → (Mark → List Contents) → Run → (Mark → Type 0) → (Mark → List Contents) → Type 0
-StayAround holds at r holds_new at_new = (m : Mark) → holds m → Around (open_marks r) m → Stays at holds_new at_new m
+StayAround holds at r holds_new at_new = (m : Mark) → holds m → Encloses (open_marks r) m → Stays at holds_new at_new m

@@ -28,7 +28,7 @@ use Rattle.psm_unwind.specs.declared.ending.Outcome.{Outcome}
 use Rattle.psm_unwind.specs.declared.ending.Outcome.TheVariants as outcome
 use Rattle.psm_unwind.specs.declared.run.Run.{Run}
 use Rattle.psm_unwind.specs.Actions.{item_of}
-use Rattle.psm_unwind.specs.Marks.{Around, MarksStand, Stays, open_marks}
+use Rattle.psm_unwind.specs.Marks.{Encloses, MarksStand, Stays, open_marks}
 use Rattle.psm_unwind.specs.View.{LeadsTo, machine_of}
 use Rattle.psm_machine.specs.declared.stop.Stop.{Stop}
 use Rattle.psm_machine.specs.declared.stop.Stop.TheVariants as stop
@@ -40,7 +40,7 @@ use Rattle.psm_machine.specs.ActResults.{Evaluates, EndsWith}
 abbrev pub bare : code.Machine → code.Machine
 bare m = with_running (λ a. record a { operands = [] }) m
 
--- what is due comes, and the run goes on at the line that is due; what a condition drops may be gone
+-- what is expected comes, and the run goes on at the line that is expected; what a condition drops may be gone
 abbrev pub GoesTo : Came Successor → Result Next Stop → code.Machine → Type 0
 GoesTo came (Ok next) now = came ≡ record { given = Got (successor_of next); machine = now }
 GoesTo came (Err (stop.Raises c)) now = (came.given ≡ Raises c) × (bare came.machine ≡ bare now)
@@ -52,7 +52,7 @@ GoesTo came (Err stop.Memory) now = Unit {0}
 abbrev pub GoesOn : Act Successor → Run → Result Next Stop → Run → Type 0
 GoesOn act r result new = (tables : List Contents) (at : Mark → List Contents) → GoesTo (act (machine_of tables at r)) result (machine_of tables at new)
 
--- what is due comes, and leads to what is due
+-- what is expected comes, and leads to what is expected
 abbrev pub StepsTo : Came Successor → Result Outcome Stop → code.Machine → Type 0
 StepsTo came (Ok o) now = (successor : Successor) × (came.given ≡ Got successor) × LeadsTo (successor came.machine) o now
 StepsTo came (Err (stop.Raises c)) now = (came.given ≡ Raises c) × (bare came.machine ≡ bare now)
@@ -64,7 +64,7 @@ StepsTo came (Err stop.Memory) now = Unit {0}
 abbrev pub StepsOn : Act Successor → Run → Result Outcome Stop → Run → Type 0
 StepsOn act r result new = (tables : List Contents) (at : Mark → List Contents) → StepsTo (act (machine_of tables at r)) result (machine_of tables at new)
 
--- a way leads to what is due; memory may always run out
+-- a way leads to what is expected; memory may always run out
 abbrev pub Leads : Successor → code.Machine → Result Outcome Stop → code.Machine → Type 0
 Leads successor m (Ok o) now = LeadsTo (successor m) o now
 Leads successor m (Err s) now = s ≡ stop.Memory
@@ -137,7 +137,7 @@ abbrev pub goes_more : Result (Unit {0}) Stop → Result Outcome Stop
 goes_more (Ok u) = Ok outcome.More
 goes_more (Err s) = Err s
 
--- an act ends in what is due, as it is seen
+-- an act ends in what is expected, as it is seen
 abbrev pub Gives : {A B : Type 0} → (B → A) → Act A → Run → Result B Stop → Run → Type 0
 Gives view act r result new = (tables : List Contents) (at : Mark → List Contents) → Evaluates (act (machine_of tables at r)) (result_map_both view (λ s. s) result) (machine_of tables at new)
 
@@ -191,4 +191,4 @@ pub record SameMarks (r new : Run) : Type 0 where
 -- outside all of them still. So who holds such a mark can put the tables back, whatever an instruction ends in.
 pub record StandStill (holds : Mark → Type 0) (at : Mark → List Contents) (count : ℕ) (r : Run) (holds_new : Mark → Type 0) (at_new : Mark → List Contents) (count_new : ℕ) (new : Run) : Type 0 where
   pub stand : MarksStand holds count r → MarksStand holds_new count_new new
-  pub outer : (m : Mark) → holds m → Around (open_marks r) m → Stays at holds_new at_new m × Around (open_marks new) m
+  pub outer : (m : Mark) → holds m → Encloses (open_marks r) m → Stays at holds_new at_new m × Encloses (open_marks new) m

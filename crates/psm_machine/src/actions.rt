@@ -13,10 +13,10 @@ use psm_cond::{Handler, HandlerKind};
 use psm_exprcode::Next;
 use psm_unwind::{Frame, Run, block_at, handler_at, leave_action};
 
-/// Ends the action of a handler, whose frame has to be the innermost one, and tells where the run goes on: after the statement for
+/// Ends the action of a handler, whose frame has to be the innermost one, and answers where the run goes on: after the statement for
 /// CONTINUE, and at the end of the handler's block for EXIT and UNDO. The area is again what it was when the handler was activated.
 pub fn end_action(routine: &RawRoutine, run: &mut Run, number: u32) -> Result<Next, Stop>
-    ensures due { GoesOn (end_action routine.now number) run.old result run.new }
+    ensures expected { GoesOn (end_action routine.now number) run.old result run.new }
     ensures marks { SameMarks run.old run.new }
     ensures callers { run.new.callers ≡ run.old.callers }
 {

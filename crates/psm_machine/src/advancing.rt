@@ -26,7 +26,7 @@ use psm_store::Store;
 use psm_unwind::{Outcome, Run, routine_at};
 use std::alloc::{AllocError, Global};
 
-/// Does the instructions that come next up to the first that isn't a common one, and that one too; tells how the run has ended, if it
+/// Does the instructions that come next up to the first that isn't a common one, and that one too; answers how the run has ended, if it
 /// has, with the turns that there were before its last instruction.
 ///
 /// Most lines are common ones, which touch neither a table nor a block. The run goes from one to the other without a look at what it
@@ -43,7 +43,7 @@ pub fn advance<S: Store>(
     requires numbered { All (λ r. IsTrue (is_numbered r.handlers)) code.now.routines }
     requires machine_invariant { MachineInvariant code.now (machine_of (S.tables store.old) (S.at store.old) run.old) }
     requires stand { MarksStand (S.holds store.old) (S.marks store.old) run.old }
-    ensures due { IfOk result (λ f. Advances code.now (machine_of (S.tables store.old) (S.at store.old) run.old) f (machine_of (S.tables store.new) (S.at store.new) run.new)) }
+    ensures expected { IfOk result (λ f. Advances code.now (machine_of (S.tables store.old) (S.at store.old) run.old) f (machine_of (S.tables store.new) (S.at store.new) run.new)) }
     ensures still { StandStill (S.holds store.old) (S.at store.old) (S.marks store.old) run.old (S.holds store.new) (S.at store.new) (S.marks store.new) run.new }
 {
     let Some(routine) = routine_at(code, run.running.routine) else {
@@ -74,7 +74,7 @@ fn one_more<S: Store>(
     requires numbered { All (λ r. IsTrue (is_numbered r.handlers)) code.now.routines }
     requires machine_invariant { MachineInvariant code.now (machine_of (S.tables store.old) (S.at store.old) run.old) }
     requires stand { MarksStand (S.holds store.old) (S.marks store.old) run.old }
-    ensures due { IfOk result (λ f. AfterStep (step code.now (machine_of (S.tables store.old) (S.at store.old) run.old)) f (machine_of (S.tables store.old) (S.at store.old) run.old) (machine_of (S.tables store.new) (S.at store.new) run.new)) }
+    ensures expected { IfOk result (λ f. AfterStep (step code.now (machine_of (S.tables store.old) (S.at store.old) run.old)) f (machine_of (S.tables store.old) (S.at store.old) run.old) (machine_of (S.tables store.new) (S.at store.new) run.new)) }
     ensures still { StandStill (S.holds store.old) (S.at store.old) (S.marks store.old) run.old (S.holds store.new) (S.at store.new) (S.marks store.new) run.new }
 {
     let turns = run.turns;
@@ -114,7 +114,7 @@ fn follow(
     requires common { is_common instruction.now ≡ true }
     requires types { All IsType (slots_of routine.now) }
     requires needs { FindsNeeds instruction.now run.old.operands.own run.old.running.variables.items }
-    ensures due { (code : CodeValue) → StepsOn (done code routine.now instruction.now) run.old (goes_more result) run.new }
+    ensures expected { (code : CodeValue) → StepsOn (done code routine.now instruction.now) run.old (goes_more result) run.new }
     ensures same { SameFrames run.old run.new }
     ensures routine { run.new.running.routine ≡ run.old.running.routine }
 {
@@ -125,15 +125,15 @@ fn follow(
         }
         Instruction::Clear => {
             clear(run);
-            go_to(run, Next::Ahead)
+            go_to(run, Next::FallThrough)
         }
         Instruction::Store(slot) => {
             store_in(alloc, routine, run, *slot)?;
-            go_to(run, Next::Ahead)
+            go_to(run, Next::FallThrough)
         }
         Instruction::Turn => {
             turn(run)?;
-            go_to(run, Next::Ahead)
+            go_to(run, Next::FallThrough)
         }
         _ => Err(Stop::Stuck),
     }

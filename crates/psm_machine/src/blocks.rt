@@ -7,7 +7,7 @@ ghost use Rattle.psm_code.specs.Raising.{is_block};
 ghost use Rattle.psm_code.specs.Run.{enter, exit, with_frames};
 ghost use Rattle.psm_code.specs.State.{InBlock};
 ghost use Rattle.psm_code.specs.Steps.{change};
-ghost use Rattle.psm_unwind.specs.Marks.{Around, MarksStand, Nested, Stays, Unwinds, open_marks};
+ghost use Rattle.psm_unwind.specs.Marks.{Encloses, MarksStand, Nested, Stays, Unwinds, open_marks};
 ghost use Rattle.psm_unwind.specs.View.{frame_of, frames_of, machine_of};
 ghost use Rattle.psm_machine.specs.ActResults.{Evaluates, Does};
 ghost use Rattle.psm_machine.specs.Successors.{SameMarks, StandStill};
@@ -33,7 +33,7 @@ pub fn enter<S: Store>(
     context: u32,
 ) -> Result<(), Stop>
     requires { MarksStand (S.holds store.old) (S.marks store.old) run.old }
-    ensures due { Evaluates (enter routine.now context (machine_of (S.tables store.old) (S.at store.old) run.old)) result (machine_of (S.tables store.new) (S.at store.new) run.new) }
+    ensures expected { Evaluates (enter routine.now context (machine_of (S.tables store.old) (S.at store.old) run.old)) result (machine_of (S.tables store.new) (S.at store.new) run.new) }
     ensures stand { MarksStand (S.holds store.new) (S.marks store.new) run.new }
     ensures keeps { Keeps AnyMark (S.holds store.old) (S.at store.old) (S.holds store.new) (S.at store.new) }
     ensures still { StandStill (S.holds store.old) (S.at store.old) (S.marks store.old) run.old (S.holds store.new) (S.at store.new) (S.marks store.new) run.new }
@@ -53,7 +53,7 @@ pub fn enter<S: Store>(
 
 // Enters a block that isn't ATOMIC.
 fn enter_plain(run: &mut Run, context: u32) -> Result<(), Stop>
-    ensures due { Does (change (λ m. with_frames (InBlock context None ∷ m.running.frames) m)) run.old result run.new }
+    ensures expected { Does (change (λ m. with_frames (InBlock context None ∷ m.running.frames) m)) run.old result run.new }
     ensures marks { SameMarks run.old run.new }
     ensures callers { run.new.callers ≡ run.old.callers }
 {
@@ -72,10 +72,10 @@ fn enter_atomic<S: Store>(
     context: u32,
 ) -> Result<(), Stop>
     requires { MarksStand (S.holds store.old) (S.marks store.old) run.old }
-    ensures due { Evaluates (change (λ m. with_frames (InBlock context (Some m.tables) ∷ m.running.frames) m) (machine_of (S.tables store.old) (S.at store.old) run.old)) result (machine_of (S.tables store.new) (S.at store.new) run.new) }
+    ensures expected { Evaluates (change (λ m. with_frames (InBlock context (Some m.tables) ∷ m.running.frames) m) (machine_of (S.tables store.old) (S.at store.old) run.old)) result (machine_of (S.tables store.new) (S.at store.new) run.new) }
     ensures stand { MarksStand (S.holds store.new) (S.marks store.new) run.new }
     ensures keeps { Keeps AnyMark (S.holds store.old) (S.at store.old) (S.holds store.new) (S.at store.new) }
-    ensures outer { (m : MarkValue) → S.holds store.old m → Around (open_marks run.old) m → Stays (S.at store.old) (S.holds store.new) (S.at store.new) m × Around (open_marks run.new) m }
+    ensures outer { (m : MarkValue) → S.holds store.old m → Encloses (open_marks run.old) m → Stays (S.at store.old) (S.holds store.new) (S.at store.new) m × Encloses (open_marks run.new) m }
     ensures callers { run.new.callers ≡ run.old.callers }
 {
     if run.marks >= MOST_OPEN {
@@ -102,7 +102,7 @@ pub fn exit<S: Store>(
     context: u32,
 ) -> Result<(), Stop>
     requires { Nested (S.holds store.old) (open_marks run.old) }
-    ensures due { Evaluates (exit routine.now context (machine_of (S.tables store.old) (S.at store.old) run.old)) result (machine_of (S.tables store.new) (S.at store.new) run.new) }
+    ensures expected { Evaluates (exit routine.now context (machine_of (S.tables store.old) (S.at store.old) run.old)) result (machine_of (S.tables store.new) (S.at store.new) run.new) }
     ensures unwinds { Unwinds (S.holds store.old) (S.at store.old) (S.marks store.old) (S.tables store.old) run.old (S.holds store.new) (S.at store.new) (S.marks store.new) (S.tables store.new) run.new }
     ensures still { StandStill (S.holds store.old) (S.at store.old) (S.marks store.old) run.old (S.holds store.new) (S.at store.new) (S.marks store.new) run.new }
 {

@@ -31,7 +31,7 @@ const MOST_DEPTH: usize = 64;
 /// used. The line of the activation that calls stays that of the call.
 pub fn call(alloc: Global, code: &RawCode, run: &mut Run, number: u32) -> Result<(), Stop>
     requires { All (λ r. All IsType (slots_of r)) code.now.routines }
-    ensures due { Does (call code.now number) run.old result run.new }
+    ensures expected { Does (call code.now number) run.old result run.new }
     ensures marks { SameMarks run.old run.new }
 {
     let Some(routine) = routine_at(code, number) else {
@@ -47,7 +47,7 @@ pub fn call(alloc: Global, code: &RawCode, run: &mut Run, number: u32) -> Result
 
 // The arguments for parameters, the last one first.
 fn arguments(alloc: Global, parameters: &[Parameter], run: &mut Run) -> Result<Vec<Datum>, Stop>
-    ensures due { Gives (λ v. reverse v.items) (pops (length (taking parameters.now)) []) run.old result run.new }
+    ensures expected { Gives (λ v. reverse v.items) (pops (length (taking parameters.now)) []) run.old result run.new }
     ensures same { SameFrames run.old run.new }
 {
     let mut arguments = Vec::new(alloc);
@@ -75,7 +75,7 @@ pub(crate) fn entered(
     arguments: Vec<Datum>,
 ) -> Result<Vec<Datum>, Stop>
     requires { All (λ p. IsType p.kind) parameters.now }
-    ensures due { Shows (λ v. v.items) (entered parameters.now (reverse arguments.items)) result }
+    ensures expected { Shows (λ v. v.items) (entered parameters.now (reverse arguments.items)) result }
     ensures long { IfOk result (λ v. length v.items ≡ length parameters.now) }
 {
     let mut arguments = arguments;
@@ -124,7 +124,7 @@ fn begin(
     run: &mut Run,
 ) -> Result<(), Stop>
     requires { length parameters.items ≡ length routine.now.parameters }
-    ensures due { Does (change (calling (activation number routine.now parameters.items))) run.old result run.new }
+    ensures expected { Does (change (calling (activation number routine.now parameters.items))) run.old result run.new }
     ensures marks { SameMarks run.old run.new }
 {
     let activation = activation(alloc, routine, number, parameters)?;
@@ -139,7 +139,7 @@ pub(crate) fn activation(
     parameters: Vec<Datum>,
 ) -> Result<Activation, AllocError>
     requires { length parameters.items ≡ length routine.now.parameters }
-    ensures due { IfOk result (λ a. (at : MarkValue → List Contents) → activation_of at [] a ≡ activation number routine.now parameters.items) }
+    ensures expected { IfOk result (λ a. (at : MarkValue → List Contents) → activation_of at [] a ≡ activation number routine.now parameters.items) }
     ensures frames { IfOk result (λ a. a.frames.items ≡ []) }
 {
     let variables = filled(routine, parameters)?;
@@ -178,7 +178,7 @@ fn closed(alloc: Global, routine: &RawRoutine) -> Result<Vec<Cursor>, AllocError
 
 // An activation runs, and the one that ran waits for it.
 fn go_into(run: &mut Run, activation: Activation) -> Result<(), Stop>
-    ensures due { (tables : List Contents) (at : MarkValue → List Contents) → Evaluates (change (calling (activation_of at [] activation)) (machine_of tables at run.old)) result (machine_of tables at run.new) }
+    ensures expected { (tables : List Contents) (at : MarkValue → List Contents) → Evaluates (change (calling (activation_of at [] activation)) (machine_of tables at run.old)) result (machine_of tables at run.new) }
     ensures marks { activation.frames.items ≡ [] → SameMarks run.old run.new }
 {
     run.operands.begin()?;

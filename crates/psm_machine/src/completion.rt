@@ -26,7 +26,7 @@ pub fn settle<S: Store>(
 ) -> Result<Outcome, AllocError>
     requires well_formed_handlers { HasWellFormedHandlers code.now }
     requires stand { MarksStand (S.holds store.old) (S.marks store.old) run.old }
-    ensures due { (came : Came Successor) → StepsTo came done (machine_of (S.tables store.old) (S.at store.old) run.old) → IfOk result (λ o. LeadsTo (settled code.now came.given came.machine) o (machine_of (S.tables store.new) (S.at store.new) run.new)) }
+    ensures expected { (came : Came Successor) → StepsTo came done (machine_of (S.tables store.old) (S.at store.old) run.old) → IfOk result (λ o. LeadsTo (settled code.now came.given came.machine) o (machine_of (S.tables store.new) (S.at store.new) run.new)) }
     ensures still { StandStill (S.holds store.old) (S.at store.old) (S.marks store.old) run.old (S.holds store.new) (S.at store.new) (S.marks store.new) run.new }
 {
     match done {

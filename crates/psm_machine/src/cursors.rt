@@ -33,7 +33,7 @@ pub fn open<S: Store>(
     number: u32,
 ) -> Result<(), Stop>
     requires { IfSome (slice_get routine.now.cursors number) (MayOpen routine.now (S.tables store.now) run.old.running.variables.items) }
-    ensures due { DoesOver (S.tables store.now) («open» routine.now number) run.old result (S.tables store.now) run.new }
+    ensures expected { DoesOver (S.tables store.now) («open» routine.now number) run.old result (S.tables store.now) run.new }
     ensures same { SameFrames run.old run.new }
 {
     let Some(declared) = declared_at(routine, number) else {
@@ -56,7 +56,7 @@ pub fn open<S: Store>(
 }
 
 fn open_plain(alloc: Global, run: &mut Run, number: u32) -> Result<(), Stop>
-    ensures due { (query : QueryValue) → Does (open_as false number query) run.old result run.new }
+    ensures expected { (query : QueryValue) → Does (open_as false number query) run.old result run.new }
     ensures same { SameFrames run.old run.new }
 {
     let cursor = Cursor::open_plain(alloc, run.running.variables.as_slice())?;
@@ -72,7 +72,7 @@ fn open_insensitive<S: Store>(
     query: &Query,
 ) -> Result<(), Stop>
     requires { MayAsk (S.tables store.now) run.old.running.variables.items query.now }
-    ensures due { DoesOver (S.tables store.now) (open_as true number query.now) run.old result (S.tables store.now) run.new }
+    ensures expected { DoesOver (S.tables store.now) (open_as true number query.now) run.old result (S.tables store.now) run.new }
     ensures same { SameFrames run.old run.new }
 {
     let vars = run.running.variables.as_slice();
@@ -83,7 +83,7 @@ fn open_insensitive<S: Store>(
 
 /// Closes a cursor. 24000 comes where it isn't open.
 pub fn close(alloc: Global, routine: &RawRoutine, run: &mut Run, number: u32) -> Result<(), Stop>
-    ensures due { Does (close routine.now number) run.old result run.new }
+    ensures expected { Does (close routine.now number) run.old result run.new }
     ensures same { SameFrames run.old run.new }
 {
     let Some(declared) = declared_at(routine, number) else {
@@ -109,7 +109,7 @@ pub fn fetch<S: Store>(
     number: u32,
 ) -> Result<(), Stop>
     requires { OfCursor routine.now run.old.running.cursors.items number (MayMove routine.now (S.tables store.now)) }
-    ensures due { DoesOver (S.tables store.now) (fetch routine.now number) run.old result (S.tables store.now) run.new }
+    ensures expected { DoesOver (S.tables store.now) (fetch routine.now number) run.old result (S.tables store.now) run.new }
     ensures same { SameFrames run.old run.new }
 {
     match next_row(alloc, routine, run, store, number)? {
@@ -118,7 +118,7 @@ pub fn fetch<S: Store>(
     }
 }
 
-/// The same of FOR, where no row is no condition. It tells whether there is one; without one the run is to go on at the line that
+/// The same of FOR, where no row is no condition. It answers whether there is one; without one the run is to go on at the line that
 /// the instruction names.
 pub fn next<S: Store>(
     alloc: Global,
@@ -128,7 +128,7 @@ pub fn next<S: Store>(
     number: u32,
 ) -> Result<bool, Stop>
     requires { OfCursor routine.now run.old.running.cursors.items number (MayMove routine.now (S.tables store.now)) }
-    ensures due { (end : ℕ) → DoesOver (S.tables store.now) (next_or_end routine.now number end) run.old (as_successor end result) (S.tables store.now) run.new }
+    ensures expected { (end : ℕ) → DoesOver (S.tables store.now) (next_or_end routine.now number end) run.old (as_successor end result) (S.tables store.now) run.new }
     ensures same { SameFrames run.old run.new }
 {
     match next_row(alloc, routine, run, store, number)? {
@@ -149,7 +149,7 @@ fn next_row<S: Store>(
     number: u32,
 ) -> Result<Option<Row>, Stop>
     requires { OfCursor routine.now run.old.running.cursors.items number (MayMove routine.now (S.tables store.now)) }
-    ensures due { DoesOver (S.tables store.now) (next routine.now number) run.old result (S.tables store.now) run.new }
+    ensures expected { DoesOver (S.tables store.now) (next routine.now number) run.old result (S.tables store.now) run.new }
     ensures same { SameFrames run.old run.new }
 {
     let Some(declared) = declared_at(routine, number) else {
@@ -183,7 +183,7 @@ pub(crate) fn cursor_at(run: &Run, number: u32) -> Option<&Cursor>
 }
 
 fn set_cursor(run: &mut Run, number: u32, cursor: Cursor)
-    ensures due { Does (change (with_cursor number cursor)) run.old (Ok tt) run.new }
+    ensures expected { Does (change (with_cursor number cursor)) run.old (Ok tt) run.new }
     ensures same { SameFrames run.old run.new }
 {
     let at = number as usize;

@@ -20,7 +20,7 @@ pub fn item_of_statement(
     area: DiagnosticsArea,
     item: StatementItem,
 ) -> Result<(), Stop>
-    ensures due { Does (item_of_statement area item) run.old result run.new }
+    ensures expected { Does (item_of_statement area item) run.old result run.new }
     ensures same { SameFrames run.old run.new }
 {
     let value = statement_item_of(alloc, run, area, item)?;

@@ -34,7 +34,7 @@ pub fn end_procedure<S: Store>(
     store: &mut S,
 ) -> Result<Outcome, AllocError>
     requires { Nested (S.holds store.old) (open_marks run.old) }
-    ensures due { IfOk result (λ o. LeadsTo («end» code.now (machine_of (S.tables store.old) (S.at store.old) run.old)) o (machine_of (S.tables store.new) (S.at store.new) run.new)) }
+    ensures expected { IfOk result (λ o. LeadsTo («end» code.now (machine_of (S.tables store.old) (S.at store.old) run.old)) o (machine_of (S.tables store.new) (S.at store.new) run.new)) }
     ensures unwinds { Unwinds (S.holds store.old) (S.at store.old) (S.marks store.old) (S.tables store.old) run.old (S.holds store.new) (S.at store.new) (S.marks store.new) (S.tables store.new) run.new }
     ensures still { StandStill (S.holds store.old) (S.at store.old) (S.marks store.old) run.old (S.holds store.new) (S.at store.new) (S.marks store.new) run.new }
 {
@@ -61,7 +61,7 @@ pub fn return_value<S: Store>(
 ) -> Result<Outcome, Stop>
     requires types { All (λ r. IfSome r.returns IsType) code.now.routines }
     requires nested { Nested (S.holds store.old) (open_marks run.old) }
-    ensures due { StepsTo (return code.now (machine_of (S.tables store.old) (S.at store.old) run.old)) result (machine_of (S.tables store.new) (S.at store.new) run.new) }
+    ensures expected { StepsTo (return code.now (machine_of (S.tables store.old) (S.at store.old) run.old)) result (machine_of (S.tables store.new) (S.at store.new) run.new) }
     ensures unwinds { Unwinds (S.holds store.old) (S.at store.old) (S.marks store.old) (S.tables store.old) run.old (S.holds store.new) (S.at store.new) (S.marks store.new) (S.tables store.new) run.new }
     ensures still { StandStill (S.holds store.old) (S.at store.old) (S.marks store.old) run.old (S.holds store.new) (S.at store.new) (S.marks store.new) run.new }
 {
@@ -85,7 +85,7 @@ fn leave<S: Store>(
     store: &mut S,
 ) -> Result<Outcome, AllocError>
     requires { Nested (S.holds store.old) (open_marks run.old) }
-    ensures due { IfOk result (λ o. LeadsTo (left_values values.items (machine_of (S.tables store.old) (S.at store.old) run.old).callers (cleared (machine_of (S.tables store.old) (S.at store.old) run.old))) o (machine_of (S.tables store.new) (S.at store.new) run.new)) }
+    ensures expected { IfOk result (λ o. LeadsTo (left_values values.items (machine_of (S.tables store.old) (S.at store.old) run.old).callers (cleared (machine_of (S.tables store.old) (S.at store.old) run.old))) o (machine_of (S.tables store.new) (S.at store.new) run.new)) }
     ensures unwinds { Unwinds (S.holds store.old) (S.at store.old) (S.marks store.old) (S.tables store.old) run.old (S.holds store.new) (S.at store.new) (S.marks store.new) (S.tables store.new) run.new }
 {
     match run.callers.pop() {
@@ -113,7 +113,7 @@ fn leave<S: Store>(
 
 // The activation that runs goes on after its call, with these values.
 fn resume(run: &mut Run, values: Vec<Datum>) -> Result<(), AllocError>
-    ensures due { OnOk result ((tables : List Contents) (at : MarkValue → List Contents) → resumed values.items (machine_of tables at run.old) ≡ machine_of tables at run.new) }
+    ensures expected { OnOk result ((tables : List Contents) (at : MarkValue → List Contents) → resumed values.items (machine_of tables at run.old) ≡ machine_of tables at run.new) }
     ensures same { SameFrames run.old run.new }
 {
     let Some(line) = run.running.line.checked_add(1) else {

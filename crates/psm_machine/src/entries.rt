@@ -25,7 +25,7 @@ pub fn item_of_condition(
     area: DiagnosticsArea,
     item: ConditionItem,
 ) -> Result<(), Stop>
-    ensures due { Does (item_of_condition area item) run.old result run.new }
+    ensures expected { Does (item_of_condition area item) run.old result run.new }
     ensures same { SameFrames run.old run.new }
 {
     match area {
@@ -35,7 +35,7 @@ pub fn item_of_condition(
 }
 
 fn current_item(alloc: Global, run: &mut Run, item: ConditionItem) -> Result<(), Stop>
-    ensures due { Does (item_of_condition Current item) run.old result run.new }
+    ensures expected { Does (item_of_condition Current item) run.old result run.new }
     ensures same { SameFrames run.old run.new }
 {
     let number = pop(run)?;
@@ -56,7 +56,7 @@ fn item_at(alloc: Global, area: &Area, number: &Datum, item: ConditionItem) -> R
 
 // Where no action runs there is no stacked area, which raises a condition before the number is taken.
 fn stacked_item(alloc: Global, run: &mut Run, item: ConditionItem) -> Result<(), Stop>
-    ensures due { Does (item_of_condition Stacked item) run.old result run.new }
+    ensures expected { Does (item_of_condition Stacked item) run.old result run.new }
     ensures same { SameFrames run.old run.new }
 {
     if !runs_action(run) {

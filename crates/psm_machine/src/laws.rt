@@ -11,7 +11,7 @@ ghost use Rattle.psm_code.specs.declared.code.RawRoutine.{RawRoutine};
 ghost use Rattle.psm_code.specs.RoutineRules.{first_fault};
 ghost use Rattle.psm_code.specs.MachineInvariant.{AreLawful};
 ghost use Rattle.psm_machine.specs.Allowed.{MayAsk, MayDo, MayMove, MayOpen, MayPut, OfCursor, RunsWellFormed};
-ghost use Rattle.psm_machine.specs.Inserting.{put_due};
+ghost use Rattle.psm_machine.specs.Inserting.{put_expected};
 
 /// A routine of well-formed code, over tables, variables and cursors that are as the code declares them, has what its queries,
 /// its cursors and its plans ask.
@@ -23,8 +23,8 @@ pub fn well_formed_code_may_run()
 {}
 
 /// Rows may be put into each table of well-formed code, over tables that are as the code declares them, and these stay so with
-/// the rows that are due.
+/// the rows that are expected.
 pub fn well_formed_code_may_put()
     ensures puts { (code : RawCode) (tables : List Contents) → first_fault code ≡ None → AreLawful code tables → (n : ℕ) → MayPut code tables n }
-    ensures kept { (code : RawCode) (tables : List Contents) → first_fault code ≡ None → AreLawful code tables → (n : ℕ) (t : CodeTable) (c : Contents) → slice_get code.tables n ≡ Some t → slice_get tables n ≡ Some c → (columns : List ℕ) (rows : List (List Datum)) (changed : Changed) → put_due (are_keyed_with code.keys (rows_in tables) n) t columns rows c ≡ Ok changed → AreLawful code (slice_set tables n (record c { rows = changed.rows })) }
+    ensures kept { (code : RawCode) (tables : List Contents) → first_fault code ≡ None → AreLawful code tables → (n : ℕ) (t : CodeTable) (c : Contents) → slice_get code.tables n ≡ Some t → slice_get tables n ≡ Some c → (columns : List ℕ) (rows : List (List Datum)) (changed : Changed) → put_expected (are_keyed_with code.keys (rows_in tables) n) t columns rows c ≡ Ok changed → AreLawful code (slice_set tables n (record c { rows = changed.rows })) }
 {}

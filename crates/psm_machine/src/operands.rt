@@ -12,7 +12,7 @@ use psm_value::Datum;
 /// Takes the last operand, which is a value.
 #[inline(always)]
 pub fn pop(run: &mut Run) -> Result<Datum, Stop>
-    ensures due { Does pop run.old result run.new }
+    ensures expected { Does pop run.old result run.new }
     ensures same { SameFrames run.old run.new }
     ensures routine { run.new.running.routine ≡ run.old.running.routine }
 {
@@ -24,7 +24,7 @@ pub fn pop(run: &mut Run) -> Result<Datum, Stop>
 
 /// Puts an operand on the others.
 pub fn put(run: &mut Run, operand: Operand) -> Result<(), Stop>
-    ensures due { Does (put operand) run.old result run.new }
+    ensures expected { Does (put operand) run.old result run.new }
     ensures same { SameFrames run.old run.new }
 {
     run.operands.push(operand)?;

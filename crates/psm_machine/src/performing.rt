@@ -43,7 +43,7 @@ pub fn perform<S: Store>(
     requires results { All (λ r. IfSome r.returns IsType) code.now.routines }
     requires other { IsNoOperation instruction.now }
     requires stand { MarksStand (S.holds store.old) (S.marks store.old) run.old }
-    ensures due { StepsTo (done code.now routine.now instruction.now (machine_of (S.tables store.old) (S.at store.old) run.old)) result (machine_of (S.tables store.new) (S.at store.new) run.new) }
+    ensures expected { StepsTo (done code.now routine.now instruction.now (machine_of (S.tables store.old) (S.at store.old) run.old)) result (machine_of (S.tables store.new) (S.at store.new) run.new) }
     ensures still { StandStill (S.holds store.old) (S.at store.old) (S.marks store.old) run.old (S.holds store.new) (S.at store.new) (S.marks store.new) run.new }
 {
     match instruction {
@@ -60,7 +60,7 @@ pub fn perform<S: Store>(
 }
 
 fn finish_action(routine: &RawRoutine, run: &mut Run, number: u32) -> Result<Outcome, Stop>
-    ensures due { StepsOn (action_end routine.now number) run.old result run.new }
+    ensures expected { StepsOn (action_end routine.now number) run.old result run.new }
     ensures marks { SameMarks run.old run.new }
 {
     let next = end_action(routine, run, number)?;
@@ -69,7 +69,7 @@ fn finish_action(routine: &RawRoutine, run: &mut Run, number: u32) -> Result<Out
 
 fn call_on(alloc: Global, code: &RawCode, run: &mut Run, number: u32) -> Result<Outcome, Stop>
     requires { All (λ r. All IsType (slots_of r)) code.now.routines }
-    ensures due { StepsOn (call_from code.now number) run.old result run.new }
+    ensures expected { StepsOn (call_from code.now number) run.old result run.new }
     ensures marks { SameMarks run.old run.new }
 {
     call(alloc, code, run, number)?;
@@ -86,7 +86,7 @@ fn plain<S: Store>(
 ) -> Result<(), Stop>
     requires own { All IsType (slots_of routine.now) }
     requires stand { MarksStand (S.holds store.old) (S.marks store.old) run.old }
-    ensures due { Evaluates (plain_act routine.now instruction.now (machine_of (S.tables store.old) (S.at store.old) run.old)) result (machine_of (S.tables store.new) (S.at store.new) run.new) }
+    ensures expected { Evaluates (plain_act routine.now instruction.now (machine_of (S.tables store.old) (S.at store.old) run.old)) result (machine_of (S.tables store.new) (S.at store.new) run.new) }
     ensures still { StandStill (S.holds store.old) (S.at store.old) (S.marks store.old) run.old (S.holds store.new) (S.at store.new) (S.marks store.new) run.new }
 {
     match instruction {
@@ -104,7 +104,7 @@ fn within(
     run: &mut Run,
 ) -> Result<(), Stop>
     requires { All IsType (slots_of routine.now) }
-    ensures due { Does (within_act routine.now instruction.now) run.old result run.new }
+    ensures expected { Does (within_act routine.now instruction.now) run.old result run.new }
     ensures same { SameFrames run.old run.new }
 {
     match instruction {
@@ -128,7 +128,7 @@ fn raise_anew(
     instruction: &Instruction,
     run: &mut Run,
 ) -> Result<(), Stop>
-    ensures due { Does (signal_act routine.now instruction.now) run.old result run.new }
+    ensures expected { Does (signal_act routine.now instruction.now) run.old result run.new }
     ensures same { SameFrames run.old run.new }
 {
     match instruction {

@@ -35,7 +35,7 @@ pub fn change<S: Store>(
 ) -> Result<(), Stop>
     requires stand { MarksStand (S.holds store.old) (S.marks store.old) run.old }
     requires may { IfSome (slice_get routine.now.plans number) (MayDo code.now routine.now (S.tables store.old) run.old.running.variables.items run.old.running.cursors.items) }
-    ensures due { Evaluates (plan code.now routine.now number (machine_of (S.tables store.old) (S.at store.old) run.old)) result (machine_of (S.tables store.new) (S.at store.new) run.new) }
+    ensures expected { Evaluates (plan code.now routine.now number (machine_of (S.tables store.old) (S.at store.old) run.old)) result (machine_of (S.tables store.new) (S.at store.new) run.new) }
     ensures stand { MarksStand (S.holds store.new) (S.marks store.new) run.new }
     ensures keeps { Keeps AnyMark (S.holds store.old) (S.at store.old) (S.holds store.new) (S.at store.new) }
     ensures same { SameFrames run.old run.new }
@@ -62,7 +62,7 @@ fn carry_out<S: Store>(
 ) -> Result<(), Stop>
     requires may { MayDo code.now routine.now (S.tables store.old) run.old.running.variables.items run.old.running.cursors.items plan.now }
     requires room { S.marks store.old < most_marks }
-    ensures due { DoesOver (S.tables store.old) (done code.now routine.now plan.now) run.old result (S.tables store.new) run.new }
+    ensures expected { DoesOver (S.tables store.old) (done code.now routine.now plan.now) run.old result (S.tables store.new) run.new }
     ensures marks { S.marks store.new ≡ S.marks store.old }
     ensures keeps { Keeps AnyMark (S.holds store.old) (S.at store.old) (S.holds store.new) (S.at store.new) }
     ensures same { SameFrames run.old run.new }
@@ -118,7 +118,7 @@ fn update_rows<S: Store>(
 ) -> Result<(), Stop>
     requires may { IfSome (slice_get code.now.tables table) (MayChange code.now.keys (S.tables store.old) table run.old.running.variables.items sets.now (option_copied test)) }
     requires room { S.marks store.old < most_marks }
-    ensures due { DoesOver (S.tables store.old) (update_rows code.now table sets.now (option_copied test.entry)) run.old result (S.tables store.new) run.new }
+    ensures expected { DoesOver (S.tables store.old) (update_rows code.now table sets.now (option_copied test.entry)) run.old result (S.tables store.new) run.new }
     ensures marks { S.marks store.new ≡ S.marks store.old }
     ensures keeps { Keeps AnyMark (S.holds store.old) (S.at store.old) (S.holds store.new) (S.at store.new) }
     ensures same { SameFrames run.old run.new }
@@ -152,7 +152,7 @@ fn delete_rows<S: Store>(
 ) -> Result<(), Stop>
     requires may { IfSome (slice_get code.now.tables table) (MayErase code.now.keys (S.tables store.old) table run.old.running.variables.items (option_copied test)) }
     requires room { S.marks store.old < most_marks }
-    ensures due { DoesOver (S.tables store.old) (delete_rows code.now table (option_copied test.entry)) run.old result (S.tables store.new) run.new }
+    ensures expected { DoesOver (S.tables store.old) (delete_rows code.now table (option_copied test.entry)) run.old result (S.tables store.new) run.new }
     ensures marks { S.marks store.new ≡ S.marks store.old }
     ensures keeps { Keeps AnyMark (S.holds store.old) (S.at store.old) (S.holds store.new) (S.at store.new) }
     ensures same { SameFrames run.old run.new }

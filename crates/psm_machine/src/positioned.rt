@@ -37,7 +37,7 @@ pub(crate) fn update_at<S: Store>(
 ) -> Result<(), Stop>
     requires may { OfCursor routine.now run.old.running.cursors.items number (λ x c. OverQuery routine.now x (λ n. IfSome (slice_get code.now.tables n) (MayChangeAt code.now.keys (S.tables store.old) n run.old.running.variables.items sets.now c))) }
     requires room { S.marks store.old < most_marks }
-    ensures due { DoesOver (S.tables store.old) (update_at code.now routine.now number sets.now) run.old result (S.tables store.new) run.new }
+    ensures expected { DoesOver (S.tables store.old) (update_at code.now routine.now number sets.now) run.old result (S.tables store.new) run.new }
     ensures marks { S.marks store.new ≡ S.marks store.old }
     ensures keeps { Keeps AnyMark (S.holds store.old) (S.at store.old) (S.holds store.new) (S.at store.new) }
     ensures same { SameFrames run.old run.new }
@@ -104,7 +104,7 @@ pub(crate) fn delete_at<S: Store>(
 ) -> Result<(), Stop>
     requires may { OfCursor routine.now run.old.running.cursors.items number (λ x c. OverQuery routine.now x (λ n. IfSome (slice_get code.now.tables n) (MayEraseAt code.now.keys (S.tables store.old) n c))) }
     requires room { S.marks store.old < most_marks }
-    ensures due { DoesOver (S.tables store.old) (delete_at code.now routine.now number) run.old result (S.tables store.new) run.new }
+    ensures expected { DoesOver (S.tables store.old) (delete_at code.now routine.now number) run.old result (S.tables store.new) run.new }
     ensures marks { S.marks store.new ≡ S.marks store.old }
     ensures keeps { Keeps AnyMark (S.holds store.old) (S.at store.old) (S.holds store.new) (S.at store.new) }
     ensures same { SameFrames run.old run.new }
@@ -135,7 +135,7 @@ pub(crate) fn delete_at<S: Store>(
 
 // A cursor whose row is gone stands on none.
 fn leave_row(run: &mut Run, is_gone: bool, number: u32)
-    ensures due { (c : CursorValue) → slice_get run.old.running.cursors.items number ≡ Some c → Does (leave_row is_gone number c) run.old (Ok tt) run.new }
+    ensures expected { (c : CursorValue) → slice_get run.old.running.cursors.items number ≡ Some c → Does (leave_row is_gone number c) run.old (Ok tt) run.new }
     ensures same { SameFrames run.old run.new }
 {
     let at = number as usize;

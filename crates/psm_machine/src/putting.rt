@@ -38,7 +38,7 @@ pub(crate) fn put_operands<S: Store>(
 ) -> Result<(), Stop>
     requires may { MayPut code.now (S.tables store.old) table }
     requires room { S.marks store.old < most_marks }
-    ensures due { DoesOver (S.tables store.old) (put_operands code.now table columns.now rows) run.old result (S.tables store.new) run.new }
+    ensures expected { DoesOver (S.tables store.old) (put_operands code.now table columns.now rows) run.old result (S.tables store.new) run.new }
     ensures marks { S.marks store.new ≡ S.marks store.old }
     ensures keeps { Keeps AnyMark (S.holds store.old) (S.at store.old) (S.holds store.new) (S.at store.new) }
     ensures same { SameFrames run.old run.new }
@@ -62,7 +62,7 @@ pub(crate) fn put_query<S: Store>(
     requires may_ask { IfSome (slice_get routine.now.queries number) (MayAsk (S.tables store.old) run.old.running.variables.items) }
     requires may_put { MayPut code.now (S.tables store.old) table }
     requires room { S.marks store.old < most_marks }
-    ensures due { DoesOver (S.tables store.old) (put_query code.now routine.now table columns.now number) run.old result (S.tables store.new) run.new }
+    ensures expected { DoesOver (S.tables store.old) (put_query code.now routine.now table columns.now number) run.old result (S.tables store.new) run.new }
     ensures marks { S.marks store.new ≡ S.marks store.old }
     ensures keeps { Keeps AnyMark (S.holds store.old) (S.at store.old) (S.holds store.new) (S.at store.new) }
     ensures same { SameFrames run.old run.new }
@@ -90,7 +90,7 @@ fn put_in<S: Store>(
 ) -> Result<(), Stop>
     requires may { MayPut code.now (S.tables store.old) table }
     requires room { S.marks store.old < most_marks }
-    ensures due { DoesOver (S.tables store.old) (put_in code.now table columns.now rows.now) run.old result (S.tables store.new) run.new }
+    ensures expected { DoesOver (S.tables store.old) (put_in code.now table columns.now rows.now) run.old result (S.tables store.new) run.new }
     ensures marks { S.marks store.new ≡ S.marks store.old }
     ensures keeps { Keeps AnyMark (S.holds store.old) (S.at store.old) (S.holds store.new) (S.at store.new) }
     ensures same { SameFrames run.old run.new }
@@ -158,7 +158,7 @@ fn put_into<S: Store>(
 
 // Takes n rows of n values off the operands, the first of all the lowest.
 fn take_values(alloc: Global, run: &mut Run, rows: u32, width: usize) -> Result<List<Datum>, Stop>
-    ensures due { Does (pops (rows * width) []) run.old result run.new }
+    ensures expected { Does (pops (rows * width) []) run.old result run.new }
     ensures same { SameFrames run.old run.new }
 {
     let count = u128::from(rows) * width as u128;
@@ -170,11 +170,11 @@ fn take_values(alloc: Global, run: &mut Run, rows: u32, width: usize) -> Result<
 
 // Takes n values off the operands.
 fn pops(alloc: Global, run: &mut Run, count: u128) -> Result<List<Datum>, Stop>
-    ensures due { Does (pops count []) run.old result run.new }
+    ensures expected { Does (pops count []) run.old result run.new }
     ensures same { SameFrames run.old run.new }
 {
     let mut values = Vec::new(alloc);
-    for place in 0..count {
+    for index in 0..count {
         values.push(pop(run)?)?;
     }
     values.reverse();
@@ -193,7 +193,7 @@ fn in_rows(
     let mut rest = values.into_vec();
     rest.reverse();
     let mut made = Vec::new(alloc);
-    for place in 0..rows {
+    for index in 0..rows {
         made.push(first_values(alloc, width, &mut rest)?)?;
     }
     Ok(List::of(made))
@@ -205,7 +205,7 @@ fn first_values(alloc: Global, width: usize, rest: &mut Vec<Datum>) -> Result<Ro
     ensures left { IfOk result (λ row. reverse rest.new.items ≡ drop width (reverse rest.old.items)) }
 {
     let mut row = Vec::new(alloc);
-    for place in 0..width {
+    for index in 0..width {
         let Some(value) = rest.pop() else {
             return Ok(Row::of(row));
         };
@@ -240,27 +240,27 @@ fn new_row(
 {
     let all = def.columns.items();
     let mut row = Vec::new(alloc);
-    for place in 0..all.len() {
-        let value = value_for(place, columns, values, &all[place].default);
+    for index in 0..all.len() {
+        let value = value_for(index, columns, values, &all[index].default);
         row.push(value.copy(alloc)?)?;
     }
     Ok(Row::of(row))
 }
 
-// The value for the column at a place, or its DEFAULT.
+// The value for the column at an index, or its DEFAULT.
 fn value_for<'a>(
-    place: usize,
+    index: usize,
     columns: &[u32],
     values: &'a [Datum],
     default: &'a Datum,
 ) -> &'a Datum
-    ensures { result.now ≡ value_for place columns.now values.now default.now }
+    ensures { result.now ≡ value_for index columns.now values.now default.now }
 {
     for at in 0..columns.len() {
         if at >= values.len() {
             return default;
         }
-        if columns[at] as usize == place {
+        if columns[at] as usize == index {
             return &values[at];
         }
     }

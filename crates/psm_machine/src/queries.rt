@@ -30,7 +30,7 @@ pub fn exists<S: Store>(
     number: u32,
 ) -> Result<(), Stop>
     requires { IfSome (slice_get routine.now.queries number) (MayAsk (S.tables store.now) run.old.running.variables.items) }
-    ensures due { DoesOver (S.tables store.now) (exists routine.now number) run.old result (S.tables store.now) run.new }
+    ensures expected { DoesOver (S.tables store.now) (exists routine.now number) run.old result (S.tables store.now) run.new }
     ensures same { SameFrames run.old run.new }
 {
     let Some(query) = query_at(routine, number) else {
@@ -49,7 +49,7 @@ pub fn scalar<S: Store>(
     number: u32,
 ) -> Result<(), Stop>
     requires { IfSome (slice_get routine.now.queries number) (MayAsk (S.tables store.now) run.old.running.variables.items) }
-    ensures due { DoesOver (S.tables store.now) (scalar routine.now number) run.old result (S.tables store.now) run.new }
+    ensures expected { DoesOver (S.tables store.now) (scalar routine.now number) run.old result (S.tables store.now) run.new }
     ensures same { SameFrames run.old run.new }
 {
     let Some(query) = query_at(routine, number) else {
@@ -69,7 +69,7 @@ pub fn select_row<S: Store>(
     number: u32,
 ) -> Result<(), Stop>
     requires { IfSome (slice_get routine.now.queries number) (MayAsk (S.tables store.now) run.old.running.variables.items) }
-    ensures due { DoesOver (S.tables store.now) (select_row routine.now number) run.old result (S.tables store.now) run.new }
+    ensures expected { DoesOver (S.tables store.now) (select_row routine.now number) run.old result (S.tables store.now) run.new }
     ensures same { SameFrames run.old run.new }
 {
     let Some(query) = query_at(routine, number) else {
@@ -114,7 +114,7 @@ fn exist(rows: &[Row]) -> Truth
 
 // Puts the item of the one row on the operands, or null without a row.
 fn put_scalar(alloc: Global, run: &mut Run, rows: Vec<Row>) -> Result<(), Stop>
-    ensures due { Does (scalar_of rows.items) run.old result run.new }
+    ensures expected { Does (scalar_of rows.items) run.old result run.new }
     ensures same { SameFrames run.old run.new }
 {
     let mut rows = rows;
@@ -151,7 +151,7 @@ fn only_row(alloc: Global, rows: Vec<Row>) -> Result<Row, Stop>
 
 // Nulls that a set function skipped are a warning, in place of one that is pending.
 fn skip(run: &mut Run, skipped: bool)
-    ensures due { Does (skipping skipped) run.old (Ok tt) run.new }
+    ensures expected { Does (skipping skipped) run.old (Ok tt) run.new }
     ensures same { SameFrames run.old run.new }
 {
     if skipped {
@@ -161,7 +161,7 @@ fn skip(run: &mut Run, skipped: bool)
 
 /// Puts values on the operands, the first of them on top.
 pub(crate) fn put_values(run: &mut Run, row: Row) -> Result<(), Stop>
-    ensures due { Does (put_values row) run.old result run.new }
+    ensures expected { Does (put_values row) run.old result run.new }
     ensures same { SameFrames run.old run.new }
 {
     let mut values = row.into_vec();

@@ -1,4 +1,4 @@
-//! The value that a function returns (ISO/IEC 9075-4:1996, return statement), and ends that lack a statement.
+//! The value that a function returns (ISO/IEC 9075-4:1996, return statement), and ends without a statement.
 ghost use Rattle.std.specs.Prelude.{All, IfSome, codes};
 ghost use Rattle.psm_value.specs.SqlType.{IsType};
 ghost use Rattle.psm_code.specs.Calling.{result as result_of};
@@ -18,7 +18,7 @@ use std::alloc::Global;
 /// The value of RETURN, which is the last operand, as the type of the function's result stores it.
 pub fn returned(alloc: Global, code: &RawCode, run: &mut Run) -> Result<Datum, Stop>
     requires { All (λ r. IfSome r.returns IsType) code.now.routines }
-    ensures due { Does (result_of code.now) run.old result run.new }
+    ensures expected { Does (result_of code.now) run.old result run.new }
     ensures same { SameFrames run.old run.new }
 {
     let value = pop(run)?;

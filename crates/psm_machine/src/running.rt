@@ -54,7 +54,7 @@ pub fn start(
     marks: u128,
 ) -> Result<Beginning, AllocError>
     requires { All (λ r. All IsType (slots_of r)) code.now.routines }
-    ensures due { IfOk result (Begins (λ tables. started code.now number arguments.items tables turns) turns) }
+    ensures expected { IfOk result (Begins (λ tables. started code.now number arguments.items tables turns) turns) }
     ensures machine_invariant { first_fault code.now ≡ None → Takes code.now number arguments.items → IfOk result (BeginsWellFormed code.now) }
     ensures marks { IfOk result (HasNoMarks marks) }
 {
@@ -92,7 +92,7 @@ fn first(
     arguments: Vec<Datum>,
 ) -> Result<Activation, Stop>
     requires { All (λ r. All IsType (slots_of r)) code.now.routines }
-    ensures due { (at : MarkValue → List Contents) → Shows (activation_of at []) (first_activation code.now number arguments.items) result }
+    ensures expected { (at : MarkValue → List Contents) → Shows (activation_of at []) (first_activation code.now number arguments.items) result }
     ensures frames { IfOk result (λ a. a.frames.items ≡ []) }
 {
     let Some(routine) = routine_at(code, number) else {
@@ -126,7 +126,7 @@ pub fn run<S: Store>(
     requires takes { Takes code.now number arguments.items }
     requires kept { AreLawful code.now (S.tables store.old) }
     requires few { S.marks store.old < most_open }
-    ensures due { IfOk result (λ f. RunsTo code.now number arguments.items (S.tables store.old) turns f (S.tables store.new)) }
+    ensures expected { IfOk result (λ f. RunsTo code.now number arguments.items (S.tables store.old) turns f (S.tables store.new)) }
     ensures ends { IfOk result (λ f. IsTrue (is_due (end_of f.ending))) }
     ensures kept { AreLawful code.now (S.tables store.new) }
     ensures memory { IfErr result (λ e. S.tables store.new ≡ S.tables store.old) }
@@ -178,7 +178,7 @@ fn run_after<S: Store>(
     requires kept { AreLawful code.now (S.tables store.old) }
     requires counted { S.marks store.old ≡ marks }
     requires most { marks ≤ most_open }
-    ensures due { IfOk result (λ f. Finishes code.now (started code.now number arguments.items (S.tables store.old) turns) f (S.tables store.new)) }
+    ensures expected { IfOk result (λ f. Finishes code.now (started code.now number arguments.items (S.tables store.old) turns) f (S.tables store.new)) }
     ensures keeps { Keeps AnyMark (S.holds store.old) (S.at store.old) (S.holds store.new) (S.at store.new) }
 {
     match start(alloc, code, number, arguments, turns, marks)? {
@@ -198,7 +198,7 @@ fn go_through<S: Store>(
     requires numbered { All (λ r. IsTrue (is_numbered r.handlers)) code.now.routines }
     requires machine_invariant { MachineInvariant code.now (machine_of (S.tables store.old) (S.at store.old) run) }
     requires stand { MarksStand (S.holds store.old) (S.marks store.old) run }
-    ensures due { IfOk result (λ f. Finishes code.now (More (machine_of (S.tables store.old) (S.at store.old) run)) f (S.tables store.new)) }
+    ensures expected { IfOk result (λ f. Finishes code.now (More (machine_of (S.tables store.old) (S.at store.old) run)) f (S.tables store.new)) }
     ensures enclosing { StayAround (S.holds store.old) (S.at store.old) run (S.holds store.new) (S.at store.new) }
 {
     let mut run = run;

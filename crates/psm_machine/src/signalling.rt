@@ -32,7 +32,7 @@ pub fn signal_message(
     run: &mut Run,
     number: u32,
 ) -> Result<(), Stop>
-    ensures due { Does (signal_message routine.now number) run.old result run.new }
+    ensures expected { Does (signal_message routine.now number) run.old result run.new }
     ensures same { SameFrames run.old run.new }
 {
     let entry = declared(alloc, routine, number)?;
@@ -68,7 +68,7 @@ pub fn resignal_message(
     run: &mut Run,
     number: u32,
 ) -> Result<(), Stop>
-    ensures due { Does (resignal_message routine.now number) run.old result run.new }
+    ensures expected { Does (resignal_message routine.now number) run.old result run.new }
     ensures same { SameFrames run.old run.new }
 {
     let entry = declared(alloc, routine, number)?;
@@ -143,7 +143,7 @@ fn spelled(alloc: Global, characters: &str) -> Result<Text, AllocError>
 
 // The entry with the last operand as its message. Null counts as empty.
 fn with_message(alloc: Global, run: &mut Run, entry: Entry) -> Result<Entry, Stop>
-    ensures due { Does (with_message entry) run.old result run.new }
+    ensures expected { Does (with_message entry) run.old result run.new }
     ensures same { SameFrames run.old run.new }
 {
     let value = pop(run)?;

@@ -41,7 +41,7 @@ pub fn step<S: Store>(
     requires numbered { All (λ r. IsTrue (is_numbered r.handlers)) code.now.routines }
     requires machine_invariant { MachineInvariant code.now (machine_of (S.tables store.old) (S.at store.old) run.old) }
     requires stand { MarksStand (S.holds store.old) (S.marks store.old) run.old }
-    ensures due { IfOk result (λ o. LeadsTo (step code.now (machine_of (S.tables store.old) (S.at store.old) run.old)) o (machine_of (S.tables store.new) (S.at store.new) run.new)) }
+    ensures expected { IfOk result (λ o. LeadsTo (step code.now (machine_of (S.tables store.old) (S.at store.old) run.old)) o (machine_of (S.tables store.new) (S.at store.new) run.new)) }
     ensures still { StandStill (S.holds store.old) (S.at store.old) (S.marks store.old) run.old (S.holds store.new) (S.at store.new) (S.marks store.new) run.new }
 {
     let Some(routine) = routine_at(code, run.running.routine) else {
@@ -69,7 +69,7 @@ pub fn obey<S: Store>(
     requires runs { RunsWellFormed code.now routine.now (S.tables store.old) run.old.running.variables.items run.old.running.cursors.items }
     requires needs { FindsNeeds instruction.now run.old.operands.own run.old.running.variables.items }
     requires stand { MarksStand (S.holds store.old) (S.marks store.old) run.old }
-    ensures due { StepsTo (done code.now routine.now instruction.now (machine_of (S.tables store.old) (S.at store.old) run.old)) result (machine_of (S.tables store.new) (S.at store.new) run.new) }
+    ensures expected { StepsTo (done code.now routine.now instruction.now (machine_of (S.tables store.old) (S.at store.old) run.old)) result (machine_of (S.tables store.new) (S.at store.new) run.new) }
     ensures still { StandStill (S.holds store.old) (S.at store.old) (S.marks store.old) run.old (S.holds store.new) (S.at store.new) (S.marks store.new) run.new }
 {
     match instruction {
@@ -90,7 +90,7 @@ pub fn obey<S: Store>(
 #[inline(never)]
 fn operate(alloc: Global, run: &mut Run, op: &Op) -> Result<Outcome, Stop>
     requires { Fits op.now run.old.operands.own [] run.old.running.variables.items }
-    ensures due { StepsOn (operated op.now) run.old result run.new }
+    ensures expected { StepsOn (operated op.now) run.old result run.new }
     ensures same { SameFrames run.old run.new }
 {
     let next = operation(alloc, run, op)?;
@@ -107,7 +107,7 @@ fn take_next<S: Store>(
     end: u32,
 ) -> Result<Outcome, Stop>
     requires { OfCursor routine.now run.old.running.cursors.items cursor (MayMove routine.now (S.tables store.now)) }
-    ensures due { StepsTo (next_or_end routine.now cursor end (machine_of (S.tables store.now) (S.at store.now) run.old)) result (machine_of (S.tables store.now) (S.at store.now) run.new) }
+    ensures expected { StepsTo (next_or_end routine.now cursor end (machine_of (S.tables store.now) (S.at store.now) run.old)) result (machine_of (S.tables store.now) (S.at store.now) run.new) }
     ensures same { SameFrames run.old run.new }
 {
     let there = next(alloc, routine, run, store, cursor)?;
@@ -117,7 +117,11 @@ fn take_next<S: Store>(
 fn next_of(there: bool, end: u32) -> Next
     ensures { successor_of result ≡ successor_for end there }
 {
-    if there { Next::Ahead } else { Next::Jump(end) }
+    if there {
+        Next::FallThrough
+    } else {
+        Next::Jump(end)
+    }
 }
 
 fn is_of_data(instruction: &Instruction) -> bool
@@ -147,7 +151,7 @@ fn on_tables<S: Store>(
 ) -> Result<(), Stop>
     requires runs { RunsWellFormed code.now routine.now (S.tables store.old) run.old.running.variables.items run.old.running.cursors.items }
     requires stand { MarksStand (S.holds store.old) (S.marks store.old) run.old }
-    ensures due { Evaluates (data_act code.now routine.now instruction.now (machine_of (S.tables store.old) (S.at store.old) run.old)) result (machine_of (S.tables store.new) (S.at store.new) run.new) }
+    ensures expected { Evaluates (data_act code.now routine.now instruction.now (machine_of (S.tables store.old) (S.at store.old) run.old)) result (machine_of (S.tables store.new) (S.at store.new) run.new) }
     ensures still { StandStill (S.holds store.old) (S.at store.old) (S.marks store.old) run.old (S.holds store.new) (S.at store.new) (S.marks store.new) run.new }
 {
     match instruction {

@@ -16,12 +16,12 @@ use psm_unwind::{Outcome, Run};
 /// Goes on at the line that follows, or at another one. The answer says only whether there was one.
 #[inline(always)]
 pub(crate) fn go_to(run: &mut Run, next: Next) -> Result<(), Stop>
-    ensures due { LeadsOn (successor_of next) run.old (goes_more result) run.new }
+    ensures expected { LeadsOn (successor_of next) run.old (goes_more result) run.new }
     ensures same { SameFrames run.old run.new }
     ensures routine { run.new.running.routine ≡ run.old.running.routine }
 {
     match next {
-        Next::Ahead => {
+        Next::FallThrough => {
             let Some(line) = run.running.line.checked_add(1) else {
                 return Err(Stop::Memory);
             };
@@ -34,7 +34,7 @@ pub(crate) fn go_to(run: &mut Run, next: Next) -> Result<(), Stop>
 
 /// Goes on at the line that follows, or at another one.
 pub fn go(run: &mut Run, next: Next) -> Result<Outcome, Stop>
-    ensures due { LeadsOn (successor_of next) run.old result run.new }
+    ensures expected { LeadsOn (successor_of next) run.old result run.new }
     ensures same { SameFrames run.old run.new }
 {
     go_to(run, next)?;
@@ -43,15 +43,15 @@ pub fn go(run: &mut Run, next: Next) -> Result<Outcome, Stop>
 
 /// Goes on at the line that follows.
 pub fn fall_through(run: &mut Run) -> Result<Outcome, Stop>
-    ensures due { LeadsOn is_fall_through run.old result run.new }
+    ensures expected { LeadsOn is_fall_through run.old result run.new }
     ensures same { SameFrames run.old run.new }
 {
-    go(run, Next::Ahead)
+    go(run, Next::FallThrough)
 }
 
 /// Goes on after a part of an instruction, if that wasn't stopped.
 pub fn following(run: &mut Run, done: Result<(), Stop>) -> Result<Outcome, Stop>
-    ensures due { (tables : List Contents) (at : MarkValue → List Contents) (came : Came (Unit {0})) → Evaluates came done (machine_of tables at run.old) → StepsTo (go_on came.given (λ _. got is_fall_through) came.machine) result (machine_of tables at run.new) }
+    ensures expected { (tables : List Contents) (at : MarkValue → List Contents) (came : Came (Unit {0})) → Evaluates came done (machine_of tables at run.old) → StepsTo (go_on came.given (λ _. got is_fall_through) came.machine) result (machine_of tables at run.new) }
     ensures same { SameFrames run.old run.new }
 {
     match done {

@@ -12,7 +12,7 @@ use psm_unwind::{Run, spend};
 #[inline(always)]
 #[tactic(auto, using(crate::proofs::Spending::turn_used))]
 pub fn turn(run: &mut Run) -> Result<(), Stop>
-    ensures due { Does turn run.old result run.new }
+    ensures expected { Does turn run.old result run.new }
     ensures same { SameFrames run.old run.new }
     ensures routine { run.new.running.routine ≡ run.old.running.routine }
 {
@@ -26,7 +26,7 @@ pub fn turn(run: &mut Run) -> Result<(), Stop>
 /// The diagnostics area becomes success without rows, and no warning is pending.
 #[inline(always)]
 pub fn clear(run: &mut Run)
-    ensures due { Does (change cleared) run.old (Ok tt) run.new }
+    ensures expected { Does (change cleared) run.old (Ok tt) run.new }
     ensures same { SameFrames run.old run.new }
     ensures routine { run.new.running.routine ≡ run.old.running.routine }
 {

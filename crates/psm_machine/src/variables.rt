@@ -22,7 +22,7 @@ use std::alloc::Global;
 #[inline(always)]
 pub fn store(alloc: Global, routine: &RawRoutine, run: &mut Run, slot: u32) -> Result<(), Stop>
     requires { All IsType (slots_of routine.now) }
-    ensures due { Does (store routine.now slot) run.old result run.new }
+    ensures expected { Does (store routine.now slot) run.old result run.new }
     ensures same { SameFrames run.old run.new }
     ensures routine { run.new.running.routine ≡ run.old.running.routine }
 {
@@ -44,7 +44,7 @@ pub fn store(alloc: Global, routine: &RawRoutine, run: &mut Run, slot: u32) -> R
 /// Retrieves the last operand into a variable. A text may be cut, which makes a warning pending unless there is one.
 pub fn retrieve(alloc: Global, routine: &RawRoutine, run: &mut Run, slot: u32) -> Result<(), Stop>
     requires { All IsType (slots_of routine.now) }
-    ensures due { Does (retrieve routine.now slot) run.old result run.new }
+    ensures expected { Does (retrieve routine.now slot) run.old result run.new }
     ensures same { SameFrames run.old run.new }
 {
     let Some(kind) = slot_type(routine, slot) else {
@@ -100,7 +100,7 @@ fn slot_type(routine: &RawRoutine, slot: u32) -> Option<SqlType>
 }
 
 fn set_variable(run: &mut Run, slot: u32, value: Datum)
-    ensures due { Does (change (with_variable slot value)) run.old (Ok tt) run.new }
+    ensures expected { Does (change (with_variable slot value)) run.old (Ok tt) run.new }
     ensures same { SameFrames run.old run.new }
     ensures routine { run.new.running.routine ≡ run.old.running.routine }
 {
@@ -112,7 +112,7 @@ fn set_variable(run: &mut Run, slot: u32, value: Datum)
 
 // A character that is lost is a warning.
 fn lose(run: &mut Run, is_cut: bool)
-    ensures due { Does (losing is_cut) run.old (Ok tt) run.new }
+    ensures expected { Does (losing is_cut) run.old (Ok tt) run.new }
     ensures same { SameFrames run.old run.new }
 {
     if is_cut {
@@ -122,7 +122,7 @@ fn lose(run: &mut Run, is_cut: bool)
 
 // Makes a warning pending, unless there is one.
 fn warn_of(run: &mut Run, state: SqlState)
-    ensures due { Does (change (warning state)) run.old (Ok tt) run.new }
+    ensures expected { Does (change (warning state)) run.old (Ok tt) run.new }
     ensures same { SameFrames run.old run.new }
 {
     if run.pending.is_none() {

@@ -34,7 +34,7 @@ assign_all eval_context (slot ∷ slots) (d ∷ ds) = do
   assign eval_context slot d
   assign_all eval_context slots ds
 
--- a value is retrieved into a variable: a text may be cut, and it is told whether a character was lost
+-- a value is retrieved into a variable: a text may be cut, and the answer says whether a character was lost
 abbrev pub retrieve : EvalContext → ℕ → Datum → Act Bool
 retrieve eval_context slot d = do
   t ← present (slice_get eval_context.routine.slots slot)

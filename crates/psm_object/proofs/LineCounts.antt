@@ -135,7 +135,7 @@ code_lines_count : (code : RawCode) (r : RawRoutine) (at : ℕ) (ls : List CodeL
 code_lines_count code r at [] = refl
 code_lines_count code r at (l ∷ ls) = ap suc (code_lines_count code r (suc at) ls)
 
--- three parts one after the other, behind what stands before them
+-- three parts one after the other, after what stands before them
 three : {A B : Type 0} (x q c p : List A) (ys : List B) → Alike (x ++ q ++ c ++ p) ys → Alike (x ++ (q ++ c ++ p)) ys
 three {A = A} x q c p ys h = ap (λ (zs : List A). length zs) (sym (append_assoc x (q ++ c) p) ∙ ap (λ (zs : List A). zs ++ p) (sym (append_assoc x q c))) ∙ h
 

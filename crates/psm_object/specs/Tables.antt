@@ -25,7 +25,7 @@ use Rattle.psm_words.specs.Words.{datum_word, number, quoted, type_word}
 use Rattle.psm_object.specs.Expressions.{expression_lines}
 use Rattle.psm_object.specs.Words.{count, flag, numbers, spaced}
 
--- of a table with so many FOREIGN KEY constraints
+-- of a table with n FOREIGN KEY constraints
 abbrev pub table_line : ℕ → CodeTable → List ℕ
 table_line keys t = spaced (codes "TABLE" ∷ quoted t.definition.name ∷ count t.definition.columns ∷ count t.definition.unique ∷ count t.checks ∷ number keys ∷ [])
 

@@ -1,4 +1,4 @@
-//! The lines of FOREIGN KEY constraints, each behind those of the referencing table.
+//! The lines of FOREIGN KEY constraints, each after those of the referencing table.
 ghost use Rattle.std.specs.Prelude.{◌≡◌, ◌++◌, ◌<◌, ℕ, suc, true, length, map, OnOk};
 ghost use Rattle.psm_code.specs.TableRules.{keys_from};
 ghost use Rattle.psm_object.specs.OwnKeys as order;

@@ -13,7 +13,7 @@ use Rattle.psm_exprcode.specs.declared.op.Op.TheVariants as op
 use Rattle.psm_exprcode.specs.declared.operand.Operand.{Operand}
 use Rattle.psm_exprcode.specs.declared.operand.Operand.TheVariants.{Value, Truth}
 use Rattle.psm_exprcode.specs.declared.operand.Next.{Next}
-use Rattle.psm_exprcode.specs.declared.operand.Next.TheVariants.{Ahead, Jump}
+use Rattle.psm_exprcode.specs.declared.operand.Next.TheVariants.{FallThrough, Jump}
 use Rattle.psm_exprcode.specs.Applied.{Applied, Went, Raised, Stuck, applied, nipped, on_many, on_truth, on_value, set_at, unless_true, with_named, with_truth, with_value}
 use Rattle.psm_exprcode.specs.Comparison.{is_null}
 use Rattle.psm_exprcode.specs.Fits.{Applies, Fits, Refuses, are_truths, are_values, finds, is_over_value}
@@ -30,7 +30,7 @@ on_those low Stuck = Stuck
 -- an operation that takes n of these operands, and does the same over others
 pub record Framed (o : Op) (os low : List Operand) (row vars : List Datum) : Type 0 where
   pub there : IsTrue (finds o (os ++ low))
-  pub due : applied o (os ++ low) row vars ≡ on_those low (applied o os row vars)
+  pub expected : applied o (os ++ low) row vars ≡ on_those low (applied o os row vars)
   pub gone : drop (taken o) (os ++ low) ≡ drop (taken o) os ++ low
 
 module _ (low : List Operand) where
@@ -113,63 +113,63 @@ module _ (low : List Operand) where
 
   by_nip : (os : List Operand) → IsTrue (is_over_value os) → nipped (os ++ low) ≡ on_those low (nipped os)
   by_nip [] h = absurd cc
-  by_nip (x ∷ os) h = by_value 0 (λ a rest. Went Ahead (x ∷ rest)) (λ a rest k. refl) os h
+  by_nip (x ∷ os) h = by_value 0 (λ a rest. Went FallThrough (x ∷ rest)) (λ a rest k. refl) os h
 
   -- ---- jumps
 
   set_on : (p : ℕ) (a : Datum) (os : List Operand) (b : Bool) → is_null a ≡ b → set_at p a (os ++ low) ≡ on_those low (set_at p a os)
-  set_on p a os true e = ap (λ c. if c then Went Ahead (os ++ low) else Went (Jump p) (Value a ∷ os ++ low)) e ∙ ap (on_those low) (ap (λ c. if c then Went Ahead os else Went (Jump p) (Value a ∷ os)) (sym e))
-  set_on p a os false e = ap (λ c. if c then Went Ahead (os ++ low) else Went (Jump p) (Value a ∷ os ++ low)) e ∙ ap (on_those low) (ap (λ c. if c then Went Ahead os else Went (Jump p) (Value a ∷ os)) (sym e))
+  set_on p a os true e = ap (λ c. if c then Went FallThrough (os ++ low) else Went (Jump p) (Value a ∷ os ++ low)) e ∙ ap (on_those low) (ap (λ c. if c then Went FallThrough os else Went (Jump p) (Value a ∷ os)) (sym e))
+  set_on p a os false e = ap (λ c. if c then Went FallThrough (os ++ low) else Went (Jump p) (Value a ∷ os ++ low)) e ∙ ap (on_those low) (ap (λ c. if c then Went FallThrough os else Went (Jump p) (Value a ∷ os)) (sym e))
 
   unless_on : (p : ℕ) (t : Answer) (os : List Operand) (b : Bool) → is_certain t ≡ b → unless_true p t (os ++ low) ≡ on_those low (unless_true p t os)
-  unless_on p t os true e = ap (λ c. if c then Went Ahead (os ++ low) else Went (Jump p) (os ++ low)) e ∙ ap (on_those low) (ap (λ c. if c then Went Ahead os else Went (Jump p) os) (sym e))
-  unless_on p t os false e = ap (λ c. if c then Went Ahead (os ++ low) else Went (Jump p) (os ++ low)) e ∙ ap (on_those low) (ap (λ c. if c then Went Ahead os else Went (Jump p) os) (sym e))
+  unless_on p t os true e = ap (λ c. if c then Went FallThrough (os ++ low) else Went (Jump p) (os ++ low)) e ∙ ap (on_those low) (ap (λ c. if c then Went FallThrough os else Went (Jump p) os) (sym e))
+  unless_on p t os false e = ap (λ c. if c then Went FallThrough (os ++ low) else Went (Jump p) (os ++ low)) e ∙ ap (on_those low) (ap (λ c. if c then Went FallThrough os else Went (Jump p) os) (sym e))
 
   module _ (row vars : List Datum) where
     pub framed : (o : Op) (os : List Operand) → IsTrue (finds o os) → Framed o os low row vars
-    framed (op.Constant k d) os h = record { there = h; due = refl; gone = refl }
-    framed (op.Variable i) os h = record { there = h; due = named_on os (slice_get vars i); gone = refl }
-    framed (op.Column i) os h = record { there = h; due = named_on os (slice_get row i); gone = refl }
-    framed op.Duplicate os h = record { there = values_there 1 os h; due = by_value 0 (λ a rest. Went Ahead (Value a ∷ Value a ∷ rest)) (λ a rest k. refl) os h; gone = refl }
-    framed op.Drop os h = record { there = values_there 1 os h; due = by_value 0 (λ a rest. Went Ahead rest) (λ a rest k. refl) os h; gone = values_gone 1 os h }
-    framed op.DropBelow os h = record { there = over_there os h; due = by_nip os h; gone = over_gone os h }
-    framed op.Negate os h = record { there = values_there 1 os h; due = by_value 0 _ (λ a rest k. refl) os h; gone = values_gone 1 os h }
-    framed op.Add os h = record { there = values_there 2 os h; due = by_two _ (λ a b rest. value_on rest _) os h; gone = values_gone 2 os h }
-    framed op.Subtract os h = record { there = values_there 2 os h; due = by_two _ (λ a b rest. value_on rest _) os h; gone = values_gone 2 os h }
-    framed op.Multiply os h = record { there = values_there 2 os h; due = by_two _ (λ a b rest. value_on rest _) os h; gone = values_gone 2 os h }
-    framed op.Divide os h = record { there = values_there 2 os h; due = by_two _ (λ a b rest. value_on rest _) os h; gone = values_gone 2 os h }
-    framed (op.Rescale s) os h = record { there = values_there 1 os h; due = by_value 0 _ (λ a rest k. value_on rest _) os h; gone = values_gone 1 os h }
-    framed op.Concatenate os h = record { there = values_there 2 os h; due = by_two _ (λ a b rest. value_on rest _) os h; gone = values_gone 2 os h }
-    framed op.CharacterLength os h = record { there = values_there 1 os h; due = by_value 0 _ (λ a rest k. refl) os h; gone = values_gone 1 os h }
-    framed op.Position os h = record { there = values_there 2 os h; due = by_two _ (λ a b rest. refl) os h; gone = values_gone 2 os h }
-    framed op.SubstringFrom os h = record { there = values_there 2 os h; due = by_two _ (λ a b rest. value_on rest _) os h; gone = values_gone 2 os h }
-    framed op.SubstringFromFor os h = record { there = values_there 3 os h; due = by_three _ (λ a b c rest. value_on rest _) os h; gone = values_gone 3 os h }
-    framed (op.Trim side) os h = record { there = values_there 1 os h; due = by_value 0 _ (λ a rest k. refl) os h; gone = values_gone 1 os h }
-    framed op.Upper os h = record { there = values_there 1 os h; due = by_value 0 _ (λ a rest k. refl) os h; gone = values_gone 1 os h }
-    framed op.Lower os h = record { there = values_there 1 os h; due = by_value 0 _ (λ a rest k. refl) os h; gone = values_gone 1 os h }
-    framed op.Equal os h = record { there = values_there 2 os h; due = by_two _ (λ a b rest. refl) os h; gone = values_gone 2 os h }
-    framed op.NotEqual os h = record { there = values_there 2 os h; due = by_two _ (λ a b rest. refl) os h; gone = values_gone 2 os h }
-    framed op.Less os h = record { there = values_there 2 os h; due = by_two _ (λ a b rest. refl) os h; gone = values_gone 2 os h }
-    framed op.LessOrEqual os h = record { there = values_there 2 os h; due = by_two _ (λ a b rest. refl) os h; gone = values_gone 2 os h }
-    framed op.Greater os h = record { there = values_there 2 os h; due = by_two _ (λ a b rest. refl) os h; gone = values_gone 2 os h }
-    framed op.GreaterOrEqual os h = record { there = values_there 2 os h; due = by_two _ (λ a b rest. refl) os h; gone = values_gone 2 os h }
-    framed op.And os h = record { there = truths_there 2 os h; due = by_truth 1 _ (λ b rest k. by_truth 0 _ (λ a others l. refl) rest k) os h; gone = truths_gone 2 os h }
-    framed op.Or os h = record { there = truths_there 2 os h; due = by_truth 1 _ (λ b rest k. by_truth 0 _ (λ a others l. refl) rest k) os h; gone = truths_gone 2 os h }
-    framed op.Not os h = record { there = truths_there 1 os h; due = by_truth 0 _ (λ t rest k. refl) os h; gone = truths_gone 1 os h }
-    framed op.IsNull os h = record { there = values_there 1 os h; due = by_value 0 _ (λ a rest k. refl) os h; gone = values_gone 1 os h }
-    framed op.Like os h = record { there = values_there 2 os h; due = by_two _ (λ a b rest. truth_on rest _) os h; gone = values_gone 2 os h }
-    framed op.LikeEscape os h = record { there = values_there 3 os h; due = by_three _ (λ a b c rest. truth_on rest _) os h; gone = values_gone 3 os h }
-    framed op.Between os h = record { there = values_there 3 os h; due = by_three _ (λ a b c rest. refl) os h; gone = values_gone 3 os h }
-    framed (op.In n) os h = record { there = values_there (suc n) os h; due = by_many n _ (λ bs rest k. by_value 0 _ (λ a others l. refl) rest k) os h; gone = values_gone (suc n) os h }
-    framed op.NullIf os h = record { there = values_there 2 os h; due = by_two _ (λ a b rest. refl) os h; gone = values_gone 2 os h }
-    framed (op.Cast to) os h = record { there = values_there 1 os h; due = by_value 0 _ (λ a rest k. value_on rest _) os h; gone = values_gone 1 os h }
-    framed (op.Jump p) os h = record { there = h; due = refl; gone = refl }
-    framed (op.JumpUnlessTrue p) os h = record { there = truths_there 1 os h; due = by_truth 0 _ (λ t rest k. unless_on p t rest (is_certain t) refl) os h; gone = truths_gone 1 os h }
-    framed (op.JumpUnlessNull p) os h = record { there = values_there 1 os h; due = by_value 0 _ (λ a rest k. set_on p a rest (is_null a) refl) os h; gone = values_gone 1 os h }
+    framed (op.Constant k d) os h = record { there = h; expected = refl; gone = refl }
+    framed (op.Variable i) os h = record { there = h; expected = named_on os (slice_get vars i); gone = refl }
+    framed (op.Column i) os h = record { there = h; expected = named_on os (slice_get row i); gone = refl }
+    framed op.Duplicate os h = record { there = values_there 1 os h; expected = by_value 0 (λ a rest. Went FallThrough (Value a ∷ Value a ∷ rest)) (λ a rest k. refl) os h; gone = refl }
+    framed op.Drop os h = record { there = values_there 1 os h; expected = by_value 0 (λ a rest. Went FallThrough rest) (λ a rest k. refl) os h; gone = values_gone 1 os h }
+    framed op.DropBelow os h = record { there = over_there os h; expected = by_nip os h; gone = over_gone os h }
+    framed op.Negate os h = record { there = values_there 1 os h; expected = by_value 0 _ (λ a rest k. refl) os h; gone = values_gone 1 os h }
+    framed op.Add os h = record { there = values_there 2 os h; expected = by_two _ (λ a b rest. value_on rest _) os h; gone = values_gone 2 os h }
+    framed op.Subtract os h = record { there = values_there 2 os h; expected = by_two _ (λ a b rest. value_on rest _) os h; gone = values_gone 2 os h }
+    framed op.Multiply os h = record { there = values_there 2 os h; expected = by_two _ (λ a b rest. value_on rest _) os h; gone = values_gone 2 os h }
+    framed op.Divide os h = record { there = values_there 2 os h; expected = by_two _ (λ a b rest. value_on rest _) os h; gone = values_gone 2 os h }
+    framed (op.Rescale s) os h = record { there = values_there 1 os h; expected = by_value 0 _ (λ a rest k. value_on rest _) os h; gone = values_gone 1 os h }
+    framed op.Concatenate os h = record { there = values_there 2 os h; expected = by_two _ (λ a b rest. value_on rest _) os h; gone = values_gone 2 os h }
+    framed op.CharacterLength os h = record { there = values_there 1 os h; expected = by_value 0 _ (λ a rest k. refl) os h; gone = values_gone 1 os h }
+    framed op.Position os h = record { there = values_there 2 os h; expected = by_two _ (λ a b rest. refl) os h; gone = values_gone 2 os h }
+    framed op.SubstringFrom os h = record { there = values_there 2 os h; expected = by_two _ (λ a b rest. value_on rest _) os h; gone = values_gone 2 os h }
+    framed op.SubstringFromFor os h = record { there = values_there 3 os h; expected = by_three _ (λ a b c rest. value_on rest _) os h; gone = values_gone 3 os h }
+    framed (op.Trim side) os h = record { there = values_there 1 os h; expected = by_value 0 _ (λ a rest k. refl) os h; gone = values_gone 1 os h }
+    framed op.Upper os h = record { there = values_there 1 os h; expected = by_value 0 _ (λ a rest k. refl) os h; gone = values_gone 1 os h }
+    framed op.Lower os h = record { there = values_there 1 os h; expected = by_value 0 _ (λ a rest k. refl) os h; gone = values_gone 1 os h }
+    framed op.Equal os h = record { there = values_there 2 os h; expected = by_two _ (λ a b rest. refl) os h; gone = values_gone 2 os h }
+    framed op.NotEqual os h = record { there = values_there 2 os h; expected = by_two _ (λ a b rest. refl) os h; gone = values_gone 2 os h }
+    framed op.Less os h = record { there = values_there 2 os h; expected = by_two _ (λ a b rest. refl) os h; gone = values_gone 2 os h }
+    framed op.LessOrEqual os h = record { there = values_there 2 os h; expected = by_two _ (λ a b rest. refl) os h; gone = values_gone 2 os h }
+    framed op.Greater os h = record { there = values_there 2 os h; expected = by_two _ (λ a b rest. refl) os h; gone = values_gone 2 os h }
+    framed op.GreaterOrEqual os h = record { there = values_there 2 os h; expected = by_two _ (λ a b rest. refl) os h; gone = values_gone 2 os h }
+    framed op.And os h = record { there = truths_there 2 os h; expected = by_truth 1 _ (λ b rest k. by_truth 0 _ (λ a others l. refl) rest k) os h; gone = truths_gone 2 os h }
+    framed op.Or os h = record { there = truths_there 2 os h; expected = by_truth 1 _ (λ b rest k. by_truth 0 _ (λ a others l. refl) rest k) os h; gone = truths_gone 2 os h }
+    framed op.Not os h = record { there = truths_there 1 os h; expected = by_truth 0 _ (λ t rest k. refl) os h; gone = truths_gone 1 os h }
+    framed op.IsNull os h = record { there = values_there 1 os h; expected = by_value 0 _ (λ a rest k. refl) os h; gone = values_gone 1 os h }
+    framed op.Like os h = record { there = values_there 2 os h; expected = by_two _ (λ a b rest. truth_on rest _) os h; gone = values_gone 2 os h }
+    framed op.LikeEscape os h = record { there = values_there 3 os h; expected = by_three _ (λ a b c rest. truth_on rest _) os h; gone = values_gone 3 os h }
+    framed op.Between os h = record { there = values_there 3 os h; expected = by_three _ (λ a b c rest. refl) os h; gone = values_gone 3 os h }
+    framed (op.In n) os h = record { there = values_there (suc n) os h; expected = by_many n _ (λ bs rest k. by_value 0 _ (λ a others l. refl) rest k) os h; gone = values_gone (suc n) os h }
+    framed op.NullIf os h = record { there = values_there 2 os h; expected = by_two _ (λ a b rest. refl) os h; gone = values_gone 2 os h }
+    framed (op.Cast to) os h = record { there = values_there 1 os h; expected = by_value 0 _ (λ a rest k. value_on rest _) os h; gone = values_gone 1 os h }
+    framed (op.Jump p) os h = record { there = h; expected = refl; gone = refl }
+    framed (op.JumpUnlessTrue p) os h = record { there = truths_there 1 os h; expected = by_truth 0 _ (λ t rest k. unless_on p t rest (is_certain t) refl) os h; gone = truths_gone 1 os h }
+    framed (op.JumpUnlessNull p) os h = record { there = values_there 1 os h; expected = by_value 0 _ (λ a rest k. set_on p a rest (is_null a) refl) os h; gone = values_gone 1 os h }
 
 -- ---- what the call says, of the operands that stand on others
 
-went_on : (low : List Operand) (due : Applied) (next : Next) (new : List Operand) → on_those low due ≡ Went next new → (own : List Operand) × (due ≡ Went next own) × (new ≡ own ++ low)
+went_on : (low : List Operand) (expected : Applied) (next : Next) (new : List Operand) → on_those low expected ≡ Went next new → (own : List Operand) × (expected ≡ Went next own) × (new ≡ own ++ low)
 went_on low (Went n os) next new e = (os, ap (λ k. Went k os) (first e), sym (second e))
   where
     first : {n next : Next} {os new : List Operand} → Went n os ≡ Went next new → n ≡ next
@@ -180,29 +180,29 @@ went_on low (Went n os) next new e = (os, ap (λ k. Went k os) (first e), sym (s
 went_on low (Raised s) next new e = absurd cc
 went_on low Stuck next new e = absurd cc
 
-raised_on : (low : List Operand) (due : Applied) (state : List ℕ) → on_those low due ≡ Raised state → due ≡ Raised state
+raised_on : (low : List Operand) (expected : Applied) (state : List ℕ) → on_those low expected ≡ Raised state → expected ≡ Raised state
 raised_on low (Went n os) state e = absurd cc
 raised_on low (Raised s) state e = e
 raised_on low Stuck state e = absurd cc
 
-refuses_on : (low : List Operand) (due : Applied) (fault : ValueFault) → Refuses (on_those low due) fault → Refuses due fault
-refuses_on low due (Condition state) h = raised_on low due state h
-refuses_on low due Memory h = tt
+refuses_on : (low : List Operand) (expected : Applied) (fault : ValueFault) → Refuses (on_those low expected) fault → Refuses expected fault
+refuses_on low expected (Condition state) h = raised_on low expected state h
+refuses_on low expected Memory h = tt
 
 refuses_as : (a b : Applied) (fault : ValueFault) → a ≡ b → Refuses a fault → Refuses b fault
 refuses_as a b (Condition state) e h = sym e ∙ h
 refuses_as a b Memory e h = tt
 
 -- the operands that are left stand on the same others, and the call says what it says of those that it was given
-record Left (n : ℕ) (own low : List Operand) (due : Applied) (result : Result Next ValueFault) (new : List Operand) : Type 0 where
+record Left (n : ℕ) (own low : List Operand) (expected : Applied) (result : Result Next ValueFault) (new : List Operand) : Type 0 where
   pub left : List Operand
   pub stand : new ≡ left ++ low
-  pub applies : Applies n own due result left
+  pub applies : Applies n own expected result left
 
-left_by : (n : ℕ) (own low new : List Operand) (due whole : Applied) (result : Result Next ValueFault) → whole ≡ on_those low due → drop n (own ++ low) ≡ drop n own ++ low
-    → Applies n (own ++ low) whole result new → Left n own low due result new
-left_by n own low new due whole (Ok next) w d h = let x = went_on low due next new (sym w ∙ h) in record { left = x.0; stand = x.2; applies = x.1 }
-left_by n own low new due whole (Err fault) w d h = record { left = drop n own; stand = h.1 ∙ d; applies = (refuses_on low due fault (refuses_as whole (on_those low due) fault w h.0), refl) }
+left_by : (n : ℕ) (own low new : List Operand) (expected whole : Applied) (result : Result Next ValueFault) → whole ≡ on_those low expected → drop n (own ++ low) ≡ drop n own ++ low
+    → Applies n (own ++ low) whole result new → Left n own low expected result new
+left_by n own low new expected whole (Ok next) w d h = let x = went_on low expected next new (sym w ∙ h) in record { left = x.0; stand = x.2; applies = x.1 }
+left_by n own low new expected whole (Err fault) w d h = record { left = drop n own; stand = h.1 ∙ d; applies = (refuses_on low expected fault (refuses_as whole (on_those low expected) fault w h.0), refl) }
 
 -- an operation over the operands of an activation, which stand on those of the callers
 module _ (o : Op) (row vars : List Datum) (bases : List ℕ) (operands : List Operand) (v : Stacked) (seen : stacked (reverse bases) (reverse operands) ≡ v) (falls : Falls (length operands) (reverse bases)) (needs : Fits o v.own row vars) where
@@ -225,17 +225,17 @@ module _ (o : Op) (row vars : List Datum) (bases : List ℕ) (operands : List Op
   fits = (subst (λ all. IsTrue (finds o all)) (parts base os) frame.there, needs.1, needs.2)
 
   pub record Done (result : Result Next ValueFault) (new : List Operand) : Type 0 where
-    pub due : Applies (taken o) v.own (applied o v.own row vars) result (above (below (reverse bases)) (reverse new))
+    pub expected : Applies (taken o) v.own (applied o v.own row vars) result (above (below (reverse bases)) (reverse new))
     pub same : callers_of (reverse bases) (reverse new) ≡ v.callers
     pub falls_now : Falls (length new) (reverse bases)
 
   pub done : (result : Result Next ValueFault) (new : List Operand) → Applies (taken o) (reverse operands) (applied o (reverse operands) row vars) result (reverse new) → Done result new
   done result new a =
-      let x = left_by (taken o) own low (reverse new) (applied o own row vars) (applied o (own ++ low) row vars) result frame.due frame.gone
+      let x = left_by (taken o) own low (reverse new) (applied o own row vars) (applied o (own ++ low) row vars) result frame.expected frame.gone
       (subst (λ all. Applies (taken o) all (applied o all row vars) result (reverse new)) (sym (parts base os)) a) in
       let left = over (reverse bases) os (reverse new) x.left (subst (λ k. Falls k (reverse bases)) (sym (length-reverse operands)) falls) x.stand in
       record {
-        due = subst (λ v. Applies (taken o) v.own (applied o v.own row vars) result (above base (reverse new))) seen
+        expected = subst (λ v. Applies (taken o) v.own (applied o v.own row vars) result (above base (reverse new))) seen
             (subst (λ after. Applies (taken o) own (applied o own row vars) result after) (sym left.is_own) x.applies);
         same = left.same ∙ ap (λ v. v.callers) seen;
         falls_now = subst (λ k. Falls k (reverse bases)) (length-reverse new) left.falls;

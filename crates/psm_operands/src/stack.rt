@@ -112,7 +112,7 @@ impl OperandStack {
         vars: &[Datum],
     ) -> Result<Next, ValueFault>
         requires { Fits op.now self.old.own row.now vars.now }
-        ensures due { Applies (taken op.now) self.old.own (applied op.now self.old.own row.now vars.now) result self.new.own }
+        ensures expected { Applies (taken op.now) self.old.own (applied op.now self.old.own row.now vars.now) result self.new.own }
         ensures callers { self.new.callers ≡ self.old.callers }
     {
         apply(alloc, op, &mut self.operands, row, vars)

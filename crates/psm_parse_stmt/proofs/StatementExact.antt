@@ -47,7 +47,7 @@ module _ (tokens : Tokens) (at depth : ℕ) (nested : depth ≤ 100) (items give
 
   -- the place where no statement goes on
   pub statement_halts : (e : Halt) (fault : ParseFault) → fault ≡ fault_at tokens e → Halts e (reading (100 - depth) statement given) → ReadsRun (Spells productions depth statement) (λ t. t) tokens at (Err fault)
-  statement_halts e fault told h =
+  statement_halts e fault reported h =
       let halts : Halts e (reading (100 - depth) statement (drop at tokens.tokens)) = subst (λ (ts : List Placed). Halts e (reading (100 - depth) statement ts)) from_here h in
-      subst (λ (f : ParseFault). ReadsRun (Spells productions depth statement) (λ t. t) tokens at (Err f)) (sym told)
+      subst (λ (f : ParseFault). ReadsRun (Spells productions depth statement) (λ t. t) tokens at (Err f)) (sym reported)
       (run_halted (Spells productions depth statement) (λ t. t) tokens at (reading (100 - depth) statement (drop at tokens.tokens)) exact_here e halts)

@@ -6,7 +6,7 @@ use Rattle.psm_grammar.specs.Grammar.{Spells}
 use Rattle.psm_grammar.specs.Places.{moved, Unnoticed}
 use Rattle.psm_grammar.proofs.Fitting.{Fit}
 use Rattle.psm_grammar.proofs.Moved.{spells_moved, one_apart}
-use Rattle.psm_grammar.proofs.Retold.{word_of, spells_retold}
+use Rattle.psm_grammar.proofs.Respelled.{word_of, spells_respelled}
 use Rattle.psm_tree.specs.Parts.{Part, Enclosed, Arguments, ExistsRest, CaseRest, CastRest, CoalesceRest, NullIfRest, FunctionRest, PositionRest, SubstringRest, TrimRest, BeginRest, LoopRest, WhileRest, RepeatRest, ForRest, IfRest, CaseStatementRest, HandlerRest, BodyRest, DeclareRest}
 use Rattle.psm_tree.specs.ExprGrammar.{Gram}
 use Rattle.psm_tree.specs.Productions.{productions}
@@ -58,5 +58,5 @@ spelled_without_positions {g} {h} carried depth = spells_moved productions witho
 pub spelled_elsewhere : {X : Type 0} {g : Gram X} {h : X → X} → Carried h g → (depth : ℕ) (w : Words Placed) (x : X) (ts : List Placed) → Spells productions depth g w x → map without_positions ts ≡ map without_positions (toks w) → SpellsUpToPositions g h depth ts x
 spelled_elsewhere {g} {h} carried depth w x ts l m =
     let u = word_of without_positions ts w m in
-    let r = spells_retold productions without_positions part_without_positions unnoticed depth g h carried.holds w x l u.0 u.2 in
+    let r = spells_respelled productions without_positions part_without_positions unnoticed depth g h carried.holds w x l u.0 u.2 in
     record { word = u.0; whole = u.1; own = r.value; spells = r.spells; same = r.same }

@@ -36,7 +36,7 @@ use Rattle.psm_tree.specs.declared.file.Mode.TheVariants as modes
 use Rattle.psm_print.specs.ExprTokens.{name_tokens, number_tokens, plus_minus_tokens, comparison_tokens, operator_tokens, text_function_tokens, set_function_tokens}
 use Rattle.psm_print.specs.StatementTokens.{handler_kind_tokens, statement_item_tokens, condition_item_tokens}
 use Rattle.psm_print.specs.FileTokens.{mode_tokens}
-use Rattle.psm_print.proofs.Into.{PrintContext, Into, into_told}
+use Rattle.psm_print.proofs.Into.{PrintContext, Into, into_equal}
 use Rattle.psm_print.proofs.Tokens.{Says, says_all, into_token}
 
 -- the place of a token whose place no tree keeps
@@ -115,12 +115,12 @@ plus_minus_again : (a : PlusMinus) → sign_of (t.Sign (plus_minus_sign a)) ≡ 
 plus_minus_again signs.Plus = refl
 plus_minus_again signs.Minus = refl
 
-plus_minus_told : (a : PlusMinus) → t.Sign (plus_minus_sign a) ∷ [] ≡ plus_minus_tokens a
-plus_minus_told signs.Plus = refl
-plus_minus_told signs.Minus = refl
+plus_minus_equal : (a : PlusMinus) → t.Sign (plus_minus_sign a) ∷ [] ≡ plus_minus_tokens a
+plus_minus_equal signs.Plus = refl
+plus_minus_equal signs.Minus = refl
 
 pub into_plus_minus : {z : PrintContext} → Into z (token plus_minus) (token plus_minus) (λ a. plus_minus_tokens a.value)
-into_plus_minus {z} = into_told _ (λ a. plus_minus_told a.value) (into_token {tok = λ a. t.Sign (plus_minus_sign a.value)} (says_all (λ a. a.place) (λ a. plus_minus_known a.value)
+into_plus_minus {z} = into_equal _ (λ a. plus_minus_equal a.value) (into_token {tok = λ a. t.Sign (plus_minus_sign a.value)} (says_all (λ a. a.place) (λ a. plus_minus_known a.value)
     (λ a. ap (λ v. record { place = a.place; value = v }) (plus_minus_again a.value)) (λ y e g. z.kept.of_sign _)))
 
 abbrev comparison_sign : Comparison → Sign
@@ -139,12 +139,12 @@ comparison_again : (a : Comparison) → comparison_of (t.Sign (comparison_sign a
 comparison_again comparisons.Equal = refl
 comparison_again _ = refl
 
-comparison_told : (a : Comparison) → t.Sign (comparison_sign a) ∷ [] ≡ comparison_tokens a
-comparison_told comparisons.Equal = refl
-comparison_told _ = refl
+comparison_equal : (a : Comparison) → t.Sign (comparison_sign a) ∷ [] ≡ comparison_tokens a
+comparison_equal comparisons.Equal = refl
+comparison_equal _ = refl
 
 pub into_comparison : {z : PrintContext} → Into z (token comparison) (token comparison) comparison_tokens
-into_comparison {z} = into_told _ comparison_told (into_token {tok = λ a. t.Sign (comparison_sign a)} (says_all (λ a. start) comparison_known comparison_again (λ y e g. z.kept.of_sign _)))
+into_comparison {z} = into_equal _ comparison_equal (into_token {tok = λ a. t.Sign (comparison_sign a)} (says_all (λ a. start) comparison_known comparison_again (λ y e g. z.kept.of_sign _)))
 
 abbrev operator_sign : Operator → Sign
 operator_sign operators.Add = s.Plus
@@ -153,9 +153,9 @@ operator_sign operators.Concatenate = s.Concatenation
 operator_sign operators.Multiply = s.Asterisk
 operator_sign operators.Divide = s.Solidus
 
-operator_told : (a : Operator) → t.Sign (operator_sign a) ∷ [] ≡ operator_tokens a
-operator_told operators.Add = refl
-operator_told _ = refl
+operator_equal : (a : Operator) → t.Sign (operator_sign a) ∷ [] ≡ operator_tokens a
+operator_equal operators.Add = refl
+operator_equal _ = refl
 
 sum_operator_known : (y : Token) → has (sign_kind (operator_sign (sum_operator_of y))) sum_operator.kinds ≡ true
 sum_operator_known (t.Sign s.Minus) = refl
@@ -168,7 +168,7 @@ sum_operator_again (t.Sign s.Concatenation) = refl
 sum_operator_again _ = refl
 
 pub into_sum_operator : {z : PrintContext} → Into z (token sum_operator) (token sum_operator) operator_tokens
-into_sum_operator {z} = into_told _ operator_told (into_token {tok = λ a. t.Sign (operator_sign a)} (record { place = λ a. start; known = λ y e. sum_operator_known y.token; again = λ y e. sum_operator_again y.token; kept = λ y e g. z.kept.of_sign _ }))
+into_sum_operator {z} = into_equal _ operator_equal (into_token {tok = λ a. t.Sign (operator_sign a)} (record { place = λ a. start; known = λ y e. sum_operator_known y.token; again = λ y e. sum_operator_again y.token; kept = λ y e g. z.kept.of_sign _ }))
 
 term_operator_known : (y : Token) → has (sign_kind (operator_sign (term_operator_of y))) term_operator.kinds ≡ true
 term_operator_known (t.Sign s.Solidus) = refl
@@ -179,7 +179,7 @@ term_operator_again (t.Sign s.Solidus) = refl
 term_operator_again _ = refl
 
 pub into_term_operator : {z : PrintContext} → Into z (token term_operator) (token term_operator) operator_tokens
-into_term_operator {z} = into_told _ operator_told (into_token {tok = λ a. t.Sign (operator_sign a)} (record { place = λ a. start; known = λ y e. term_operator_known y.token; again = λ y e. term_operator_again y.token; kept = λ y e g. z.kept.of_sign _ }))
+into_term_operator {z} = into_equal _ operator_equal (into_token {tok = λ a. t.Sign (operator_sign a)} (record { place = λ a. start; known = λ y e. term_operator_known y.token; again = λ y e. term_operator_again y.token; kept = λ y e g. z.kept.of_sign _ }))
 
 -- ---- words that choose
 
@@ -196,9 +196,9 @@ text_function_again : (a : TextFunction) → text_function_of (t.Word (text_func
 text_function_again functions.CharLength = refl
 text_function_again _ = refl
 
-pub text_function_told : (a : TextFunction) → t.Word (text_function_word a) ∷ [] ≡ text_function_tokens a
-text_function_told functions.CharLength = refl
-text_function_told _ = refl
+pub text_function_equal : (a : TextFunction) → t.Word (text_function_word a) ∷ [] ≡ text_function_tokens a
+text_function_equal functions.CharLength = refl
+text_function_equal _ = refl
 
 pub says_text_function : {z : PrintContext} → Says z text_function text_function (λ a. t.Word (text_function_word a.value))
 says_text_function {z} = says_all (λ a. a.place) (λ a. text_function_known a.value) (λ a. ap (λ v. record { place = a.place; value = v }) (text_function_again a.value)) (λ y e g. z.kept.of_word _)
@@ -222,12 +222,12 @@ set_function_again (t.Word w.Min) = refl
 set_function_again (t.Word w.Max) = refl
 set_function_again _ = refl
 
-set_function_told : (a : SetFunction) → t.Word (set_function_word a) ∷ [] ≡ set_function_tokens a
-set_function_told sets.Count = refl
-set_function_told _ = refl
+set_function_equal : (a : SetFunction) → t.Word (set_function_word a) ∷ [] ≡ set_function_tokens a
+set_function_equal sets.Count = refl
+set_function_equal _ = refl
 
 pub into_set_function : {z : PrintContext} → Into z (token set_function) (token set_function) (λ a. set_function_tokens a.value)
-into_set_function {z} = into_told _ (λ a. set_function_told a.value) (into_token {tok = λ a. t.Word (set_function_word a.value)} (record {
+into_set_function {z} = into_equal _ (λ a. set_function_equal a.value) (into_token {tok = λ a. t.Word (set_function_word a.value)} (record {
   place = λ a. a.place;
   known = λ y e. set_function_known y.token;
   again = λ y e. ap (λ v. record { place = y.place; value = v }) (set_function_again y.token);
@@ -280,9 +280,9 @@ handler_again : (a : HandlerKind) → handler_kind_of (t.Word (handler_word a)) 
 handler_again handlers.Continue = refl
 handler_again _ = refl
 
-pub handler_told : (a : HandlerKind) → t.Word (handler_word a) ∷ [] ≡ handler_kind_tokens a
-handler_told handlers.Continue = refl
-handler_told _ = refl
+pub handler_equal : (a : HandlerKind) → t.Word (handler_word a) ∷ [] ≡ handler_kind_tokens a
+handler_equal handlers.Continue = refl
+handler_equal _ = refl
 
 pub says_handler : {z : PrintContext} → Says z handler_kind handler_kind (λ a. t.Word (handler_word a.value))
 says_handler {z} = says_all (λ a. a.place) (λ a. handler_known a.value) (λ a. ap (λ v. record { place = a.place; value = v }) (handler_again a.value)) (λ y e g. z.kept.of_word _)
@@ -300,12 +300,12 @@ item_again : (a : StatementItem) → statement_item_of (t.Word (item_word a)) �
 item_again items.Number = refl
 item_again _ = refl
 
-item_told : (a : StatementItem) → t.Word (item_word a) ∷ [] ≡ statement_item_tokens a
-item_told items.Number = refl
-item_told _ = refl
+item_equal : (a : StatementItem) → t.Word (item_word a) ∷ [] ≡ statement_item_tokens a
+item_equal items.Number = refl
+item_equal _ = refl
 
 pub into_statement_item : {z : PrintContext} → Into z (token statement_item) (token statement_item) (λ a. statement_item_tokens a.value)
-into_statement_item {z} = into_told _ (λ a. item_told a.value) (into_token {tok = λ a. t.Word (item_word a.value)} (says_all (λ a. a.place) (λ a. item_known a.value)
+into_statement_item {z} = into_equal _ (λ a. item_equal a.value) (into_token {tok = λ a. t.Word (item_word a.value)} (says_all (λ a. a.place) (λ a. item_known a.value)
     (λ a. ap (λ v. record { place = a.place; value = v }) (item_again a.value)) (λ y e g. z.kept.of_word _)))
 
 abbrev condition_word : ConditionItem → Word
@@ -325,12 +325,12 @@ condition_again : (a : ConditionItem) → condition_item_of (t.Word (condition_w
 condition_again conditions.ConditionNumber = refl
 condition_again _ = refl
 
-condition_told : (a : ConditionItem) → t.Word (condition_word a) ∷ [] ≡ condition_item_tokens a
-condition_told conditions.ConditionNumber = refl
-condition_told _ = refl
+condition_equal : (a : ConditionItem) → t.Word (condition_word a) ∷ [] ≡ condition_item_tokens a
+condition_equal conditions.ConditionNumber = refl
+condition_equal _ = refl
 
 pub into_condition_item : {z : PrintContext} → Into z (token condition_item) (token condition_item) (λ a. condition_item_tokens a.value)
-into_condition_item {z} = into_told _ (λ a. condition_told a.value) (into_token {tok = λ a. t.Word (condition_word a.value)} (says_all (λ a. a.place) (λ a. condition_known a.value)
+into_condition_item {z} = into_equal _ (λ a. condition_equal a.value) (into_token {tok = λ a. t.Word (condition_word a.value)} (says_all (λ a. a.place) (λ a. condition_known a.value)
     (λ a. ap (λ v. record { place = a.place; value = v }) (condition_again a.value)) (λ y e g. z.kept.of_word _)))
 
 abbrev mode_word : Mode → Word
@@ -346,10 +346,10 @@ mode_again : (a : Mode) → mode_of (t.Word (mode_word a)) ≡ a
 mode_again modes.In = refl
 mode_again _ = refl
 
-mode_told : (a : Mode) → t.Word (mode_word a) ∷ [] ≡ mode_tokens a
-mode_told modes.In = refl
-mode_told _ = refl
+mode_equal : (a : Mode) → t.Word (mode_word a) ∷ [] ≡ mode_tokens a
+mode_equal modes.In = refl
+mode_equal _ = refl
 
 pub into_mode : {z : PrintContext} → Into z (token mode) (token mode) (λ a. mode_tokens a.value)
-into_mode {z} = into_told _ (λ a. mode_told a.value) (into_token {tok = λ a. t.Word (mode_word a.value)} (says_all (λ a. a.place) (λ a. mode_known a.value)
+into_mode {z} = into_equal _ (λ a. mode_equal a.value) (into_token {tok = λ a. t.Word (mode_word a.value)} (says_all (λ a. a.place) (λ a. mode_known a.value)
     (λ a. ap (λ v. record { place = a.place; value = v }) (mode_again a.value)) (λ y e g. z.kept.of_word _)))

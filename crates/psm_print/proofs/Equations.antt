@@ -211,8 +211,8 @@ query_tokens : (place : Place) (picks : Several Pick) (table : Identifier) (alia
 query_tokens place picks table alias None = refl
 query_tokens place picks table alias (Some condition) = refl
 
-pub select_told : (q : Select-F Expr Pick ChainLink Select When) → select_tokens (roll-Select q) ≡ word w.Select ++ separated (sign s.Comma) (several_map pick_tokens q.picks) ++ table_tokens q.table q.alias (option_map expr_tokens q.condition)
-select_told q = select_rolled q ∙ query_tokens q.place q.picks q.table q.alias q.condition
+pub select_equal : (q : Select-F Expr Pick ChainLink Select When) → select_tokens (roll-Select q) ≡ word w.Select ++ separated (sign s.Comma) (several_map pick_tokens q.picks) ++ table_tokens q.table q.alias (option_map expr_tokens q.condition)
+select_equal q = select_rolled q ∙ query_tokens q.place q.picks q.table q.alias q.condition
 
 pub tokens_select : (q : Select) → select_tokens q ≡ word w.Select ++ separated (sign s.Comma) (several_map pick_tokens (out-Select q).picks) ++ table_tokens (out-Select q).table (out-Select q).alias (option_map expr_tokens (out-Select q).condition)
 tokens_select q = let o = out-Select q in fold_out-Select Spelling Spelling Spelling Spelling Spelling expr_layer_tokens pick_layer_tokens chain_link_layer_tokens select_layer_tokens when_layer_tokens q ∙ query_tokens o.place o.picks o.table o.alias o.condition

@@ -25,7 +25,7 @@ use Rattle.psm_print.proofs.Regrouped.{before2}
 use Rattle.psm_print.proofs.Into.{PrintContext, Into, into_seq, into_seq_if, into_both, into_before, into_front, left_out, or_from, or_left, or_right, into_or, ahead_right, seq_ahead, seq_again, into_image, into_perhaps, into_each, into_ended}
 use Rattle.psm_print.proofs.Tokens.{into_word, into_sign, after_word, after_sign, before_word, before_sign, into_closed, into_parens, into_commas}
 use Rattle.psm_print.proofs.Chosen.{into_name, into_char}
-use Rattle.psm_print.proofs.TypesInto.{names_in_parens_into, rest_tokens, IsChar, is_char, char_told, plain_into, varying_into, char_length_into, data_type_into, constant_into}
+use Rattle.psm_print.proofs.TypesInto.{names_in_parens_into, rest_tokens, IsChar, is_char, char_equal, plain_into, varying_into, char_length_into, data_type_into, constant_into}
 use Rattle.psm_print.proofs.ExprInto.{expr_into}
 use Rattle.psm_print.proofs.ParamInto.{param_into}
 use Rattle.psm_print.proofs.StatementInto.{statement_into}
@@ -126,7 +126,7 @@ OfChar p = IsChar p.0
 char_returned_into : {z : PrintContext} → Into z (seq returned_char (token char_word) (seq pair char_length noted_statement)) returned returned_tokens
 unfolding FileGrammar.all_files
 char_returned_into {z} = or_left (into_seq_if returned_tokens OfChar (λ u y l. subst OfChar (sym l.made) (is_char z l.front l.one l.left)) into_char
-    (ahead_right (into_seq (λ p. rest_tokens p.0 ++ noted_tokens p.1) char_length_into noted_into (λ x y. refl))) (λ x y h. ap (λ ts. ts ++ noted_tokens y.1) (char_told x y.0 h)))
+    (ahead_right (into_seq (λ p. rest_tokens p.0 ++ noted_tokens p.1) char_length_into noted_into (λ x y. refl))) (λ x y h. ap (λ ts. ts ++ noted_tokens y.1) (char_equal x y.0 h)))
 
 returned_into : {z : PrintContext} → Into z returned returned returned_tokens
 unfolding FileGrammar.all_files
@@ -174,11 +174,11 @@ created_into = into_each [] created_tokens (after_word w.Table (into_seq (λ p. 
 moved_left : (t c m e k : Spelling) → word w.Create ++ (c ++ m) ≡ e ++ k → word w.Create ++ ((word w.Table ++ t ++ (sign s.Semicolon ++ word w.Create)) ++ c ++ m) ≡ ((word w.Create ++ word w.Table ++ t) ++ sign s.Semicolon) ++ e ++ k
 moved_left t c m e k h = grind (arith, append_assoc, h)
 
-file_told : (place : Place) (ts : List (TableRest × Place)) (m : ModuleRest) → word w.Create ++ (each [] (map created_tokens ts) ++ body_tokens m) ≡ file_tokens (file_of place (ts, m))
-file_told place [] m = refl
-file_told place (x ∷ ts) m = moved_left (table_tokens x.0) (each [] (map created_tokens ts)) (body_tokens m) (ended (map table_tree_tokens (tables_from x.1 ts))) (module_tokens (file_of x.1 (ts, m)).«module») (file_told x.1 ts m)
+file_equal : (place : Place) (ts : List (TableRest × Place)) (m : ModuleRest) → word w.Create ++ (each [] (map created_tokens ts) ++ body_tokens m) ≡ file_tokens (file_of place (ts, m))
+file_equal place [] m = refl
+file_equal place (x ∷ ts) m = moved_left (table_tokens x.0) (each [] (map created_tokens ts)) (body_tokens m) (ended (map table_tree_tokens (tables_from x.1 ts))) (module_tokens (file_of x.1 (ts, m)).«module») (file_equal x.1 ts m)
 
 -- the last semicolon is left out
 pub file_into : {z : PrintContext} → Into z file file file_tokens
 unfolding FileGrammar.all_files
-file_into = into_seq file_tokens (into_word w.Create) (into_seq (λ p. each [] (map created_tokens p.0) ++ body_tokens p.1) created_into (into_front module_into) (λ x y. refl)) (λ x y. file_told x y.0 y.1)
+file_into = into_seq file_tokens (into_word w.Create) (into_seq (λ p. each [] (map created_tokens p.0) ++ body_tokens p.1) created_into (into_front module_into) (λ x y. refl)) (λ x y. file_equal x y.0 y.1)

@@ -34,8 +34,8 @@ good_back good (y ∷ u) v a = good_back good u v a.1
 -- ---- printed words
 
 module _ {good : Token → Type 0} {X : Type 0} {L : Lang Placed X} {x : X} where
-  pub retold : {ts us : List Token} {n : ℕ} → ts ≡ us → Printed good L x ts n → Printed good L x us n
-  retold e p = record { word = p.word; spells = p.spells; bare = p.bare ∙ e; short = p.short; kept = p.kept }
+  pub respelled : {ts us : List Token} {n : ℕ} → ts ≡ us → Printed good L x ts n → Printed good L x us n
+  respelled e p = record { word = p.word; spells = p.spells; bare = p.bare ∙ e; short = p.short; kept = p.kept }
 
   pub shorter : {ts : List Token} {n m : ℕ} → n ≤ m → Printed good L x ts n → Printed good L x ts m
   shorter e p = record { word = p.word; spells = p.spells; bare = p.bare; short = le_trans p.short e; kept = p.kept }
@@ -76,12 +76,12 @@ said z g w x = lang z.inner z.same z.depth g w x
 pub record Into (z : PrintContext) {X : Type 0} (g h : Gram X) (c : X → List Token) : Type 0 where
   pub into : (w : Words Placed) (x : X) → said z g w x → AllGood z.good w → Printed z.good (said z h) x (c x) (length w)
 
-pub into_told : {z : PrintContext} {X : Type 0} {g h : Gram X} {b : X → List Token} (c : X → List Token) → ((x : X) → b x ≡ c x) → Into z g h b → Into z g h c
-into_told c e i = record { into = λ w x l a. retold (e x) (i.into w x l a) }
+pub into_equal : {z : PrintContext} {X : Type 0} {g h : Gram X} {b : X → List Token} (c : X → List Token) → ((x : X) → b x ≡ c x) → Into z g h b → Into z g h c
+into_equal c e i = record { into = λ w x l a. respelled (e x) (i.into w x l a) }
 
 -- where the value is of one kind
-pub into_told_if : {z : PrintContext} {X : Type 0} {g h : Gram X} {b : X → List Token} (c : X → List Token) → ((w : Words Placed) (x : X) → said z g w x → b x ≡ c x) → Into z g h b → Into z g h c
-into_told_if c e i = record { into = λ w x l a. retold (e w x l) (i.into w x l a) }
+pub into_equal_if : {z : PrintContext} {X : Type 0} {g h : Gram X} {b : X → List Token} (c : X → List Token) → ((w : Words Placed) (x : X) → said z g w x → b x ≡ c x) → Into z g h b → Into z g h c
+into_equal_if c e i = record { into = λ w x l a. respelled (e w x l) (i.into w x l a) }
 
 -- ---- parts in a row
 
@@ -94,7 +94,7 @@ into_seq_if {z} {f = f} {h = h} {k = k} c Q known i j e = record {
       let p = i.into l.front l.one l.left (good_front z.good l.front l.back g) in
       let q = j.into l.back l.two l.right (good_back z.good l.front l.back g) in
       let n : length l.front + length l.back ≤ length w = omega (arith, length-append l.front l.back, ap length l.whole) in
-      subst (λ v. Printed z.good (said z (seq f h k)) v (c v) (length w)) (sym l.made) (retold (e l.one l.two (known l.back l.two l.right)) (shorter n (joined f p q)));
+      subst (λ v. Printed z.good (said z (seq f h k)) v (c v) (length w)) (sym l.made) (respelled (e l.one l.two (known l.back l.two l.right)) (shorter n (joined f p q)));
 }
 
 pub into_seq : {z : PrintContext} {X Y Z : Type 0} {f : X → Y → Z} {p h : Gram X} {q k : Gram Y} {b : X → List Token} {d : Y → List Token} (c : Z → List Token)
@@ -108,10 +108,10 @@ into_front {z} {c = c} i = record {
       let p = i.into l.front l.one l.left (good_front z.good l.front l.back (subst (AllGood z.good) l.whole a)) in
       let n : length l.front ≤ length w = omega (arith, length-append l.front l.back, ap length l.whole) in
       reread (λ u m. record { front = u; back = []; one = l.one; two = None; whole = sym (append-nil u); left = m; right = inr (record { whole = refl; made = refl }); made = l.made })
-      (retold (ap c (sym l.made)) (shorter n p));
+      (respelled (ap c (sym l.made)) (shorter n p));
 }
 
--- what may stand between two parts is left out, where the value doesn't tell it
+-- what may stand between two parts is left out, where the value doesn't say it
 pub into_both : {z : PrintContext} {X Y Z A : Type 0} {f : X → Option A × Y → Z} {p h : Gram X} {q : Gram A} {r k : Gram Y} {b : X → List Token} {d : Y → List Token} (c : Z → List Token)
     → Into z p h b → Into z r k d → ((x : X) (o : Option A) (y : Y) → f x (o, y) ≡ f x (None, y)) → ((x : X) (y : Y) → b x ++ d y ≡ c (f x (None, y))) → Into z (seq f p (seq pair (optional q) r)) (seq f h (seq pair (optional q) k)) c
 into_both {z} {X} {Y} {A = A} {f = f} {h = h} {q = q} {k = k} c i j same e = record {
@@ -124,10 +124,10 @@ into_both {z} {X} {Y} {A = A} {f = f} {h = h} {q = q} {k = k} c i j same e = rec
       let n : length l.front + length m.back ≤ length w = omega (arith, length-append l.front l.back, ap length l.whole, length-append m.front m.back, ap length m.whole) in
       let back : Printed z.good (said z (seq pair (optional q) k)) (None, m.two) _ (length m.back) =
       reread (λ t s. record { front = []; back = t; one = None; two = m.two; whole = refl; left = inr (record { whole = refl; made = refl }); right = s; made = refl }) v in
-      subst (λ y. Printed z.good (said z (seq f h (seq pair (optional q) k))) y (c y) (length w)) (sym made) (retold (e l.one m.two) (shorter n (joined f u back)));
+      subst (λ y. Printed z.good (said z (seq f h (seq pair (optional q) k))) y (c y) (length w)) (sym made) (respelled (e l.one m.two) (shorter n (joined f u back)));
 }
 
--- what may stand behind two parts is left out, where the value doesn't tell it
+-- what may stand after two parts is left out, where the value doesn't say it
 pub into_before : {z : PrintContext} {X Y Z A : Type 0} {f : X → Y × Option A → Z} {p h : Gram X} {q : Gram A} {r k : Gram Y} {b : X → List Token} {d : Y → List Token} (c : Z → List Token)
     → Into z p h b → Into z r k d → ((x : X) (y : Y) (o : Option A) → f x (y, o) ≡ f x (y, None)) → ((x : X) (y : Y) → b x ++ d y ≡ c (f x (y, None))) → Into z (seq f p (seq pair r (optional q))) (seq f h (seq pair k (optional q))) c
 into_before {z} {X} {Y} {A = A} {f = f} {h = h} {q = q} {k = k} c i j same e = record {
@@ -140,7 +140,7 @@ into_before {z} {X} {Y} {A = A} {f = f} {h = h} {q = q} {k = k} c i j same e = r
       let n : length l.front + length m.front ≤ length w = omega (arith, length-append l.front l.back, ap length l.whole, length-append m.front m.back, ap length m.whole) in
       let back : Printed z.good (said z (seq pair k (optional q))) (m.one, None) _ (length m.front) =
       reread (λ t s. record { front = t; back = []; one = m.one; two = None; whole = sym (append-nil t); left = s; right = inr (record { whole = refl; made = refl }); made = refl }) v in
-      subst (λ y. Printed z.good (said z (seq f h (seq pair k (optional q)))) y (c y) (length w)) (sym made) (retold (e l.one m.one) (shorter n (joined f u back)));
+      subst (λ y. Printed z.good (said z (seq f h (seq pair k (optional q)))) y (c y) (length w)) (sym made) (respelled (e l.one m.one) (shorter n (joined f u back)));
 }
 
 -- a token before the printed word is left out
@@ -211,7 +211,7 @@ seq_again {f = f} k m e i = record {
 pub into_image : {z : PrintContext} {X Y : Type 0} {f : X → Y} {p h : Gram X} {b : X → List Token} (c : Y → List Token) → Into z p h b → ((x : X) → b x ≡ c (f x)) → Into z (image f p) (image f h) c
 into_image c i e = record {
   into = λ w x l a.
-      reread (λ u m. record { one = l.one; left = m; made = l.made }) (retold (e l.one ∙ ap c (sym l.made)) (i.into w l.one l.left a));
+      reread (λ u m. record { one = l.one; left = m; made = l.made }) (respelled (e l.one ∙ ap c (sym l.made)) (i.into w l.one l.left a));
 }
 
 pub into_nothing : {z : PrintContext} {X : Type 0} {y : X} (c : X → List Token) → c y ≡ [] → Into z (nothing y) (nothing y) c

@@ -22,7 +22,7 @@ use Rattle.psm_print.specs.ExprTokens.{name_tokens, type_tokens}
 use Rattle.psm_print.specs.FileTokens.{same_place, mode_tokens, said_tokens, parameter_tokens}
 use Rattle.psm_print.proofs.Printed.{AllGood, Printed}
 use Rattle.psm_print.proofs.Regrouped.{before2}
-use Rattle.psm_print.proofs.Into.{PrintContext, Into, said, good_back, retold, shorter, reread, into_seq, or_from, or_left, or_right, into_image}
+use Rattle.psm_print.proofs.Into.{PrintContext, Into, said, good_back, respelled, shorter, reread, into_seq, or_from, or_left, or_right, into_image}
 use Rattle.psm_print.proofs.Chosen.{into_name, into_mode}
 use Rattle.psm_print.proofs.TypesInto.{data_type_into}
 
@@ -52,14 +52,14 @@ module _ (z : PrintContext) (place : Place) (p : Identifier × DataType) (n : �
   mode_at modes.Out same e q = q
   mode_at modes.InOut same e q = q
 
-said_told : (m : Mode) (same : Bool) (p : Identifier × DataType) → said_tokens m same ++ named_tokens p ≡ said_tokens m same ++ name_tokens p.0 ++ type_tokens p.1
-said_told m same p = before2 (said_tokens m same) (name_tokens p.0) (type_tokens p.1)
+said_equal : (m : Mode) (same : Bool) (p : Identifier × DataType) → said_tokens m same ++ named_tokens p ≡ said_tokens m same ++ name_tokens p.0 ++ type_tokens p.1
+said_equal m same p = before2 (said_tokens m same) (name_tokens p.0) (type_tokens p.1)
 
 same_refl : (p : Place) → same_place p p ≡ true
 same_refl p = λ i. eq-eqb p.line p.line refl i && eq-eqb p.column p.column refl i
 
-unmoded_told : (p : Identifier × DataType) → named_tokens p ≡ parameter_tokens (unmoded p)
-unmoded_told p = ap (λ b. said_tokens modes.In b ++ name_tokens p.0 ++ type_tokens p.1) (sym (same_refl p.0.place))
+unmoded_equal : (p : Identifier × DataType) → named_tokens p ≡ parameter_tokens (unmoded p)
+unmoded_equal p = ap (λ b. said_tokens modes.In b ++ name_tokens p.0 ++ type_tokens p.1) (sym (same_refl p.0.place))
 
 said_into : (z : PrintContext) (u : Words Placed) (x : Parameter) → said z (seq moded (token mode) named_type) u x → AllGood z.good u → Printed z.good (said z param) x (parameter_tokens x) (length u)
 unfolding FileGrammar.all_files
@@ -67,8 +67,8 @@ said_into z u x l a =
     let alone = (named_type_into {z = z}).into l.back l.two l.right (good_back z.good l.front l.back (subst (AllGood z.good) l.whole a)) in
     let n : length l.back ≤ length u = omega (arith, length-append l.front l.back, ap length l.whole) in
     let q : Printed z.good (said z param) (moded l.one l.two) (mode_tokens l.one.value ++ named_tokens l.two) (length u) = subst (λ y. Printed z.good (said z param) y (mode_tokens y.mode ++ (name_tokens y.name ++ type_tokens y.kind)) (length u)) l.made ((moded_into {z = z}).into u x l a) in
-    subst (λ y. Printed z.good (said z param) y (parameter_tokens y) (length u)) (sym l.made) (retold (said_told l.one.value (same_place l.one.place l.two.0.place) l.two) (mode_at z l.one.place l.two (length u) (shorter n alone) l.one.value (same_place l.one.place l.two.0.place) refl q))
+    subst (λ y. Printed z.good (said z param) y (parameter_tokens y) (length u)) (sym l.made) (respelled (said_equal l.one.value (same_place l.one.place l.two.0.place) l.two) (mode_at z l.one.place l.two (length u) (shorter n alone) l.one.value (same_place l.one.place l.two.0.place) refl q))
 
 pub param_into : {z : PrintContext} → Into z param param parameter_tokens
 unfolding FileGrammar.all_files
-param_into {z} = or_from (record { into = said_into z }) (or_right (into_image parameter_tokens named_type_into unmoded_told))
+param_into {z} = or_from (record { into = said_into z }) (or_right (into_image parameter_tokens named_type_into unmoded_equal))

@@ -86,9 +86,9 @@ Late Cursors b = NoneOf b.declarations
 Late Handlers b = NoneOf b.declarations × NoneOf b.cursors
 
 -- where all may still come, a cursor ends the variables; where cursors may, nothing else with a name comes
-abbrev pub Comes : NamedRest → Body → Type 0
-Comes (Cursor insensitive query updatability) b = Late Cursors b
-Comes rest b = Unit {0}
+abbrev pub MayPrecede : NamedRest → Body → Type 0
+MayPrecede (Cursor insensitive query updatability) b = Late Cursors b
+MayPrecede rest b = Unit {0}
 
 abbrev pub OnlyCursor : NamedRest → Body → Type 0
 OnlyCursor (Cursor insensitive query updatability) b = Late Cursors b
@@ -97,7 +97,7 @@ OnlyCursor rest b = ⊥
 -- what is declared is of its phase, and what follows it comes no earlier
 abbrev pub Ordered : Phase → Declared → Body → Type 0
 Ordered phase (Handled kind p) b = Late Handlers b
-Ordered Declarations (Named name rest) b = Comes rest b
+Ordered Declarations (Named name rest) b = MayPrecede rest b
 Ordered Cursors (Named name rest) b = OnlyCursor rest b
 Ordered Handlers (Named name rest) b = ⊥
 

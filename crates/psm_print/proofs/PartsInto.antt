@@ -16,7 +16,7 @@ use Rattle.psm_print.specs.Spelling.{Spelling, word, sign, separated}
 use Rattle.psm_print.specs.ExprTokens.{name_tokens, target_tokens, expr_tokens}
 use Rattle.psm_print.specs.StatementTokens.{state_tokens, direction_tokens, column_order_tokens, order_tokens, ordered_query_tokens, condition_tokens, signalled_tokens, where_tokens, values_tokens, rows_tokens, insert_source_tokens, assignment_tokens, statement_item_tokens, condition_item_tokens, statement_info_tokens, condition_info_tokens, condition_number_tokens, diagnostics_tokens, area_tokens, updatability_tokens, insensitive_tokens, handler_value_tokens, handled_tokens, atomic_tokens}
 use Rattle.psm_print.proofs.Regrouped.{before2}
-use Rattle.psm_print.proofs.Into.{PrintContext, Into, into_told, into_told_if, into_seq, left_out, or_from, or_right, into_or, into_gone, into_image, into_nothing, into_perhaps}
+use Rattle.psm_print.proofs.Into.{PrintContext, Into, into_equal, into_equal_if, into_seq, left_out, or_from, or_right, into_or, into_gone, into_image, into_nothing, into_perhaps}
 use Rattle.psm_print.proofs.Tokens.{into_word, into_sign, after_word, after_sign, into_closed, into_commas}
 use Rattle.psm_print.proofs.Chosen.{into_name, into_number, into_text, into_statement_item, into_condition_item, into_exception}
 use Rattle.psm_print.proofs.TypesInto.{target_into}
@@ -82,15 +82,15 @@ IsCurrent x = word w.Current ++ word w.Of ++ cursor_name x ≡ which_tokens x
 
 current_into : {z : PrintContext} → Into z current current which_tokens
 unfolding StatementGrammar.all_statements
-current_into = into_told_if which_tokens (λ u x l. subst IsCurrent (sym (l.made ∙ l.right.made ∙ l.right.right.made)) refl) (after_word w.Current (after_word w.Of (into_image cursor_name into_name (λ x. refl))))
+current_into = into_equal_if which_tokens (λ u x l. subst IsCurrent (sym (l.made ∙ l.right.made ∙ l.right.right.made)) refl) (after_word w.Current (after_word w.Of (into_image cursor_name into_name (λ x. refl))))
 
-where_told : (x : Where) → word w.Where ++ which_tokens x ≡ where_tokens x
-where_told (wheres.Condition condition) = refl
-where_told (wheres.Current cursor) = refl
+where_equal : (x : Where) → word w.Where ++ which_tokens x ≡ where_tokens x
+where_equal (wheres.Condition condition) = refl
+where_equal (wheres.Current cursor) = refl
 
 pub where_into : {z : PrintContext} → Into z where_part where_part where_tokens
 unfolding StatementGrammar.all_statements
-where_into = into_told where_tokens where_told (after_word w.Where (into_or current_into (into_image which_tokens expr_into (λ x. refl))))
+where_into = into_equal where_tokens where_equal (after_word w.Where (into_or current_into (into_image which_tokens expr_into (λ x. refl))))
 
 pub values_into : {z : PrintContext} → Into z values values values_tokens
 unfolding StatementGrammar.all_statements
@@ -105,7 +105,7 @@ AreRows x = word w.Values ++ inserted_tokens x ≡ insert_source_tokens x
 
 insert_values_into : {z : PrintContext} → Into z insert_values insert_values insert_source_tokens
 unfolding StatementGrammar.all_statements
-insert_values_into = into_told_if insert_source_tokens (λ u x l. subst AreRows (sym (l.made ∙ l.right.made)) refl)
+insert_values_into = into_equal_if insert_source_tokens (λ u x l. subst AreRows (sym (l.made ∙ l.right.made)) refl)
     (after_word w.Values (into_image inserted_tokens (into_commas values_tokens values_into) (λ x. refl)))
 
 pub insert_source_into : {z : PrintContext} → Into z insert_source insert_source insert_source_tokens
@@ -139,7 +139,7 @@ IsException x = word w.Exception ++ exception_tokens x ≡ diagnostics_tokens x
 
 exception_into : {z : PrintContext} → Into z exception_diagnostics exception_diagnostics diagnostics_tokens
 unfolding StatementGrammar.all_statements
-exception_into = into_told_if diagnostics_tokens (λ u x l. subst IsException (sym (l.made ∙ l.right.made)) refl)
+exception_into = into_equal_if diagnostics_tokens (λ u x l. subst IsException (sym (l.made ∙ l.right.made)) refl)
     (into_seq (λ x. word w.Exception ++ exception_tokens x) into_exception (into_seq exception_tokens condition_number_into (into_commas condition_info_tokens condition_info_into) (λ x y. refl)) (λ x y. refl))
 
 pub diagnostics_into : {z : PrintContext} → Into z diagnostics diagnostics diagnostics_tokens
@@ -166,7 +166,7 @@ IsReadOnly x = word w.Read ++ word w.Only ≡ updatability_tokens x
 
 read_only_into : {z : PrintContext} → Into z read_only_part read_only_part updatability_tokens
 unfolding StatementGrammar.all_statements
-read_only_into = into_told_if updatability_tokens (λ u x l. subst IsReadOnly (sym (l.made ∙ l.right.made)) refl) (after_word w.Read (into_image (λ x. word w.Only) (into_word w.Only) (λ x. refl)))
+read_only_into = into_equal_if updatability_tokens (λ u x l. subst IsReadOnly (sym (l.made ∙ l.right.made)) refl) (after_word w.Read (into_image (λ x. word w.Only) (into_word w.Only) (λ x. refl)))
 
 pub updatability_into : {z : PrintContext} → Into z updatability updatability (λ x. word w.For ++ updatability_tokens x)
 unfolding StatementGrammar.all_statements

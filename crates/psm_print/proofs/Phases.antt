@@ -14,7 +14,7 @@ use Rattle.psm_tree.specs.StatementGrammar.{declaration_rest, body_rest, declare
 use Rattle.psm_tree.specs.declared.name.Identifier.{Identifier}
 use Rattle.psm_tree.specs.declared.statement.Statement.{Statement}
 use Rattle.psm_tree.specs.declared.statement.HandlerKind.{HandlerKind}
-use Rattle.psm_print.proofs.PartTokens.{Late, Comes, OnlyCursor, Ordered, Shaped}
+use Rattle.psm_print.proofs.PartTokens.{Late, MayPrecede, OnlyCursor, Ordered, Shaped}
 
 late_undeclared : (phase : Phase) (xs : List Statement) → Late phase (undeclared xs)
 late_undeclared Declarations xs = tt
@@ -38,10 +38,10 @@ handled_ordered Declarations k p b h = h
 handled_ordered Cursors k p b h = h
 handled_ordered Handlers k p b h = h
 
-pub only_comes : (x : NamedRest) (b : Body) → OnlyCursor x b → Comes x b
-only_comes (Cursor insensitive query updatability) b h = h
-only_comes (Variables others kind default) b h = tt
-only_comes (Condition state) b h = tt
+pub only_precedes : (x : NamedRest) (b : Body) → OnlyCursor x b → MayPrecede x b
+only_precedes (Cursor insensitive query updatability) b h = h
+only_precedes (Variables others kind default) b h = tt
+only_precedes (Condition state) b h = tt
 
 module _ (inner same : (n : Part) → Lang Placed (V n)) (d : ℕ) (known : (n : Part) (w : Words Placed) (x : V n) → same n w x → Shaped n x) where
   body_shaped : (phase : Phase) (w : Words Placed) (x : Body) → lang inner same d (body_rest phase) w x → Late phase x
@@ -63,21 +63,21 @@ module _ (inner same : (n : Part) → Lang Placed (V n)) (d : ℕ) (known : (n :
       let o : OnlyCursor l.one l.two = subst (λ y. OnlyCursor y l.two) (sym l.left.made) h in
       subst (λ (p : NamedRest × Body). OnlyCursor p.0 p.1) (sym l.made) o
 
-  variables_come : (w : Words Placed) (x : NamedRest) (b : Body) → lang inner same d declaration_rest w x → Comes x b
+  variables_come : (w : Words Placed) (x : NamedRest) (b : Body) → lang inner same d declaration_rest w x → MayPrecede x b
   unfolding StatementGrammar.all_statements
-  variables_come w x b (inl l) = subst (λ y. Comes y b) (sym l.made) tt
-  variables_come w x b (inr (inl l)) = subst (λ y. Comes y b) (sym l.made) tt
-  variables_come w x b (inr (inr l)) = subst (λ y. Comes y b) (sym l.made) tt
+  variables_come w x b (inl l) = subst (λ y. MayPrecede y b) (sym l.made) tt
+  variables_come w x b (inr (inl l)) = subst (λ y. MayPrecede y b) (sym l.made) tt
+  variables_come w x b (inr (inr l)) = subst (λ y. MayPrecede y b) (sym l.made) tt
 
-  variables_shaped : (w : Words Placed) (x : NamedRest × Body) → lang inner same d declared_variables w x → Comes x.0 x.1
+  variables_shaped : (w : Words Placed) (x : NamedRest × Body) → lang inner same d declared_variables w x → MayPrecede x.0 x.1
   unfolding StatementGrammar.all_statements
-  variables_shaped w x l = subst (λ (p : NamedRest × Body). Comes p.0 p.1) (sym l.made) (variables_come l.front l.one l.two l.left)
+  variables_shaped w x l = subst (λ (p : NamedRest × Body). MayPrecede p.0 p.1) (sym l.made) (variables_come l.front l.one l.two l.left)
 
   declare_shaped : (phase : Phase) (w : Words Placed) (x : Declared × Body) → lang inner same d (declare_rest phase) w x → Ordered phase x.0 x.1
   unfolding StatementGrammar.all_statements
   declare_shaped Declarations w x (inl l) = handler_shaped Declarations w x l
   declare_shaped Declarations w x (inr l) = subst (λ (p : Declared × Body). Ordered Declarations p.0 p.1) (sym l.made)
-      (elim l.right [ inl m ↦ only_comes l.two.0 l.two.1 (cursor_shaped l.back l.two m) | inr m ↦ variables_shaped l.back l.two m ])
+      (elim l.right [ inl m ↦ only_precedes l.two.0 l.two.1 (cursor_shaped l.back l.two m) | inr m ↦ variables_shaped l.back l.two m ])
   declare_shaped Cursors w x (inl l) = handler_shaped Cursors w x l
   declare_shaped Cursors w x (inr l) = subst (λ (p : Declared × Body). Ordered Cursors p.0 p.1) (sym l.made) (cursor_shaped l.back l.two l.right)
   declare_shaped Handlers w x l = handler_shaped Handlers w x l

@@ -28,8 +28,8 @@ use Rattle.psm_print.specs.ExprTokens.{name_tokens, type_tokens, set_function_to
 use Rattle.psm_print.proofs.Printed.{AllGood, Printed}
 use Rattle.psm_print.proofs.PartTokens.{inside_tokens, cases_tokens, part_tokens}
 use Rattle.psm_print.proofs.Regrouped.{before2, before3}
-use Rattle.psm_print.proofs.Equations.{pick-All, pick-Expr, pick-CountRows, pick-Aggregate, tokens_when, select_told}
-use Rattle.psm_print.proofs.Into.{PrintContext, Into, said, good_back, retold, shorter, reread, into_told, into_seq, left_out, or_from, or_left, or_right, into_or, into_image, into_nothing, into_perhaps, into_separated}
+use Rattle.psm_print.proofs.Equations.{pick-All, pick-Expr, pick-CountRows, pick-Aggregate, tokens_when, select_equal}
+use Rattle.psm_print.proofs.Into.{PrintContext, Into, said, good_back, respelled, shorter, reread, into_equal, into_seq, left_out, or_from, or_left, or_right, into_or, into_image, into_nothing, into_perhaps, into_separated}
 use Rattle.psm_print.proofs.Tokens.{into_word, into_sign, after_word, after_sign, before_word, into_closed, into_parens, into_commas}
 use Rattle.psm_print.proofs.Chosen.{into_name, into_set_function, side_word, into_side}
 use Rattle.psm_print.proofs.TypesInto.{data_type_into}
@@ -50,13 +50,13 @@ item_tokens (Plain e) = expr_tokens e
 item_tokens (Rows place) = word w.Count ++ in_parens (sign s.Asterisk)
 item_tokens (Aggregate place function argument) = set_function_tokens function ++ in_parens (expr_tokens argument)
 
-count_told : (place : Place) (x : Option Expr) → word w.Count ++ in_parens (counted_tokens x) ≡ item_tokens (count_of place x)
-count_told place None = refl
-count_told place (Some e) = refl
+count_equal : (place : Place) (x : Option Expr) → word w.Count ++ in_parens (counted_tokens x) ≡ item_tokens (count_of place x)
+count_equal place None = refl
+count_equal place (Some e) = refl
 
 item_into : {z : PrintContext} → Into z item item item_tokens
 unfolding ExprGrammar.all_expressions
-item_into = into_or (into_seq item_tokens (into_word w.Count) (into_parens counted_into) count_told)
+item_into = into_or (into_seq item_tokens (into_word w.Count) (into_parens counted_into) count_equal)
     (into_or (into_seq item_tokens into_set_function (into_parens expr_into) (λ x y. refl)) (into_image item_tokens expr_into (λ x. refl)))
 
 -- AS is left out
@@ -64,14 +64,14 @@ pub alias_into : {z : PrintContext} → Into z alias alias alias_tokens
 unfolding ExprGrammar.all_expressions
 alias_into = or_from (or_right (or_left (into_image alias_tokens (left_out into_name) (λ x. refl)))) (or_right (into_or (into_image alias_tokens into_name (λ x. refl)) (into_nothing alias_tokens refl)))
 
-pick_told : (x : Item) (y : Option Identifier) → item_tokens x ++ alias_tokens y ≡ pick_tokens (pick_of x y)
-pick_told (Plain e) y = sym (pick-Expr e y)
-pick_told (Rows place) y = sym (pick-CountRows place y)
-pick_told (Aggregate place function argument) y = sym (pick-Aggregate place function argument y)
+pick_equal : (x : Item) (y : Option Identifier) → item_tokens x ++ alias_tokens y ≡ pick_tokens (pick_of x y)
+pick_equal (Plain e) y = sym (pick-Expr e y)
+pick_equal (Rows place) y = sym (pick-CountRows place y)
+pick_equal (Aggregate place function argument) y = sym (pick-Aggregate place function argument y)
 
 pick_into : {z : PrintContext} → Into z pick pick pick_tokens
 unfolding ExprGrammar.all_expressions
-pick_into = into_seq pick_tokens item_into alias_into pick_told
+pick_into = into_seq pick_tokens item_into alias_into pick_equal
 
 abbrev pub picks_tokens : Several Pick → Spelling
 picks_tokens picks = separated (sign s.Comma) (several_map pick_tokens picks)
@@ -91,7 +91,7 @@ from_into = into_seq from_tokens into_name (into_seq (λ p. alias_tokens p.0 ++ 
 pub select_into : {z : PrintContext} → Into z select select select_tokens
 unfolding ExprGrammar.all_expressions
 select_into = into_seq select_tokens (into_word w.Select) (into_seq (λ p. picks_tokens p.0 ++ (word w.From ++ from_tokens p.1)) picks_into (after_word w.From from_into) (λ x y. refl))
-    (λ x y. sym (select_told (record { place = x; picks = y.0; table = y.1.table; alias = y.1.alias; condition = y.1.condition })))
+    (λ x y. sym (select_equal (record { place = x; picks = y.0; table = y.1.table; alias = y.1.alias; condition = y.1.condition })))
 
 -- ---- parts
 
@@ -113,7 +113,7 @@ after_when when = expr_tokens when.test ++ word w.Then ++ expr_tokens when.resul
 
 when_into : {z : PrintContext} → Into z when when when_tokens
 unfolding ExprGrammar.all_expressions
-when_into = into_told when_tokens (λ x. sym (tokens_when x)) (after_word w.When (into_seq (λ x. after_when (out-When x)) expr_into (after_word w.Then source_into)
+when_into = into_equal when_tokens (λ x. sym (tokens_when x)) (after_word w.When (into_seq (λ x. after_when (out-When x)) expr_into (after_word w.Then source_into)
     (λ x y. before2 (expr_tokens x) (word w.Then) (expr_tokens y) ∙ ap after_when (sym (out-roll-When (record { test = x; result = y }))))))
 
 abbrev whens_tokens : Whens → Spelling
@@ -179,7 +179,7 @@ trim_at z u sides.Both e l a =
     let i : Into z _ expr expr_tokens = left_out expr_into in
     let p = i.into l.back l.two l.right (good_back z.good l.front l.back (subst (AllGood z.good) l.whole a)) in
     let n : length l.back ≤ length u = omega (arith, length-append l.front l.back, ap length l.whole) in
-    reread (λ v m. inr (record { one = l.two; left = m; made = ap (λ v. (sides.Both, v)) (sym one) })) (retold (ap expr_tokens one) (shorter n p))
+    reread (λ v m. inr (record { one = l.two; left = m; made = ap (λ v. (sides.Both, v)) (sym one) })) (respelled (ap expr_tokens one) (shorter n p))
 
 one_side_into : {z : PrintContext} → Into z one_side one_side trimmed_tokens
 unfolding ExprGrammar.all_expressions

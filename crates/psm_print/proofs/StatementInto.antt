@@ -14,7 +14,7 @@ use Rattle.psm_print.specs.StatementTokens.{ordered_query_tokens, declaration_to
 use Rattle.psm_print.proofs.PartTokens.{statements_tokens, for_tokens, if_tokens, case_tokens, handler_parts_tokens, part_tokens}
 use Rattle.psm_print.proofs.Regrouped.{before2, before3, before4, before5}
 use Rattle.psm_print.proofs.Equations.{branch_rolled, block-Compound, block-Loop, block-While, block-Repeat, block-For, statement-Block, statement-If, statement-Case, statement-Simple}
-use Rattle.psm_print.proofs.Into.{PrintContext, Into, into_told, into_seq, into_or, into_image, into_perhaps, into_each, into_ended, into_separated}
+use Rattle.psm_print.proofs.Into.{PrintContext, Into, into_equal, into_seq, into_or, into_image, into_perhaps, into_each, into_ended, into_separated}
 use Rattle.psm_print.proofs.Tokens.{says_word, into_level, after_word, after_sign, before_word, before_sign}
 use Rattle.psm_print.proofs.Chosen.{into_name}
 use Rattle.psm_print.proofs.ExprInto.{expr_into}
@@ -23,13 +23,13 @@ use Rattle.psm_print.proofs.SimpleInto.{simple_into}
 
 -- ---- blocks
 
-begin_told : (atomic : Spelling) (b : Body) → atomic ++ (ended (map declaration_tokens b.declarations) ++ ended (map cursor_tokens b.cursors) ++ ended (map handler_tokens b.handlers) ++ ended (map statement_tokens b.statements) ++ word w.End)
+begin_equal : (atomic : Spelling) (b : Body) → atomic ++ (ended (map declaration_tokens b.declarations) ++ ended (map cursor_tokens b.cursors) ++ ended (map handler_tokens b.handlers) ++ ended (map statement_tokens b.statements) ++ word w.End)
     ≡ atomic ++ ended (map declaration_tokens b.declarations) ++ ended (map cursor_tokens b.cursors) ++ ended (map handler_tokens b.handlers) ++ ended (map statement_tokens b.statements) ++ word w.End
-begin_told atomic b = before5 atomic (ended (map declaration_tokens b.declarations)) (ended (map cursor_tokens b.cursors)) (ended (map handler_tokens b.handlers)) (ended (map statement_tokens b.statements)) (word w.End)
+begin_equal atomic b = before5 atomic (ended (map declaration_tokens b.declarations)) (ended (map cursor_tokens b.cursors)) (ended (map handler_tokens b.handlers)) (ended (map statement_tokens b.statements)) (word w.End)
 
 block_into : {z : PrintContext} → Into z block block block_tokens
 unfolding StatementGrammar.all_statements
-block_into = into_or (into_level block_tokens (says_word w.Begin) (λ a y. ap (λ ts. word w.Begin ++ ts) (begin_told (atomic_tokens y.0) y.1) ∙ sym (block-Compound a y.0 y.1.declarations y.1.cursors y.1.handlers y.1.statements)))
+block_into = into_or (into_level block_tokens (says_word w.Begin) (λ a y. ap (λ ts. word w.Begin ++ ts) (begin_equal (atomic_tokens y.0) y.1) ∙ sym (block-Compound a y.0 y.1.declarations y.1.cursors y.1.handlers y.1.statements)))
     (into_or (into_level block_tokens (says_word w.Loop) (λ a y. sym (block-Loop a y)))
     (into_or (into_level block_tokens (says_word w.While) (λ a y. sym (block-While a y.0 y.1)))
     (into_or (into_level block_tokens (says_word w.Repeat) (λ a y. sym (block-Repeat a y.0 y.1)))
@@ -68,20 +68,20 @@ branch_into : {z : PrintContext} → Into z branch branch branch_tokens
 unfolding StatementGrammar.all_statements
 branch_into = into_seq branch_tokens expr_into (after_word w.Then statements_into) (λ x y. before2 (expr_tokens x) (word w.Then) (statements_tokens y) ∙ sym (branch_rolled (record { test = x; statements = y })))
 
-else_told : (x : Option Statements) → perhaps (word w.Else) (option_map statements_tokens x) ≡ else_tokens (map statement_tokens (listed x))
-else_told None = refl
-else_told (Some x) = refl
+else_equal : (x : Option Statements) → perhaps (word w.Else) (option_map statements_tokens x) ≡ else_tokens (map statement_tokens (listed x))
+else_equal None = refl
+else_equal (Some x) = refl
 
 abbrev end_tokens : Option Statements → Spelling
 end_tokens x = else_tokens (map statement_tokens (listed x)) ++ word w.End
 
 if_end_into : {z : PrintContext} → Into z if_end if_end (λ x. end_tokens x ++ word w.If)
 unfolding StatementGrammar.all_statements
-if_end_into = before_word w.If (before_word w.End (into_told (λ x. else_tokens (map statement_tokens (listed x))) else_told (into_perhaps (word w.Else) statements_tokens (after_word w.Else statements_into) (λ x. refl))))
+if_end_into = before_word w.If (before_word w.End (into_equal (λ x. else_tokens (map statement_tokens (listed x))) else_equal (into_perhaps (word w.Else) statements_tokens (after_word w.Else statements_into) (λ x. refl))))
 
 case_end_into : {z : PrintContext} → Into z case_end case_end (λ x. end_tokens x ++ word w.Case)
 unfolding StatementGrammar.all_statements
-case_end_into = before_word w.Case (before_word w.End (into_told (λ x. else_tokens (map statement_tokens (listed x))) else_told (into_perhaps (word w.Else) statements_tokens (after_word w.Else statements_into) (λ x. refl))))
+case_end_into = before_word w.Case (before_word w.End (into_equal (λ x. else_tokens (map statement_tokens (listed x))) else_equal (into_perhaps (word w.Else) statements_tokens (after_word w.Else statements_into) (λ x. refl))))
 
 pub if_into : {z : PrintContext} → Into z if_rest if_rest if_tokens
 unfolding StatementGrammar.all_statements

@@ -24,7 +24,7 @@ use Rattle.psm_tree.specs.ExprGrammar.{Gram, closed, within_parens}
 use Rattle.psm_print.specs.Spelling.{sign as one_sign, separated, in_parens}
 use Rattle.psm_print.proofs.Printed.{AllGood, Printed}
 use Rattle.psm_print.proofs.PartTokens.{part_tokens, Shaped}
-use Rattle.psm_print.proofs.Into.{PrintContext, Claim, Into, into_seq, into_separated, joined, good_front, good_back, retold, shorter}
+use Rattle.psm_print.proofs.Into.{PrintContext, Claim, Into, into_seq, into_separated, joined, good_front, good_back, respelled, shorter}
 
 abbrev pub placed_at : Place → Token → Placed
 placed_at p t = record { token = t; place = p }
@@ -66,7 +66,7 @@ after_into {z} {n = n} {from = from} {f = f} c s L printed e d w x l a =
     let p = token_into s d l.front l.one l.left (good_front z.good l.front l.back g) in
     let q = printed n l.back l.two l.right (good_back z.good l.front l.back g) in
     let m : length l.front + length l.back ≤ length w = omega (arith, length-append l.front l.back, ap length l.whole) in
-    subst (λ v. Printed z.good (Seq f (OneToken kind from d) (L n)) v (c v) (length w)) (sym l.made) (retold (e l.one l.back l.two l.right) (shorter m (joined f p q)))
+    subst (λ v. Printed z.good (Seq f (OneToken kind from d) (L n)) v (c v) (length w)) (sym l.made) (respelled (e l.one l.back l.two l.right) (shorter m (joined f p q)))
 
 pub into_level : {z : PrintContext} {A Y : Type 0} {n : Part} {from : Test Placed A} {f : A → V n → Y} {tok : A → Token} (c : Y → List Token) → Says z from from tok
     → ((a : A) (y : V n) → tok a ∷ part_tokens n y ≡ c (f a y)) → Into z (level n from f) (level n from f) c

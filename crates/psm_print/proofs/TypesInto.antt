@@ -48,14 +48,14 @@ type_length_into : {z : PrintContext} → Into z type_length type_length (λ n. 
 unfolding ExprGrammar.all_expressions
 type_length_into = into_parens into_number
 
-precision_told : (x : At Num) (y : Option (At Num)) → number_tokens x.value ++ perhaps (sign s.Comma) (option_map (λ n. number_tokens n.value) y) ≡ number_tokens (precision_of x y).precision ++ perhaps (sign s.Comma) (option_map number_tokens (precision_of x y).scale)
-precision_told x None = refl
-precision_told x (Some y) = refl
+precision_equal : (x : At Num) (y : Option (At Num)) → number_tokens x.value ++ perhaps (sign s.Comma) (option_map (λ n. number_tokens n.value) y) ≡ number_tokens (precision_of x y).precision ++ perhaps (sign s.Comma) (option_map number_tokens (precision_of x y).scale)
+precision_equal x None = refl
+precision_equal x (Some y) = refl
 
 precision_into : {z : PrintContext} → Into z precision precision precision_tokens
 unfolding ExprGrammar.all_expressions
 precision_into = into_parens (into_seq (λ p. number_tokens p.precision ++ perhaps (sign s.Comma) (option_map number_tokens p.scale)) into_number
-    (into_perhaps (sign s.Comma) (λ n. number_tokens n.value) (after_sign s.Comma into_number) (λ x. refl)) precision_told)
+    (into_perhaps (sign s.Comma) (λ n. number_tokens n.value) (after_sign s.Comma into_number) (λ x. refl)) precision_equal)
 
 numeric_into : {z : PrintContext} → Into z numeric_type numeric_type type_tokens
 unfolding ExprGrammar.all_expressions
@@ -73,15 +73,15 @@ IsVarChar form = (n : Num) × (form ≡ forms.VarChar n)
 abbrev pub IsChar : TypeForm → Type 0
 IsChar form = (n : Option Num) × (form ≡ forms.Char n)
 
-varchar_told : (place : Place) (form : TypeForm) → IsVarChar form → word w.VarChar ++ rest_tokens form ≡ type_tokens (formed place form)
-varchar_told place form h = ap (λ f. word w.VarChar ++ rest_tokens f) h.1 ∙ ap (λ f. type_tokens (formed place f)) (sym h.1)
+varchar_equal : (place : Place) (form : TypeForm) → IsVarChar form → word w.VarChar ++ rest_tokens form ≡ type_tokens (formed place form)
+varchar_equal place form h = ap (λ f. word w.VarChar ++ rest_tokens f) h.1 ∙ ap (λ f. type_tokens (formed place f)) (sym h.1)
 
-pub char_told : (place : Place) (form : TypeForm) → IsChar form → word w.Char ++ rest_tokens form ≡ type_tokens (formed place form)
-char_told place form h = ap (λ f. word w.Char ++ rest_tokens f) h.1 ∙ ap (λ f. type_tokens (formed place f)) (sym h.1)
+pub char_equal : (place : Place) (form : TypeForm) → IsChar form → word w.Char ++ rest_tokens form ≡ type_tokens (formed place form)
+char_equal place form h = ap (λ f. word w.Char ++ rest_tokens f) h.1 ∙ ap (λ f. type_tokens (formed place f)) (sym h.1)
 
 varchar_into : {z : PrintContext} → Into z varchar_type varchar_type type_tokens
 unfolding ExprGrammar.all_expressions
-varchar_into = into_seq_if type_tokens IsVarChar (λ u y l. (l.one.value, l.made)) (into_word w.VarChar) (into_image rest_tokens type_length_into (λ x. refl)) varchar_told
+varchar_into = into_seq_if type_tokens IsVarChar (λ u y l. (l.one.value, l.made)) (into_word w.VarChar) (into_image rest_tokens type_length_into (λ x. refl)) varchar_equal
 
 pub plain_into : {z : PrintContext} → Into z plain_type plain_type type_tokens
 unfolding ExprGrammar.all_expressions
@@ -90,7 +90,7 @@ plain_into = into_or (into_image type_tokens (into_word w.SmallInt) (λ x. refl)
 -- VARYING is left out after VARCHAR
 pub varying_into : {z : PrintContext} → Into z (seq formed (token char_word) varying) varchar_type type_tokens
 unfolding ExprGrammar.all_expressions
-varying_into = into_seq_if type_tokens IsVarChar (λ u y l. (l.right.one.value, l.made ∙ l.right.made)) char_into_varchar (left_out (into_image rest_tokens type_length_into (λ x. refl))) varchar_told
+varying_into = into_seq_if type_tokens IsVarChar (λ u y l. (l.right.one.value, l.made ∙ l.right.made)) char_into_varchar (left_out (into_image rest_tokens type_length_into (λ x. refl))) varchar_equal
 
 pub char_length_into : {z : PrintContext} → Into z char_length char_length rest_tokens
 unfolding ExprGrammar.all_expressions
@@ -103,7 +103,7 @@ is_char z u y (inr l) = (None, l.made)
 
 char_into : {z : PrintContext} → Into z (seq formed (token char_word) char_length) char_type type_tokens
 unfolding ExprGrammar.all_expressions
-char_into {z} = into_seq_if type_tokens IsChar (is_char z) into_char (or_right char_length_into) char_told
+char_into {z} = into_seq_if type_tokens IsChar (is_char z) into_char (or_right char_length_into) char_equal
 
 pub data_type_into : {z : PrintContext} → Into z data_type data_type type_tokens
 unfolding ExprGrammar.all_expressions

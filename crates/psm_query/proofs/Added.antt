@@ -10,7 +10,7 @@ pub added_none : (ts : List Tally) → added ts [] ≡ ts
 added_none [] = refl
 added_none (t ∷ ts) = refl
 
--- the last value goes to the tally of its place
+-- the last value goes to the tally of its index
 pub added_last : (ts : List Tally) (vs : List Datum) (v : Datum) (d : Tally) → length vs < length ts
     → added (slice_set ts (length vs) (with_value (get_or ts (length vs) d) v)) vs ≡ added ts (vs ++ v ∷ [])
 added_last [] vs v d l = absurd (omega (arith, l))
@@ -23,7 +23,7 @@ added_past [] vs v l = refl
 added_past (t ∷ ts) [] v l = absurd (omega (arith, l))
 added_past (t ∷ ts) (w ∷ vs) v l = ap (λ l. with_value t w ∷ l) (added_past ts vs v (omega (arith, l)))
 
--- the tallies of n first places have room for one value more
+-- the tallies of n first indexes have room for one value more
 abbrev pub HaveRoom : ℕ → List Tally → Type 0
 HaveRoom n ts = (k : ℕ) (d : Tally) → k < n → k < length ts → count_of (get_or ts k d) < most_rows
 
@@ -56,23 +56,23 @@ pub none_left : (vs : List Datum) → length vs ≡ 0 → vs ≡ []
 none_left [] e = refl
 none_left (v ∷ vs) e = absurd (omega (arith, e))
 
-module _ (ts : List Tally) (vs left : List Datum) (v : Datum) (at : ℕ) (place : at ≡ length vs) (is : left ≡ vs ++ v ∷ []) where
+module _ (ts : List Tally) (vs left : List Datum) (v : Datum) (at : ℕ) (position : at ≡ length vs) (is : left ≡ vs ++ v ∷ []) where
   one_less : length left ≡ length vs + 1
   one_less = ap length is ∙ length-append vs (v ∷ [])
 
   pub put_last : (t d : Tally) → at < length ts → d ≡ get_or ts at d → t ≡ with_value d v → added (slice_set ts at t) vs ≡ added ts left
   put_last t d inside read put =
-      let here : length vs < length ts = omega (arith, inside, place) in
-      ap (λ s. added (slice_set ts at s) vs) (put ∙ ap (λ s. with_value s v) read) ∙ ap (λ i. added (slice_set ts i (with_value (get_or ts i d) v)) vs) place
+      let here : length vs < length ts = omega (arith, inside, position) in
+      ap (λ s. added (slice_set ts at s) vs) (put ∙ ap (λ s. with_value s v) read) ∙ ap (λ i. added (slice_set ts i (with_value (get_or ts i d) v)) vs) position
       ∙ added_last ts vs v d here ∙ ap (added ts) (sym is)
 
   pub put_room : (t : Tally) → HaveRoom (length left) ts → HaveRoom (length vs) (slice_set ts at t)
   put_room t h =
       let some : HaveRoom (length vs + 1) ts = subst (λ n. HaveRoom n ts) one_less h in
-      subst (λ i. HaveRoom (length vs) (slice_set ts i t)) (sym place) (room_set (length vs) ts t some)
+      subst (λ i. HaveRoom (length vs) (slice_set ts i t)) (sym position) (room_set (length vs) ts t some)
 
   pub pass_last : length ts ≤ at → added ts vs ≡ added ts left
-  pass_last past = added_past ts vs v (omega (arith, past, place)) ∙ ap (added ts) (sym is)
+  pass_last past = added_past ts vs v (omega (arith, past, position)) ∙ ap (added ts) (sym is)
 
   pub pass_room : HaveRoom (length left) ts → HaveRoom (length vs) ts
   pass_room h = room_fewer (length vs) ts (subst (λ n. HaveRoom n ts) one_less h)

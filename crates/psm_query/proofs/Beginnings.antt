@@ -18,11 +18,11 @@ use Rattle.psm_value.specs.declared.truth.Truth as truth_value
 use Rattle.psm_value.specs.declared.truth.Truth.TheVariants.{True, False, Unknown}
 use Rattle.psm_exprcode.specs.Applied.{applied, with_named, Applied, Went, Raised, Stuck}
 use Rattle.psm_exprcode.specs.Comparison.{truth_of}
-use Rattle.psm_exprcode.specs.Evaluated.{goes_on, place_after, ran}
+use Rattle.psm_exprcode.specs.Evaluated.{goes_on, line_after, ran}
 use Rattle.psm_exprcode.specs.declared.op.Line.{Line}
 use Rattle.psm_exprcode.specs.declared.op.Op.{Op}
 use Rattle.psm_exprcode.specs.declared.op.Op.TheVariants as op
-use Rattle.psm_exprcode.specs.declared.operand.Next.TheVariants.{Ahead}
+use Rattle.psm_exprcode.specs.declared.operand.Next.TheVariants.{FallThrough}
 use Rattle.psm_exprcode.specs.declared.operand.Operand.{Operand}
 use Rattle.psm_exprcode.specs.declared.operand.Operand.TheVariants.{Value, Truth}
 use Rattle.psm_table.specs.Evaluator.{and_then, mapped, test_of}
@@ -188,19 +188,19 @@ abbrev Tested : (List Datum → Result truth_value.Truth SqlState) → List Datu
 Tested judge row b = (u : truth_value.Truth) × (judge row ≡ Ok u) × (is_met u ≡ b)
 
 module _ (row vars : List Datum) where
-  run_step : (n : ℕ) (l : Line) (lines : List Line) (os new : List Operand) → applied l.op os row vars ≡ Went Ahead new → run row vars n (l ∷ lines) os ≡ run row vars (suc n) lines new
+  run_step : (n : ℕ) (l : Line) (lines : List Line) (os new : List Operand) → applied l.op os row vars ≡ Went FallThrough new → run row vars n (l ∷ lines) os ≡ run row vars (suc n) lines new
   run_step n l lines os new e =
-      ap (λ (b : Bool). if b then goes_on (applied l.op os row vars) (λ next. ran row vars (suc n) (place_after n next) lines) else ran row vars (suc n) n lines os) (eq-eqb n n refl)
-      ∙ ap (λ (a : Applied). goes_on a (λ next. ran row vars (suc n) (place_after n next) lines)) e
+      ap (λ (b : Bool). if b then goes_on (applied l.op os row vars) (λ next. ran row vars (suc n) (line_after n next) lines) else ran row vars (suc n) n lines os) (eq-eqb n n refl)
+      ∙ ap (λ (a : Applied). goes_on a (λ next. ran row vars (suc n) (line_after n next) lines)) e
 
-  column_put : (c : ℕ) (w : Datum) (o : Op) (os : List Operand) → slice_get row c ≡ Some w → is_column c o ≡ true → applied o os row vars ≡ Went Ahead (Value w ∷ os)
+  column_put : (c : ℕ) (w : Datum) (o : Op) (os : List Operand) → slice_get row c ≡ Some w → is_column c o ≡ true → applied o os row vars ≡ Went FallThrough (Value w ∷ os)
   column_put c w o os s i = ap (λ (q : Op). applied q os row vars) ((says row vars o).column c i) ∙ ap (with_named os) s
 
-  tested_put : (e : Op) (a b : Datum) (os : List Operand) → is_equality e ≡ true → applied e (Value b ∷ Value a ∷ os) row vars ≡ Went Ahead (Truth (equality a b) ∷ os)
+  tested_put : (e : Op) (a b : Datum) (os : List Operand) → is_equality e ≡ true → applied e (Value b ∷ Value a ∷ os) row vars ≡ Went FallThrough (Truth (equality a b) ∷ os)
   tested_put e a b os i = ap (λ (q : Op). applied q (Value b ∷ Value a ∷ os) row vars) ((says row vars e).equal i)
 
-  three_ran : (a b e : Line) (x y : Datum) (n : ℕ) (lines : List Line) (os : List Operand) → applied a.op os row vars ≡ Went Ahead (Value x ∷ os)
-      → applied b.op (Value x ∷ os) row vars ≡ Went Ahead (Value y ∷ Value x ∷ os) → is_equality e.op ≡ true
+  three_ran : (a b e : Line) (x y : Datum) (n : ℕ) (lines : List Line) (os : List Operand) → applied a.op os row vars ≡ Went FallThrough (Value x ∷ os)
+      → applied b.op (Value x ∷ os) row vars ≡ Went FallThrough (Value y ∷ Value x ∷ os) → is_equality e.op ≡ true
       → run row vars n (a ∷ b ∷ e ∷ lines) os ≡ run row vars (suc (suc (suc n))) lines (Truth (equality x y) ∷ os)
   three_ran a b e x y n lines os p q i =
       run_step n a (b ∷ e ∷ lines) os (Value x ∷ os) p ∙ run_step (suc n) b (e ∷ lines) (Value x ∷ os) (Value y ∷ Value x ∷ os) q
@@ -243,7 +243,7 @@ module _ (row vars : List Datum) where
       let w : Datum = get_or row c Null in
       let here : slice_get row c ≡ Some w = slice_get-get_or row c Null (All-head (λ c. c < length row) c columns there) in
       let one = equality_ran c w k.0 a b e n (l ∷ lines) (Truth t ∷ []) here m.1 m.0 in
-      let went : applied l.op (Truth one.0 ∷ Truth t ∷ []) row vars ≡ Went Ahead (Truth (both t one.0) ∷ []) = ap (λ (q : Op). applied q (Truth one.0 ∷ Truth t ∷ []) row vars) (and_is l.op j.0) in
+      let went : applied l.op (Truth one.0 ∷ Truth t ∷ []) row vars ≡ Went FallThrough (Truth (both t one.0) ∷ []) = ap (λ (q : Op). applied q (Truth one.0 ∷ Truth t ∷ []) row vars) (and_is l.op j.0) in
       let rest = more_ran columns k.1 (suc (suc (suc (suc n)))) lines (both t one.0) (All-tail (λ c. c < length row) c columns there) k.3 in (
         rest.0,
         one.1 ∙ run_step (suc (suc (suc n))) l lines (Truth one.0 ∷ Truth t ∷ []) (Truth (both t one.0) ∷ []) went ∙ rest.1,

@@ -1,4 +1,4 @@
--- What the ends of rows whose keys begin alike, and the length of a table, tell of set functions.
+-- The set functions that are answered from the ends of rows whose keys begin alike, and from the length of a table.
 use Rattle.std.proofs.Common.{◌≡◌, ◌≢◌, Bor, ℕ, zero, suc, eqb-true, ◌+◌, ◌-◌, ◌<◌, Bool, true, false, ◌&&◌, ◌||◌, List, [], ◌∷◌, ◌++◌, length, get_or, append_assoc, length-append, refl, ap, sym, subst, ◌∙◌, arith, Option, Some, None, Result, Ok, ◌⊎◌, inl, inr}
 use Rattle.std.specs.Prelude.{All, AllPairs, filter, is_none, map, nat_eq, not, reverse, slice_get, cond, unwrap_or, if◌then◌else◌, MatchOption}
 use Rattle.std.specs.List.{cons_option, list_all, list_any}
@@ -25,7 +25,7 @@ use Rattle.psm_exprcode.specs.declared.op.Op.{Op}
 use Rattle.psm_exprcode.specs.declared.operand.Next.{Next}
 use Rattle.psm_exprcode.specs.declared.operand.Operand.{Operand}
 use Rattle.psm_exprcode.specs.Applied.{applied, with_named}
-use Rattle.psm_exprcode.specs.Evaluated.{evaluated, goes_on, place_after, ran, Outcome}
+use Rattle.psm_exprcode.specs.Evaluated.{evaluated, goes_on, line_after, ran, Outcome}
 use Rattle.psm_table.specs.Cuts.{is_past, rows_between}
 use Rattle.psm_table.specs.declared.cut.Cut.{Cut}
 use Rattle.psm_table.specs.Table.{Contents, IsTable}
@@ -42,7 +42,7 @@ use Rattle.psm_table.proofs.Walks.{last-cons}
 use Rattle.psm_tablecode.specs.Codes.{over, set_function, set_of, value_in}
 use Rattle.psm_tablecode.specs.Rows.{values_for}
 use Rattle.psm_tablecode.proofs.Conjunctions.{says}
-use Rattle.psm_query.specs.Ends.{first_like, firsts_of, gathered_told, in_column, is_column_alone, is_of_ends, is_told, rows_beginning, sets_are_told, told, told_beginning, with_column, with_firsts, IsNext}
+use Rattle.psm_query.specs.Ends.{first_like, firsts_of, gathered_from_ends, in_column, is_column_alone, is_of_ends, is_from_ends, rows_beginning, sets_are_from_ends, ends_tally, beginning_for_ends, with_column, with_firsts, IsNext}
 use Rattle.psm_query.specs.declared.ends.Beginning.{Beginning}
 use Rattle.psm_query.specs.Gathered.{nothing, with_rows, Gathered}
 use Rattle.psm_query.proofs.Beginnings.{and_assoc, and_true, begins_both, begins_next, if_some, unless_some, walked_beginning}
@@ -63,14 +63,14 @@ module _ (c : ℕ) where
   of_row None row = whole 1
   of_row (Some code) row = at row
 
-  abbrev pub AreTold : Bool → List Aggregate → Type 0
-  AreTold all sets = list_all (λ (a : Aggregate). is_told all c a.function a.operand) sets ≡ true
+  abbrev pub AreFromEnds : Bool → List Aggregate → Type 0
+  AreFromEnds all sets = list_all (λ (a : Aggregate). is_from_ends all c a.function a.operand) sets ≡ true
 
   -- ---- what is taken of the rows
 
   module _ (vars : List Datum) (all : Bool) where
     abbrev after : List Datum → Next → List Operand → Outcome
-    after row next = ran row vars 1 (place_after 0 next) []
+    after row next = ran row vars 1 (line_after 0 next) []
 
     named : (row : List Datum) (o : Option Datum) → slice_get row c ≡ o → value_in (goes_on (with_named [] o) (after row)) ≡ Ok (at row)
     named row None e = ap (λ (o : Option Datum). Ok (unwrap_or o Null)) (sym e) ∙ ap Ok (unwrap_or-slice_get row c Null)
@@ -81,7 +81,7 @@ module _ (c : ℕ) where
     value_alone row (l ∷ []) h = ap (λ (o : Op). value_in (goes_on (applied o [] row vars) (after row))) ((says row vars l.op).column c h) ∙ named row (slice_get row c) refl
     value_alone row (l ∷ k ∷ lines) h = absurd (cc)
 
-    operand_alone : (f : SetFunction) (operand : Option (List Line)) (row : List Datum) → is_told all c f operand ≡ true → operand_of (over vars) operand row ≡ Ok (of_row operand row)
+    operand_alone : (f : SetFunction) (operand : Option (List Line)) (row : List Datum) → is_from_ends all c f operand ≡ true → operand_of (over vars) operand row ≡ Ok (of_row operand row)
     operand_alone f None row h = refl
     operand_alone function.Count (Some code) row h = absurd (cc)
     operand_alone function.Sum (Some code) row h = absurd (cc)
@@ -89,14 +89,14 @@ module _ (c : ℕ) where
     operand_alone function.Max (Some code) row h = value_alone row code h
     operand_alone function.Avg (Some code) row h = absurd (cc)
 
-    operands_alone : (sets : List Aggregate) (row : List Datum) → AreTold all sets → operands_of (over vars) (map set_of sets) row ≡ Ok (map (λ (a : Aggregate). of_row a.operand row) sets)
+    operands_alone : (sets : List Aggregate) (row : List Datum) → AreFromEnds all sets → operands_of (over vars) (map set_of sets) row ≡ Ok (map (λ (a : Aggregate). of_row a.operand row) sets)
     operands_alone [] row h = refl
     operands_alone (a ∷ sets) row h =
-        let one = operand_alone a.function a.operand row (first_true (is_told all c a.function a.operand) (list_all (λ (b : Aggregate). is_told all c b.function b.operand) sets) h) in
-        let rest = operands_alone sets row (second_true (is_told all c a.function a.operand) (list_all (λ (b : Aggregate). is_told all c b.function b.operand) sets) h) in
+        let one = operand_alone a.function a.operand row (first_true (is_from_ends all c a.function a.operand) (list_all (λ (b : Aggregate). is_from_ends all c b.function b.operand) sets) h) in
+        let rest = operands_alone sets row (second_true (is_from_ends all c a.function a.operand) (list_all (λ (b : Aggregate). is_from_ends all c b.function b.operand) sets) h) in
         ap (λ r. and_then r (λ b. mapped (λ bs. b ∷ bs) (operands_of (over vars) (map set_of sets) row))) one ∙ ap (mapped (λ bs. of_row a.operand row ∷ bs)) rest
 
-    pub walked_alone : (sets : List Aggregate) (rows : List (List Datum)) → AreTold all sets
+    pub walked_alone : (sets : List Aggregate) (rows : List (List Datum)) → AreFromEnds all sets
         → walked (test_of (over vars) None) (operands_of (over vars) (map set_of sets)) rows ≡ Ok (map (λ row. map (λ (a : Aggregate). of_row a.operand row) sets) rows)
     walked_alone sets [] h = refl
     walked_alone sets (row ∷ rows) h =
@@ -281,32 +281,32 @@ module _ (c : ℕ) where
       let same : data_order (final (at c row) (map (at c) rows)) (at c r.0) ≡ Equal = ap (λ v. data_order v (at c r.0)) (sym r.2) ∙ data_order-same (at c r.0) in
       greatest (at c r.0) (at c row) (map (at c) rows) h same ∙ sym (tie_rows (at c r.0) (row ∷ rows)) ∙ ap (λ o. in_column c (first_like c o (row ∷ rows))) (sym r.1)
 
-  tally_told : (all : Bool) (every : List (List Datum)) (f : SetFunction) (operand : Option (List Line)) (rows : List (List Datum)) → is_told all c f operand ≡ true → (all ≡ true → every ≡ rows) → All (IsFilled c) rows → Rises rows
-      → tally (set_function f) (known (map (of_row c operand) rows)) ≡ told c every rows f
-  tally_told all every function.Count None rows t same filled h = ap tally_of.Count (known_ones c rows ∙ ap length (sym (same t)))
-  tally_told all every function.Count (Some code) rows t same filled h = absurd (cc)
-  tally_told all every function.Sum operand rows t same filled h = absurd (cc)
-  tally_told all every function.Avg operand rows t same filled h = absurd (cc)
-  tally_told all every function.Min None rows t same filled h = absurd (cc)
-  tally_told all every function.Max None rows t same filled h = absurd (cc)
-  tally_told all every function.Min (Some code) [] t same filled h = refl
-  tally_told all every function.Max (Some code) [] t same filled h = refl
-  tally_told all every function.Min (Some code) (row ∷ rows) t same filled h = ap (tally q.Min) (known_rows c (row ∷ rows) filled) ∙ ap (λ v. tally_of.Min (Some v)) (least_first (at c row) (map (at c) rows) h)
-  tally_told all every function.Max (Some code) (row ∷ rows) t same filled h = ap (tally q.Max) (known_rows c (row ∷ rows) filled) ∙ ap tally_of.Max (greatest_row row rows h)
+  tally_from_ends : (all : Bool) (every : List (List Datum)) (f : SetFunction) (operand : Option (List Line)) (rows : List (List Datum)) → is_from_ends all c f operand ≡ true → (all ≡ true → every ≡ rows) → All (IsFilled c) rows → Rises rows
+      → tally (set_function f) (known (map (of_row c operand) rows)) ≡ ends_tally c every rows f
+  tally_from_ends all every function.Count None rows t same filled h = ap tally_of.Count (known_ones c rows ∙ ap length (sym (same t)))
+  tally_from_ends all every function.Count (Some code) rows t same filled h = absurd (cc)
+  tally_from_ends all every function.Sum operand rows t same filled h = absurd (cc)
+  tally_from_ends all every function.Avg operand rows t same filled h = absurd (cc)
+  tally_from_ends all every function.Min None rows t same filled h = absurd (cc)
+  tally_from_ends all every function.Max None rows t same filled h = absurd (cc)
+  tally_from_ends all every function.Min (Some code) [] t same filled h = refl
+  tally_from_ends all every function.Max (Some code) [] t same filled h = refl
+  tally_from_ends all every function.Min (Some code) (row ∷ rows) t same filled h = ap (tally q.Min) (known_rows c (row ∷ rows) filled) ∙ ap (λ v. tally_of.Min (Some v)) (least_first (at c row) (map (at c) rows) h)
+  tally_from_ends all every function.Max (Some code) (row ∷ rows) t same filled h = ap (tally q.Max) (known_rows c (row ∷ rows) filled) ∙ ap tally_of.Max (greatest_row row rows h)
 
   module _ (all : Bool) (every rows : List (List Datum)) (same : all ≡ true → every ≡ rows) (filled : All (IsFilled c) rows) (h : Rises rows) where
-    tallies_told : (sets : List Aggregate) → AreTold c all sets → map (tally_over c rows) sets ≡ map (λ (a : Aggregate). told c every rows a.function) sets
-    tallies_told [] t = refl
-    tallies_told (a ∷ sets) t =
-        let one = tally_told all every a.function a.operand rows (first_true (is_told all c a.function a.operand) (list_all (λ (b : Aggregate). is_told all c b.function b.operand) sets) t) same filled h in
-        let more = tallies_told sets (second_true (is_told all c a.function a.operand) (list_all (λ (b : Aggregate). is_told all c b.function b.operand) sets) t) in
-        ap (λ t. t ∷ map (tally_over c rows) sets) one ∙ ap (λ ts. told c every rows a.function ∷ ts) more
+    tallies_from_ends : (sets : List Aggregate) → AreFromEnds c all sets → map (tally_over c rows) sets ≡ map (λ (a : Aggregate). ends_tally c every rows a.function) sets
+    tallies_from_ends [] t = refl
+    tallies_from_ends (a ∷ sets) t =
+        let one = tally_from_ends all every a.function a.operand rows (first_true (is_from_ends all c a.function a.operand) (list_all (λ (b : Aggregate). is_from_ends all c b.function b.operand) sets) t) same filled h in
+        let more = tallies_from_ends sets (second_true (is_from_ends all c a.function a.operand) (list_all (λ (b : Aggregate). is_from_ends all c b.function b.operand) sets) t) in
+        ap (λ t. t ∷ map (tally_over c rows) sets) one ∙ ap (λ ts. ends_tally c every rows a.function ∷ ts) more
 
     -- what is kept of such set functions after all rows
-    pub kept_told : (sets : List Aggregate) → AreTold c all sets → kept sets (map (taken_of c sets) rows) ≡ record { rows = []; tallies = map (λ (a : Aggregate). told c every rows a.function) sets; skipped = false }
-    kept_told sets t =
-        ap (λ ts. record { rows = []; tallies = ts; skipped = has_nulls (map (taken_of c sets) rows) }) (tallies_over c [] sets rows ∙ tallies_told sets t)
-        ∙ ap (λ b. record { rows = []; tallies = map (λ (a : Aggregate). told c every rows a.function) sets; skipped = b }) (no_nulls c sets rows filled)
+    pub kept_from_ends : (sets : List Aggregate) → AreFromEnds c all sets → kept sets (map (taken_of c sets) rows) ≡ record { rows = []; tallies = map (λ (a : Aggregate). ends_tally c every rows a.function) sets; skipped = false }
+    kept_from_ends sets t =
+        ap (λ ts. record { rows = []; tallies = ts; skipped = has_nulls (map (taken_of c sets) rows) }) (tallies_over c [] sets rows ∙ tallies_from_ends sets t)
+        ∙ ap (λ b. record { rows = []; tallies = map (λ (a : Aggregate). ends_tally c every rows a.function) sets; skipped = b }) (no_nulls c sets rows filled)
 
 -- ---- rows whose keys begin alike
 
@@ -381,22 +381,22 @@ module _ (key : List ℕ) (firsts : List Datum) (c : ℕ) (next : IsNext (length
 
 -- ---- over the rows of a table
 
--- what is told of a query
-pub record IsTold (key : List ℕ) (vars : List Datum) (downward : Bool) (test : Option (List Line)) (items : Items) (b : Beginning) : Type 0 where
+-- a query that is answered from the ends
+pub record IsFromEnds (key : List ℕ) (vars : List Datum) (downward : Bool) (test : Option (List Line)) (items : Items) (b : Beginning) : Type 0 where
   pub upward : downward ≡ false
   pub firsts : firsts_of key vars test ≡ Some b.firsts
   pub next : IsNext (length b.firsts) key b.column
-  pub sets : sets_are_told (is_none test) b.column items ≡ true
+  pub sets : sets_are_from_ends (is_none test) b.column items ≡ true
 
 abbrev Chosen : Bool → List ℕ → Items → Option (List Datum) → Beginning → Type 0
-Chosen all key items o b = (o ≡ Some b.firsts) × IsNext (length b.firsts) key b.column × (sets_are_told all b.column items ≡ true)
+Chosen all key items o b = (o ≡ Some b.firsts) × IsNext (length b.firsts) key b.column × (sets_are_from_ends all b.column items ≡ true)
 
 module _ (all : Bool) (key : List ℕ) (items : Items) where
   chosen_column : (firsts : List Datum) (b : Beginning) (o : Option ℕ) → slice_get key (length firsts) ≡ o → with_column all firsts items o ≡ Some b → Chosen all key items (Some firsts) b
   chosen_column firsts b None n e = absurd (cc)
   chosen_column firsts b (Some c) n e =
       let made : Beginning = record { firsts = firsts; column = c } in
-      let k = if_some (sets_are_told all c items) (Some made) b e in
+      let k = if_some (sets_are_from_ends all c items) (Some made) b e in
       let same : made ≡ b = let f = k.1 in cc in
       subst (Chosen all key items (Some firsts)) same (refl, n, k.0)
 
@@ -404,14 +404,14 @@ module _ (all : Bool) (key : List ℕ) (items : Items) where
   chosen b None e = absurd (cc)
   chosen b (Some firsts) e = chosen_column firsts b (slice_get key (length firsts)) refl e
 
-pub is_told_of : (key : List ℕ) (vars : List Datum) (downward : Bool) (test : Option (List Line)) (items : Items) (b : Beginning) → told_beginning key vars downward test items ≡ Some b → IsTold key vars downward test items b
-is_told_of key vars downward test items b e =
+pub is_from_ends_of : (key : List ℕ) (vars : List Datum) (downward : Bool) (test : Option (List Line)) (items : Items) (b : Beginning) → beginning_for_ends key vars downward test items ≡ Some b → IsFromEnds key vars downward test items b
+is_from_ends_of key vars downward test items b e =
     let k = unless_some downward (with_firsts (is_none test) key items (firsts_of key vars test)) b e in
     let p = chosen (is_none test) key items b (firsts_of key vars test) k.1 in
     record { upward = k.0; firsts = p.0; next = p.1; sets = p.2 }
 
--- a set function that an end tells may be told by one
-of_end : (all : Bool) (c : ℕ) (f : SetFunction) (operand : Option (List Line)) → is_of_ends all f ≡ false → is_told all c f operand ≡ false
+-- a set function that is answered from the ends may be answered from them
+of_end : (all : Bool) (c : ℕ) (f : SetFunction) (operand : Option (List Line)) → is_of_ends all f ≡ false → is_from_ends all c f operand ≡ false
 of_end all c function.Count None h = h
 of_end all c function.Count (Some code) h = refl
 of_end all c function.Sum operand h = refl
@@ -427,10 +427,10 @@ of_first true y u v f g h = ap (λ w. u && w) (g h) ∙ never u
     never false = refl
 of_first false y u v f g h = ap (λ w. w && v) (f refl)
 
-pub of_ends : (all : Bool) (sets : List Aggregate) → list_all (λ (a : Aggregate). is_of_ends all a.function) sets ≡ false → (c : ℕ) → list_all (λ (a : Aggregate). is_told all c a.function a.operand) sets ≡ false
+pub of_ends : (all : Bool) (sets : List Aggregate) → list_all (λ (a : Aggregate). is_of_ends all a.function) sets ≡ false → (c : ℕ) → list_all (λ (a : Aggregate). is_from_ends all c a.function a.operand) sets ≡ false
 of_ends all [] h c = absurd (cc)
 of_ends all (a ∷ sets) h c =
-    of_first (is_of_ends all a.function) (list_all (λ (b : Aggregate). is_of_ends all b.function) sets) (is_told all c a.function a.operand) (list_all (λ (b : Aggregate). is_told all c b.function b.operand) sets)
+    of_first (is_of_ends all a.function) (list_all (λ (b : Aggregate). is_of_ends all b.function) sets) (is_from_ends all c a.function a.operand) (list_all (λ (b : Aggregate). is_from_ends all c b.function b.operand) sets)
     (of_end all c a.function a.operand) (λ e. of_ends all sets e c) h
 
 -- without a test there are no values, so that all rows begin so
@@ -442,17 +442,17 @@ module _ (vars : List Datum) (rows : List (List Datum)) where
   abbrev pub Gathers : Bool → Option (List Line) → Items → Result Gathered SqlState
   Gathers downward test items = mapped (with_rows items (nothing items)) (walked (test_of (over vars) test) (values_for vars items) (in_walk downward rows))
 
-  -- what the length and the ends tell is what a walk over all rows gathers
-  pub gathers_told : (key : List ℕ) (b : Beginning) (downward : Bool) (test : Option (List Line)) (sets : List Aggregate) → IsTold key vars downward test (Sets sets) b
-      → All (λ row. AreColumnsOf row key) rows → All (λ row. All (λ d. d ≢ Null) (values_at key row)) rows → IsAscending key rows → Gathers downward test (Sets sets) ≡ Ok (gathered_told key b rows sets)
-  gathers_told key b downward test sets t exist filled up =
+  -- what the length and the ends answer is what a walk over all rows gathers
+  pub gathers_from_ends : (key : List ℕ) (b : Beginning) (downward : Bool) (test : Option (List Line)) (sets : List Aggregate) → IsFromEnds key vars downward test (Sets sets) b
+      → All (λ row. AreColumnsOf row key) rows → All (λ row. All (λ d. d ≢ Null) (values_at key row)) rows → IsAscending key rows → Gathers downward test (Sets sets) ≡ Ok (gathered_from_ends key b rows sets)
+  gathers_from_ends key b downward test sets t exist filled up =
       let some : List (List Datum) = rows_beginning key b.firsts rows in
       let all : Bool = is_none test in
       let same : all ≡ true → rows ≡ some = λ e. all_of key vars test b.firsts rows t.firsts e in
       ap (λ d. Gathers d test (Sets sets)) t.upward
       ∙ ap (mapped (with_rows (Sets sets) (nothing (Sets sets)))) (walked_beginning vars key b.firsts test (values_for vars (Sets sets)) rows exist t.firsts ∙ walked_alone b.column vars all sets some t.sets)
       ∙ ap Ok (kept-all sets (map (taken_of b.column sets) some)
-      ∙ kept_told b.column all rows some same (filled_beginning key b.firsts b.column t.next rows filled) (rises_beginning key b.firsts b.column t.next rows up) sets t.sets)
+      ∙ kept_from_ends b.column all rows some same (filled_beginning key b.firsts b.column t.next rows filled) (rises_beginning key b.firsts b.column t.next rows up) sets t.sets)
 
 -- ---- the ends of some rows
 
@@ -477,13 +477,13 @@ neither Less = refl
 neither Equal = refl
 neither Greater = refl
 
--- the rows between the cuts before and behind some values
-pub between_cuts : (key : List ℕ) (firsts : List Datum) (low high : Cut) (rows : List (List Datum)) → low.values.now ≡ firsts → low.is_behind ≡ false → high.values.now ≡ firsts → high.is_behind ≡ true
+-- the rows between the cuts before and after some values
+pub between_cuts : (key : List ℕ) (firsts : List Datum) (low high : Cut) (rows : List (List Datum)) → low.values.now ≡ firsts → low.is_after ≡ false → high.values.now ≡ firsts → high.is_after ≡ true
     → rows_between key (Some low) (Some high) rows ≡ rows_beginning key firsts rows
 between_cuts key firsts low high rows a b d e =
-    ap (λ vs. filter (λ row. is_past vs low.is_behind (values_at key row) && not (is_past high.values.now high.is_behind (values_at key row))) rows) a
-    ∙ ap (λ t. filter (λ row. is_past firsts t (values_at key row) && not (is_past high.values.now high.is_behind (values_at key row))) rows) b
-    ∙ ap (λ vs. filter (λ row. is_past firsts false (values_at key row) && not (is_past vs high.is_behind (values_at key row))) rows) d
+    ap (λ vs. filter (λ row. is_past vs low.is_after (values_at key row) && not (is_past high.values.now high.is_after (values_at key row))) rows) a
+    ∙ ap (λ t. filter (λ row. is_past firsts t (values_at key row) && not (is_past high.values.now high.is_after (values_at key row))) rows) b
+    ∙ ap (λ vs. filter (λ row. is_past firsts false (values_at key row) && not (is_past vs high.is_after (values_at key row))) rows) d
     ∙ ap (λ t. filter (λ row. is_past firsts false (values_at key row) && not (is_past firsts t (values_at key row))) rows) e
     ∙ (λ i. filter (λ row. neither (prefix_order firsts (values_at key row)) i) rows)
 

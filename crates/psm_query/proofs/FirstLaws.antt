@@ -72,7 +72,7 @@ module _ (vars : List Datum) (columns : List ℕ) (lines : List Line) (first : D
   abbrev Due : Option (List Datum)
   Due = with_first (Some first) (more_firsts columns vars (drop 3 lines))
 
-  -- so many of the columns have their values, and the lines from a place on are left
+  -- the first n columns have their values, and the lines from an index on are left
   pub record Joins (next at : ℕ) (done : List Datum) : Type 0 where
     pub within : at ≤ length lines
     pub rest : Due ≡ after_all done (more_firsts (drop next columns) vars (drop at lines))

@@ -66,7 +66,7 @@ is_column_alone c [] = false
 is_column_alone c (l ∷ []) = is_column c l.op
 is_column_alone c (l ∷ k ∷ lines) = false
 
--- whether an end of rows may tell a set function, or, where all rows of a table are these, its length
+-- whether a set function may be answered from the ends of rows, or, where these are all rows of a table, from its length
 abbrev pub is_of_ends : Bool → SetFunction → Bool
 is_of_ends all Count = all
 is_of_ends all Min = true
@@ -74,18 +74,18 @@ is_of_ends all Max = true
 is_of_ends all Sum = false
 is_of_ends all Avg = false
 
--- whether that tells it, where the rows ascend by column c
-abbrev pub is_told : Bool → ℕ → SetFunction → Option (List Line) → Bool
-is_told all c Count None = all
-is_told all c Count (Some code) = false
-is_told all c Min operand = option_map_or (is_column_alone c) operand false
-is_told all c Max operand = option_map_or (is_column_alone c) operand false
-is_told all c Sum operand = false
-is_told all c Avg operand = false
+-- whether it is answered from them, where the rows ascend by column c
+abbrev pub is_from_ends : Bool → ℕ → SetFunction → Option (List Line) → Bool
+is_from_ends all c Count None = all
+is_from_ends all c Count (Some code) = false
+is_from_ends all c Min operand = option_map_or (is_column_alone c) operand false
+is_from_ends all c Max operand = option_map_or (is_column_alone c) operand false
+is_from_ends all c Sum operand = false
+is_from_ends all c Avg operand = false
 
-abbrev pub sets_are_told : Bool → ℕ → Items → Bool
-sets_are_told all c (Rows codes) = false
-sets_are_told all c (Sets sets) = list_all (λ a. is_told all c a.function a.operand) sets
+abbrev pub sets_are_from_ends : Bool → ℕ → Items → Bool
+sets_are_from_ends all c (Rows codes) = false
+sets_are_from_ends all c (Sets sets) = list_all (λ a. is_from_ends all c a.function a.operand) sets
 
 -- the column comes after the first n of a key
 abbrev pub IsNext : ℕ → List ℕ → ℕ → Type 0
@@ -94,15 +94,15 @@ IsNext n key c = slice_get key n ≡ Some c
 -- with the column after those of the values, if there is one and the query asks for such set functions alone
 abbrev pub with_column : Bool → List Datum → Items → Option ℕ → Option Beginning
 with_column all firsts items None = None
-with_column all firsts items (Some c) = if sets_are_told all c items then Some (record { firsts = firsts; column = c }) else None
+with_column all firsts items (Some c) = if sets_are_from_ends all c items then Some (record { firsts = firsts; column = c }) else None
 
 abbrev pub with_firsts : Bool → List ℕ → Items → Option (List Datum) → Option Beginning
 with_firsts all key items None = None
 with_firsts all key items (Some firsts) = with_column all firsts items (slice_get key (length firsts))
 
 -- what the keys of the rows begin with, and the column after it, if the ends of these rows answer the query
-abbrev pub told_beginning : List ℕ → List Datum → Bool → Option (List Line) → Items → Option Beginning
-told_beginning key vars downward test items = if downward then None else with_firsts (is_none test) key items (firsts_of key vars test)
+abbrev pub beginning_for_ends : List ℕ → List Datum → Bool → Option (List Line) → Items → Option Beginning
+beginning_for_ends key vars downward test items = if downward then None else with_firsts (is_none test) key items (firsts_of key vars test)
 
 -- the first row that has the value of a row in a column
 abbrev pub first_like : ℕ → Option (List Datum) → List (List Datum) → Option (List Datum)
@@ -113,16 +113,16 @@ abbrev pub in_column : ℕ → Option (List Datum) → Option Datum
 in_column c row = option_map (λ (r : List Datum). slice_index_or r c Null) row
 
 -- what is known of such a set function after all rows of a table, of which those come that have the beginning
-abbrev pub told : ℕ → List (List Datum) → List (List Datum) → SetFunction → Tally
-told c all rows Count = tally_of.Count (length all)
-told c all rows Min = tally_of.Min (in_column c (slice_get rows 0))
-told c all rows Max = tally_of.Max (in_column c (first_like c (last_of rows) rows))
-told c all rows Sum = tally_of.Count 0
-told c all rows Avg = tally_of.Count 0
+abbrev pub ends_tally : ℕ → List (List Datum) → List (List Datum) → SetFunction → Tally
+ends_tally c all rows Count = tally_of.Count (length all)
+ends_tally c all rows Min = tally_of.Min (in_column c (slice_get rows 0))
+ends_tally c all rows Max = tally_of.Max (in_column c (first_like c (last_of rows) rows))
+ends_tally c all rows Sum = tally_of.Count 0
+ends_tally c all rows Avg = tally_of.Count 0
 
-abbrev pub told_of : List ℕ → Beginning → List (List Datum) → SetFunction → Tally
-told_of key b rows f = told b.column rows (rows_beginning key b.firsts rows) f
+abbrev pub beginning_tally : List ℕ → Beginning → List (List Datum) → SetFunction → Tally
+beginning_tally key b rows f = ends_tally b.column rows (rows_beginning key b.firsts rows) f
 
 -- what is kept of such set functions after all rows
-abbrev pub gathered_told : List ℕ → Beginning → List (List Datum) → List Aggregate → Gathered
-gathered_told key b rows sets = record { rows = []; tallies = map (λ (a : Aggregate). told_of key b rows a.function) sets; skipped = false }
+abbrev pub gathered_from_ends : List ℕ → Beginning → List (List Datum) → List Aggregate → Gathered
+gathered_from_ends key b rows sets = record { rows = []; tallies = map (λ (a : Aggregate). beginning_tally key b rows a.function) sets; skipped = false }

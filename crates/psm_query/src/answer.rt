@@ -34,7 +34,7 @@ impl Answer {
         self.rows.as_slice()
     }
 
-    /// Whether a set function skipped a null, of which the warning 01003 tells.
+    /// Whether a set function skipped a null, which the warning 01003 reports.
     pub fn skipped(&self) -> bool
         ensures { result ≡ self.now.skipped }
     {

@@ -8,7 +8,7 @@ ghost use Rattle.psm_value.specs.declared.datum.Datum.TheVariants.{Null};
 ghost use Rattle.psm_table.specs.Queries.{in_walk};
 ghost use Rattle.psm_table.specs.Rows.{last_of};
 ghost use Rattle.psm_query.specs.Ends as ends;
-ghost use Rattle.psm_query.specs.Ends.{first_like, in_column, rows_beginning, told_of, IsNext};
+ghost use Rattle.psm_query.specs.Ends.{first_like, in_column, rows_beginning, beginning_tally, IsNext};
 
 use crate::firsts::{firsts_of, is_column};
 use crate::tally::Tally;
@@ -25,13 +25,13 @@ pub(crate) struct Beginning {
 }
 
 /// What the keys of the rows that meet the test begin with, if the ends of these rows answer the query.
-pub(crate) fn told_beginning(
+pub(crate) fn beginning_for_ends(
     alloc: Global,
     query: &Query,
     key: &[u32],
     vars: &[Datum],
 ) -> Result<Option<Beginning>, AllocError>
-    ensures { IfOk result (λ b. b ≡ ends.told_beginning key.now vars.now query.now.downward query.now.test query.now.items) }
+    ensures { IfOk result (λ b. b ≡ ends.beginning_for_ends key.now vars.now query.now.downward query.now.test query.now.items) }
 {
     let all = query.test.is_none();
     if query.downward || !are_of_ends(all, &query.items) {
@@ -43,9 +43,9 @@ pub(crate) fn told_beginning(
     }
 }
 
-// Whether the ends or the length may tell the items, so that the values of the test are worth a copy.
+// Whether the items may be answered from the ends or the length, so that the values of the test are worth a copy.
 fn are_of_ends(all: bool, items: &Items) -> bool
-    ensures { OnFalse result ((c : ℕ) → ends.sets_are_told all c items.now ≡ false) }
+    ensures { OnFalse result ((c : ℕ) → ends.sets_are_from_ends all c items.now ≡ false) }
 {
     match items {
         Items::Rows(_) => false,
@@ -79,35 +79,35 @@ fn with_column(all: bool, firsts: Key, key: &[u32], items: &Items) -> Option<Beg
     ensures { result ≡ ends.with_firsts all key.now items.now (Some firsts) }
 {
     let column = *key.get(firsts.values().len())?;
-    if sets_are_told(all, column, items) {
+    if sets_are_from_ends(all, column, items) {
         Some(Beginning { firsts, column })
     } else {
         None
     }
 }
 
-fn sets_are_told(all: bool, column: u32, items: &Items) -> bool
-    ensures { result ≡ ends.sets_are_told all column items.now }
+fn sets_are_from_ends(all: bool, column: u32, items: &Items) -> bool
+    ensures { result ≡ ends.sets_are_from_ends all column items.now }
 {
     match items {
         Items::Rows(_) => false,
-        Items::Sets(sets) => is_each_told(all, column, sets.items()),
+        Items::Sets(sets) => is_each_from_ends(all, column, sets.items()),
     }
 }
 
-fn is_each_told(all: bool, column: u32, sets: &[Aggregate]) -> bool
-    ensures { result ≡ list_all (λ a. ends.is_told all column a.function a.operand) sets.now }
+fn is_each_from_ends(all: bool, column: u32, sets: &[Aggregate]) -> bool
+    ensures { result ≡ list_all (λ a. ends.is_from_ends all column a.function a.operand) sets.now }
 {
     for set in sets {
-        if !is_told(all, column, set) {
+        if !is_from_ends(all, column, set) {
             return false;
         }
     }
     true
 }
 
-fn is_told(all: bool, column: u32, set: &Aggregate) -> bool
-    ensures { result ≡ ends.is_told all column set.now.function set.now.operand }
+fn is_from_ends(all: bool, column: u32, set: &Aggregate) -> bool
+    ensures { result ≡ ends.is_from_ends all column set.now.function set.now.operand }
 {
     match set.function {
         SetFunction::Count => all && set.operand.is_none(),
@@ -140,30 +140,30 @@ fn is_column_alone(column: u32, code: &ExprCode) -> bool
 // ---- the rows of a beginning
 
 /// What is known of such set functions after all rows.
-pub(crate) fn tallies_told(
+pub(crate) fn tallies_from_ends(
     alloc: Global,
     table: &Table,
     beginning: &Beginning,
     sets: &[Aggregate],
 ) -> Result<Vec<Tally>, AllocError>
     requires { IsNext (length beginning.now.firsts) table.now.contents.def.key beginning.now.column }
-    ensures { IfOk result (λ tallies. tallies.items ≡ map (λ a. told_of table.now.contents.def.key beginning.now table.now.contents.rows a.function) sets.now) }
+    ensures { IfOk result (λ tallies. tallies.items ≡ map (λ a. beginning_tally table.now.contents.def.key beginning.now table.now.contents.rows a.function) sets.now) }
 {
     let mut tallies = Vec::new(alloc);
     for set in sets {
-        tallies.push(tally_told(alloc, table, beginning, set.function)?)?;
+        tallies.push(tally_from_ends(alloc, table, beginning, set.function)?)?;
     }
     Ok(tallies)
 }
 
-fn tally_told(
+fn tally_from_ends(
     alloc: Global,
     table: &Table,
     beginning: &Beginning,
     function: SetFunction,
 ) -> Result<Tally, AllocError>
     requires { IsNext (length beginning.now.firsts) table.now.contents.def.key beginning.now.column }
-    ensures { IfOk result (λ tally. tally ≡ told_of table.now.contents.def.key beginning.now table.now.contents.rows function) }
+    ensures { IfOk result (λ tally. tally ≡ beginning_tally table.now.contents.def.key beginning.now table.now.contents.rows function) }
 {
     Ok(match function {
         SetFunction::Count => Tally::Count(table.len()),
@@ -226,11 +226,11 @@ fn rows_with<'a>(table: &'a Table, firsts: &[Datum], downward: bool) -> RowsLeft
     }
     let low = Cut {
         values: firsts,
-        is_behind: false,
+        is_after: false,
     };
     let high = Cut {
         values: firsts,
-        is_behind: true,
+        is_after: true,
     };
     table.rows_between(Some(low), Some(high), downward)
 }

@@ -7,14 +7,14 @@ ghost use Rattle.psm_table.specs.Queries.{in_walk, walked};
 ghost use Rattle.psm_table.specs.Table.{most_rows};
 ghost use Rattle.psm_table.specs.Unique.{is_null as is_null_value};
 ghost use Rattle.psm_tablecode.specs.Codes.{over, set_function};
-ghost use Rattle.psm_query.specs.Ends.{gathered_told, IsNext};
+ghost use Rattle.psm_query.specs.Ends.{gathered_from_ends, IsNext};
 ghost use Rattle.psm_query.specs.Gathered.{finished, nothing, with_rows, with_taken};
 ghost use Rattle.psm_tablecode.specs.Rows.{values_for};
 ghost use Rattle.psm_tablecode.specs.TypeChecks.{TypeChecksTable};
 ghost use Rattle.psm_query.specs.Tallies.{added, count_of, empty, finish as finish_of};
 
 use crate::answer::Answer;
-use crate::ends::{Beginning, tallies_told, told_beginning};
+use crate::ends::{Beginning, beginning_for_ends, tallies_from_ends};
 use crate::tally::{Tally, is_null};
 use psm_exprcode::{Aggregate, Items, Query};
 use psm_table::{Row, Table};
@@ -40,7 +40,7 @@ impl Model for Gathering {
 }
 
 impl Gathering {
-    /// All rows of the table. Where its length and its ends tell what the query asks for, no other row is looked at.
+    /// All rows of the table. Where the query is answered from its length and its ends, no other row is looked at.
     pub(crate) fn of_rows(
         alloc: Global,
         table: &Table,
@@ -53,25 +53,25 @@ impl Gathering {
         let Items::Sets(sets) = &query.items else {
             return Gathering::of_walk(alloc, table, query, vars);
         };
-        match told_beginning(alloc, query, table.def().key.items(), vars)? {
-            Some(beginning) => Ok(Gathering::told(alloc, table, &beginning, sets.items())?),
+        match beginning_for_ends(alloc, query, table.def().key.items(), vars)? {
+            Some(beginning) => Ok(Gathering::from_ends(alloc, table, &beginning, sets.items())?),
             None => Gathering::of_walk(alloc, table, query, vars),
         }
     }
 
-    /// What the length of the table, or the ends of the rows with a beginning, tell of set functions.
-    fn told(
+    /// The set functions as answered from the length of the table, or from the ends of the rows with a beginning.
+    fn from_ends(
         alloc: Global,
         table: &Table,
         beginning: &Beginning,
         sets: &[Aggregate],
     ) -> Result<Gathering, AllocError>
         requires { IsNext (length beginning.now.firsts) table.now.contents.def.key beginning.now.column }
-        ensures { IfOk result (λ g. g ≡ gathered_told table.now.contents.def.key beginning.now table.now.contents.rows sets.now) }
+        ensures { IfOk result (λ g. g ≡ gathered_from_ends table.now.contents.def.key beginning.now table.now.contents.rows sets.now) }
     {
         Ok(Gathering {
             rows: Vec::new(alloc),
-            tallies: tallies_told(alloc, table, beginning, sets)?,
+            tallies: tallies_from_ends(alloc, table, beginning, sets)?,
             skipped: false,
         })
     }

@@ -60,7 +60,7 @@ pub fn table_number(resolver_scope: ResolverScope, table: &Name) -> u32
     ensures { result ≡ number_of (table_at (seen_at resolver_scope.entry) table.now) }
 {
     let symbols = resolver_scope.symbols;
-    match symbols.tables.place(table) {
+    match symbols.tables.index(table) {
         None => 0,
         Some(number) => number,
     }

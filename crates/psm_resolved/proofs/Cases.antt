@@ -32,7 +32,7 @@ use Rattle.psm_resolved.specs.RowValue.{listed, row_value}
 use Rattle.psm_resolved.specs.RowType.{RowType, goes_as, letter_at, is_scale, row_type_of}
 use Rattle.psm_resolved.specs.Written.{Written, with_line, patched, Jumps, Adds, puts_value, puts_first, with_scale, Writes, WritesSource, WritesFirst, WritesOthers}
 use Rattle.psm_resolved.proofs.Equations.{value-Coalesce, row_type-Coalesce}
-use Rattle.psm_resolved.proofs.Forms.{Meaning, puts, told, relabel, one_adds, written_ok}
+use Rattle.psm_resolved.proofs.Forms.{Meaning, puts, where_true_inverted, relabel, one_adds, written_ok}
 use Rattle.psm_resolved.proofs.Jumps.{set_move, open_branch, open_value}
 use Rattle.psm_resolved.proofs.Operations.{value_fall_through, one_fall_through, adds_same}
 use Rattle.psm_resolved.proofs.Pending.{pends_none, pends_more, pends_closed, replaced_here}
@@ -57,56 +57,56 @@ pub letter_value : (scale : Option ℕ) → is_value (letter_at scale) ≡ true
 letter_value None = refl
 letter_value (Some s) = refl
 
--- the place of the jump, and the operands that there are after it
-pub value_pends : (columns variables : List Letter) (k : Letter) (v : Meaning) (place : ℕ) (old between new : Written) → is_value k ≡ true → Adds (is_of_kind columns variables) (k ∷ []) (puts v) old between
-    → Jumps (op.JumpUnlessNull 0) 1 place between new
-    → Pends (is_of_kind columns variables) (k ∷ old.stack) op.JumpUnlessNull (λ h row vars os. then_move (put (v row vars) os) (set_move (h row vars))) (place ∷ []) old new
-value_pends columns variables k v place old between new n a j =
+-- the index of the jump, and the operands that there are after it
+pub value_pends : (columns variables : List Letter) (k : Letter) (v : Meaning) (index : ℕ) (old between new : Written) → is_value k ≡ true → Adds (is_of_kind columns variables) (k ∷ []) (puts v) old between
+    → Jumps (op.JumpUnlessNull 0) 1 index between new
+    → Pends (is_of_kind columns variables) (k ∷ old.stack) op.JumpUnlessNull (λ h row vars os. then_move (put (v row vars) os) (set_move (h row vars))) (index ∷ []) old new
+value_pends columns variables k v index old between new n a j =
     let M : Op → Letter → Bool = is_of_kind columns variables in
     let st : List Letter = reverse between.stack in
     let l : ℕ → Line = λ e. record { stack = st; op = op.JumpUnlessNull e } in
     let stated : reverse st ≡ k ∷ old.stack = reverse-reverse between.stack ∙ a.letters in
     let w : Written = with_line between (op.JumpUnlessNull 0) (drop 1 between.stack) in
-    let base : Pends M (k ∷ old.stack) op.JumpUnlessNull (λ h row vars os. then_move (put (v row vars) os) (set_move (h row vars))) (place ∷ []) old w = record {
+    let base : Pends M (k ∷ old.stack) op.JumpUnlessNull (λ h row vars os. then_move (put (v row vars) os) (set_move (h row vars))) (index ∷ []) old w = record {
       lines = a.lines ++ l 0 ∷ [];
       filled = λ e. a.lines ++ l e ∷ [];
       added = ap (λ x. x ++ l 0 ∷ []) a.added ∙ append_assoc old.lines a.lines (l 0 ∷ []);
       letters = ap (drop 1) a.letters;
       as_many = λ e. length-append a.lines (l e ∷ []) ∙ sym (length-append a.lines (l 0 ∷ []));
       fills = λ e before more h.
-          let counted : place ≡ length (before ++ a.lines) =
+          let counted : index ≡ length (before ++ a.lines) =
           j.0 ∙ ap length a.added ∙ length-append old.lines a.lines ∙ ap (λ i. i + length a.lines) (sym h) ∙ sym (length-append before a.lines) in
-          ap (λ x. with_op_at (before ++ x) place (op.JumpUnlessNull e)) (append_assoc a.lines (l 0 ∷ []) more)
-          ∙ ap (λ x. with_op_at x place (op.JumpUnlessNull e)) (sym (append_assoc before a.lines (l 0 ∷ more)))
-          ∙ replaced_here (before ++ a.lines) more (l 0) place (op.JumpUnlessNull e) counted
+          ap (λ x. with_op_at (before ++ x) index (op.JumpUnlessNull e)) (append_assoc a.lines (l 0 ∷ []) more)
+          ∙ ap (λ x. with_op_at x index (op.JumpUnlessNull e)) (sym (append_assoc before a.lines (l 0 ∷ more)))
+          ∙ replaced_here (before ++ a.lines) more (l 0) index (op.JumpUnlessNull e) counted
           ∙ append_assoc before a.lines (l e ∷ more)
           ∙ ap (λ x. before ++ x) (sym (append_assoc a.lines (l e ∷ []) more));
       opens = open_value M k old.stack (length old.lines) (length between.lines) (length w.lines) a.lines l (puts v) n (λ q. refl) a.block
           (omega (arith, length-append between.lines (l 0 ∷ []))) (λ e. stated) (λ e. refl);
     } in
-    subst (λ x. Pends M (k ∷ old.stack) op.JumpUnlessNull (λ h row vars os. then_move (put (v row vars) os) (set_move (h row vars))) (place ∷ []) old x) (sym j.1) base
+    subst (λ x. Pends M (k ∷ old.stack) op.JumpUnlessNull (λ h row vars os. then_move (put (v row vars) os) (set_move (h row vars))) (index ∷ []) old x) (sym j.1) base
 
 -- the values of a COALESCE so far, the last of them without a jump after it, where some are left
-pub record Awaits (columns variables : List Letter) (k : Letter) (a : ResolvedExpr) (all left : List ResolvedExpr) (places : List ℕ) (old new : Written) : Type 0 where
+pub record Awaits (columns variables : List Letter) (k : Letter) (a : ResolvedExpr) (all left : List ResolvedExpr) (indexes : List ℕ) (old new : Written) : Type 0 where
   pub last : ResolvedExpr
   pub move : Move → Move
   pub between : Written
-  pub before : Pends (is_of_kind columns variables) (k ∷ old.stack) op.JumpUnlessNull move places old between
+  pub before : Pends (is_of_kind columns variables) (k ∷ old.stack) op.JumpUnlessNull move indexes old between
   pub here : Adds (is_of_kind columns variables) (k ∷ []) (puts_value last) between new
   pub same : (row vars : List Datum) (os : List Operand) → move (λ r v us. put (first_set (row_value r v last) (map (row_value r v) left)) us) row vars os ≡ put (first_set (row_value row vars a) (map (row_value row vars) all)) os
 
 -- as long as all are of the letter
 abbrev pub AwaitsAll : List Letter → List Letter → Letter → Several ResolvedExpr → List ResolvedExpr → List ℕ → Written → Written → Type 0
-AwaitsAll columns variables k values left places old new =
-    is_value k ≡ true → list_all (goes_as k) (map (row_type_of columns variables) (listed values)) ≡ true → Awaits columns variables k values.first values.rest left places old new × (list_all (goes_as k) (map (row_type_of columns variables) left) ≡ true)
+AwaitsAll columns variables k values left indexes old new =
+    is_value k ≡ true → list_all (goes_as k) (map (row_type_of columns variables) (listed values)) ≡ true → Awaits columns variables k values.first values.rest left indexes old new × (list_all (goes_as k) (map (row_type_of columns variables) left) ≡ true)
 
 -- the values after a first one so far, whichever it is
 abbrev pub AwaitsOthers : List Letter → List Letter → Letter → List ResolvedExpr → List ResolvedExpr → List ℕ → Written → Written → Type 0
-AwaitsOthers columns variables k rest left places old new =
-    (first : ResolvedExpr) (begin : Written) → WritesSource columns variables k first begin old → AwaitsAll columns variables k (record { first = first; rest = rest }) left places begin new
+AwaitsOthers columns variables k rest left indexes old new =
+    (first : ResolvedExpr) (begin : Written) → WritesSource columns variables k first begin old → AwaitsAll columns variables k (record { first = first; rest = rest }) left indexes begin new
 
-pub awaits_first : (columns variables : List Letter) (k : Letter) (rest left : List ResolvedExpr) (places : List ℕ) (w : Written) → left ≡ rest → places ≡ [] → AwaitsOthers columns variables k rest left places w w
-awaits_first columns variables k rest left places w p n first begin x =
+pub awaits_first : (columns variables : List Letter) (k : Letter) (rest left : List ResolvedExpr) (indexes : List ℕ) (w : Written) → left ≡ rest → indexes ≡ [] → AwaitsOthers columns variables k rest left indexes w w
+awaits_first columns variables k rest left indexes w p n first begin x =
     subst (λ ps. AwaitsAll columns variables k (record { first = first; rest = rest }) left ps begin w) (sym n) (subst (λ l. AwaitsAll columns variables k (record { first = first; rest = rest }) l [] begin w) (sym p) (λ v h.
     let f : RowType → Bool = goes_as k in (
       record {
@@ -120,24 +120,24 @@ awaits_first columns variables k rest left places w p n first begin x =
       and_second (f (row_type_of columns variables first)) (list_all f (map (row_type_of columns variables) rest)) h,
     )))
 
-awaits_next : (columns variables : List Letter) (k : Letter) (values : Several ResolvedExpr) (b : ResolvedExpr) (left more : List ResolvedExpr) (places next : List ℕ) (place : ℕ) (w0 w1 w2 w3 : Written) → left ≡ b ∷ more
-    → next ≡ places ++ place ∷ [] → AwaitsAll columns variables k values left places w0 w1 → Jumps (op.JumpUnlessNull 0) 1 place w1 w2 → WritesSource columns variables k b w2 w3
+awaits_next : (columns variables : List Letter) (k : Letter) (values : Several ResolvedExpr) (b : ResolvedExpr) (left more : List ResolvedExpr) (indexes next : List ℕ) (index : ℕ) (w0 w1 w2 w3 : Written) → left ≡ b ∷ more
+    → next ≡ indexes ++ index ∷ [] → AwaitsAll columns variables k values left indexes w0 w1 → Jumps (op.JumpUnlessNull 0) 1 index w1 w2 → WritesSource columns variables k b w2 w3
     → AwaitsAll columns variables k values more next w0 w3
-awaits_next columns variables k values b left more places next place w0 w1 w2 w3 q n x j z =
+awaits_next columns variables k values b left more indexes next index w0 w1 w2 w3 q n x j z =
     subst (λ ps. AwaitsAll columns variables k values more ps w0 w3) (sym n) (λ v h.
     let f : RowType → Bool = goes_as k in
-    let s = subst (λ l. AwaitsAll columns variables k values l places w0 w1) q x v h in
+    let s = subst (λ l. AwaitsAll columns variables k values l indexes w0 w1) q x v h in
     let r = s.0 in
     let tests : (f (row_type_of columns variables b) && list_all f (map (row_type_of columns variables) more)) ≡ true = s.1 in
-    let one : Pends (is_of_kind columns variables) (k ∷ r.between.stack) op.JumpUnlessNull (λ m row vars os. then_move (put (row_value row vars r.last) os) (set_move (m row vars))) (place ∷ []) r.between w2 =
-    value_pends columns variables k (λ row vars. row_value row vars r.last) place r.between w1 w2 v r.here j in
-    let here : Pends (is_of_kind columns variables) (k ∷ w0.stack) op.JumpUnlessNull (λ m row vars os. then_move (put (row_value row vars r.last) os) (set_move (m row vars))) (place ∷ []) r.between w2 =
-    subst (λ t. Pends (is_of_kind columns variables) (k ∷ t) op.JumpUnlessNull (λ m row vars os. then_move (put (row_value row vars r.last) os) (set_move (m row vars))) (place ∷ []) r.between w2) r.before.letters one in (
+    let one : Pends (is_of_kind columns variables) (k ∷ r.between.stack) op.JumpUnlessNull (λ m row vars os. then_move (put (row_value row vars r.last) os) (set_move (m row vars))) (index ∷ []) r.between w2 =
+    value_pends columns variables k (λ row vars. row_value row vars r.last) index r.between w1 w2 v r.here j in
+    let here : Pends (is_of_kind columns variables) (k ∷ w0.stack) op.JumpUnlessNull (λ m row vars os. then_move (put (row_value row vars r.last) os) (set_move (m row vars))) (index ∷ []) r.between w2 =
+    subst (λ t. Pends (is_of_kind columns variables) (k ∷ t) op.JumpUnlessNull (λ m row vars os. then_move (put (row_value row vars r.last) os) (set_move (m row vars))) (index ∷ []) r.between w2) r.before.letters one in (
       record {
         last = b;
         move = λ m. r.move (λ row vars os. then_move (put (row_value row vars r.last) os) (set_move (m row vars)));
         between = w2;
-        before = pends_more (is_of_kind columns variables) (k ∷ w0.stack) op.JumpUnlessNull r.move (λ m row vars os. then_move (put (row_value row vars r.last) os) (set_move (m row vars))) places (place ∷ []) w0 r.between w2 r.before here;
+        before = pends_more (is_of_kind columns variables) (k ∷ w0.stack) op.JumpUnlessNull r.move (λ m row vars os. then_move (put (row_value row vars r.last) os) (set_move (m row vars))) indexes (index ∷ []) w0 r.between w2 r.before here;
         here = z k (and_first (f (row_type_of columns variables b)) (list_all f (map (row_type_of columns variables) more)) tests);
         same = λ row vars os.
             ap (λ m. r.move m row vars os) (same_everywhere
@@ -148,27 +148,27 @@ awaits_next columns variables k values b left more places next place w0 w1 w2 w3
       and_second (f (row_type_of columns variables b)) (list_all f (map (row_type_of columns variables) more)) tests,
     ))
 
-pub others_next : (columns variables : List Letter) (k : Letter) (rest : List ResolvedExpr) (b : ResolvedExpr) (left more : List ResolvedExpr) (places next : List ℕ) (place : ℕ) (w0 w1 w2 w3 : Written) → left ≡ b ∷ more → next ≡ places ++ place ∷ []
-    → AwaitsOthers columns variables k rest left places w0 w1 → Jumps (op.JumpUnlessNull 0) 1 place w1 w2 → WritesSource columns variables k b w2 w3 → AwaitsOthers columns variables k rest more next w0 w3
-others_next columns variables k rest b left more places next place w0 w1 w2 w3 q n x j z first begin y =
-    awaits_next columns variables k (record { first = first; rest = rest }) b left more places next place begin w1 w2 w3 q n (x first begin y) j z
+pub others_next : (columns variables : List Letter) (k : Letter) (rest : List ResolvedExpr) (b : ResolvedExpr) (left more : List ResolvedExpr) (indexes next : List ℕ) (index : ℕ) (w0 w1 w2 w3 : Written) → left ≡ b ∷ more → next ≡ indexes ++ index ∷ []
+    → AwaitsOthers columns variables k rest left indexes w0 w1 → Jumps (op.JumpUnlessNull 0) 1 index w1 w2 → WritesSource columns variables k b w2 w3 → AwaitsOthers columns variables k rest more next w0 w3
+others_next columns variables k rest b left more indexes next index w0 w1 w2 w3 q n x j z first begin y =
+    awaits_next columns variables k (record { first = first; rest = rest }) b left more indexes next index begin w1 w2 w3 q n (x first begin y) j z
 
-awaits_none : (columns variables : List Letter) (k : Letter) (values : Several ResolvedExpr) (left : List ResolvedExpr) (jumps places : List ℕ) (w0 w1 w2 : Written) (r : Result (Unit {0}) AllocError) → left ≡ [] → jumps ≡ places
-    → AwaitsAll columns variables k values left jumps w0 w1 → IfOk r (λ _. w2 ≡ record { lines = patched (op.JumpUnlessNull (length w1.lines)) places w1.lines; stack = w1.stack })
+awaits_none : (columns variables : List Letter) (k : Letter) (values : Several ResolvedExpr) (left : List ResolvedExpr) (jumps indexes : List ℕ) (w0 w1 w2 : Written) (r : Result (Unit {0}) AllocError) → left ≡ [] → jumps ≡ indexes
+    → AwaitsAll columns variables k values left jumps w0 w1 → IfOk r (λ _. w2 ≡ record { lines = patched (op.JumpUnlessNull (length w1.lines)) indexes w1.lines; stack = w1.stack })
     → IfOk r (λ _. WritesFirst columns variables k values w0 w2)
-awaits_none columns variables k values left jumps places w0 w1 w2 (Ok y) q n x c = λ v h.
-    let s = subst (λ l. AwaitsAll columns variables k values l places w0 w1) q (subst (λ ps. AwaitsAll columns variables k values left ps w0 w1) n x) v h in
+awaits_none columns variables k values left jumps indexes w0 w1 w2 (Ok y) q n x c = λ v h.
+    let s = subst (λ l. AwaitsAll columns variables k values l indexes w0 w1) q (subst (λ ps. AwaitsAll columns variables k values left ps w0 w1) n x) v h in
     let r = s.0 in
     adds_same (is_of_kind columns variables) (k ∷ []) (r.move (puts_value r.last)) (puts_first values) w0 w2 (λ row vars os. r.same row vars os)
-    (pends_closed (is_of_kind columns variables) (k ∷ []) op.JumpUnlessNull r.move (puts_value r.last) places w0 r.between w1 w2 r.before r.here c)
-awaits_none columns variables k values left jumps places w0 w1 w2 (Err y) q n x c = tt
+    (pends_closed (is_of_kind columns variables) (k ∷ []) op.JumpUnlessNull r.move (puts_value r.last) indexes w0 r.between w1 w2 r.before r.here c)
+awaits_none columns variables k values left jumps indexes w0 w1 w2 (Err y) q n x c = tt
 
-pub others_end : (columns variables : List Letter) (k : Letter) (rest left : List ResolvedExpr) (jumps places : List ℕ) (w0 w1 w2 : Written) (r : Result (Unit {0}) AllocError) → left ≡ [] → jumps ≡ places
-    → AwaitsOthers columns variables k rest left jumps w0 w1 → IfOk r (λ _. w2 ≡ record { lines = patched (op.JumpUnlessNull (length w1.lines)) places w1.lines; stack = w1.stack })
+pub others_end : (columns variables : List Letter) (k : Letter) (rest left : List ResolvedExpr) (jumps indexes : List ℕ) (w0 w1 w2 : Written) (r : Result (Unit {0}) AllocError) → left ≡ [] → jumps ≡ indexes
+    → AwaitsOthers columns variables k rest left jumps w0 w1 → IfOk r (λ _. w2 ≡ record { lines = patched (op.JumpUnlessNull (length w1.lines)) indexes w1.lines; stack = w1.stack })
     → IfOk r (λ _. WritesOthers columns variables k rest w0 w2)
-others_end columns variables k rest left jumps places w0 w1 w2 (Ok y) q n x c = λ first begin z.
-    awaits_none columns variables k (record { first = first; rest = rest }) left jumps places begin w1 w2 (Ok y) q n (x first begin z) c
-others_end columns variables k rest left jumps places w0 w1 w2 (Err y) q n x c = tt
+others_end columns variables k rest left jumps indexes w0 w1 w2 (Ok y) q n x c = λ first begin z.
+    awaits_none columns variables k (record { first = first; rest = rest }) left jumps indexes begin w1 w2 (Ok y) q n (x first begin z) c
+others_end columns variables k rest left jumps indexes w0 w1 w2 (Err y) q n x c = tt
 
 -- ---- scales
 
@@ -184,7 +184,7 @@ coalesce_first : (columns variables : List Letter) (e : ResolvedExpr) (values : 
     → k ≡ letter_at scale → WritesFirst columns variables k values w0 w1 → IfOk r (λ _. w2 ≡ with_scale scale w1) → IfOk r (λ _. Writes columns variables e w0 w2)
 coalesce_first columns variables e values scale l w0 w1 w2 r q m x y = written_ok columns variables e w0 w2 (with_scale scale w1) r y (λ k h.
     let tests : Bool = list_all (goes_as (letter_at scale)) (map (row_type_of columns variables) (listed values)) in
-    let s = told (row_type_of columns variables e) (tests && is_scale scale) (letter_at scale) k (ap (row_type_of columns variables) q ∙ row_type-Coalesce columns variables values scale) h in
+    let s = where_true_inverted (row_type_of columns variables e) (tests && is_scale scale) (letter_at scale) k (ap (row_type_of columns variables) q ∙ row_type-Coalesce columns variables values scale) h in
     relabel (is_of_kind columns variables) (letter_at scale) k (puts_value e) w0 (with_scale scale w1) s.1
     (scale_adds columns variables scale (λ row vars. first_set (row_value row vars values.first) (map (row_value row vars) values.rest)) (λ row vars. row_value row vars e) w0 w1 (and_second tests (is_scale scale) s.0)
     (λ row vars. ap (row_value row vars) q ∙ value-Coalesce row vars values scale)

@@ -31,7 +31,7 @@ use Rattle.psm_resolved.specs.RowType.{RowType, is_of, goes_as, may_be, are_test
 use Rattle.psm_resolved.specs.Choices.{compared, test_move, fits_test, WritesTest, Branch, chosen_move, branched, WritesWhens, puts_else, WritesElse}
 use Rattle.psm_resolved.specs.Written.{Written, with_op, with_scale, with_copy, with_comparison, last_letter, patched, Jumps, Leaves, Adds, puts_value, Writes, WritesSource}
 use Rattle.psm_resolved.proofs.Equations.{value-Case, row_type-Case, value_of_when, row_type_of_when}
-use Rattle.psm_resolved.proofs.Forms.{Meaning, puts, told, value_found, relabel, written_ok, comparison_fall_through, comparison_rule}
+use Rattle.psm_resolved.proofs.Forms.{Meaning, puts, where_true_inverted, value_found, relabel, written_ok, comparison_fall_through, comparison_rule}
 use Rattle.psm_resolved.proofs.Lines.{fall_through, Rule, line_block}
 use Rattle.psm_resolved.proofs.Operations.{move_two, adds_same, adds_more, adds_op, adds_leaf}
 use Rattle.psm_resolved.proofs.Pending.{pends_more, pends_closed}
@@ -129,15 +129,15 @@ chosen_over_moved w ws z [] = refl
 chosen_over_moved w ws z (Truth t ∷ os) = refl
 chosen_over_moved w ws z (Value d ∷ os) = over_moved d (w ∷ ws) z os
 
-pends_same : (may : Op → Letter → Bool) (t : List Letter) (jump : ℕ → Op) (f g : Move → Move) (places : List ℕ) (old new : Written) → ((h : Move) (row vars : List Datum) (os : List Operand) → f h row vars os ≡ g h row vars os)
-    → Pends may t jump f places old new → Pends may t jump g places old new
-pends_same may t jump f g places old new e p =
+pends_same : (may : Op → Letter → Bool) (t : List Letter) (jump : ℕ → Op) (f g : Move → Move) (indexes : List ℕ) (old new : Written) → ((h : Move) (row vars : List Datum) (os : List Operand) → f h row vars os ≡ g h row vars os)
+    → Pends may t jump f indexes old new → Pends may t jump g indexes old new
+pends_same may t jump f g indexes old new e p =
     let same : f ≡ g = λ i h row vars os. e h row vars os i in
-    subst (λ m. Pends may t jump m places old new) same p
+    subst (λ m. Pends may t jump m indexes old new) same p
 
-one_pends : (columns variables : List Letter) (k : Letter) (c : Bool) (w : ResolvedWhen) (unless place : ℕ) (old between new : Written) → Branch columns variables k c w unless old between → Leaves unless place between new
-    → fits_test c old.stack (when_row_type columns variables w).0 ≡ true → goes_as k (when_row_type columns variables w).1 ≡ true → Pends (is_of_kind columns variables) (k ∷ old.stack) op.Jump (branched c (w ∷ [])) (place ∷ []) old new
-one_pends columns variables k c w unless place old between new b l t g =
+one_pends : (columns variables : List Letter) (k : Letter) (c : Bool) (w : ResolvedWhen) (unless index : ℕ) (old between new : Written) → Branch columns variables k c w unless old between → Leaves unless index between new
+    → fits_test c old.stack (when_row_type columns variables w).0 ≡ true → goes_as k (when_row_type columns variables w).1 ≡ true → Pends (is_of_kind columns variables) (k ∷ old.stack) op.Jump (branched c (w ∷ [])) (index ∷ []) old new
+one_pends columns variables k c w unless index old between new b l t g =
     let M : Op → Letter → Bool = is_of_kind columns variables in
     let first : ResolvedExpr = (out-ResolvedWhen w).test in
     let second : ResolvedExpr = (out-ResolvedWhen w).result in
@@ -145,36 +145,36 @@ one_pends columns variables k c w unless place old between new b l t g =
     let fits : fits_test c old.stack (row_type_of columns variables first) ≡ true = ap (λ s. fits_test c old.stack s.0) (sym row_types) ∙ t in
     let goes : goes_as k (row_type_of columns variables second) ≡ true = ap (λ s. goes_as k s.1) (sym row_types) ∙ g in
     let u : Move = λ row vars os. test_move c (row_value row vars first) os in
-    pends_same M (k ∷ old.stack) op.Jump (λ h row vars os. then_move (u row vars os) (branch_move (puts_value second row vars) (h row vars))) (branched c (w ∷ [])) (place ∷ []) old new
+    pends_same M (k ∷ old.stack) op.Jump (λ h row vars os. then_move (u row vars os) (branch_move (puts_value second row vars) (h row vars))) (branched c (w ∷ [])) (index ∷ []) old new
     (λ h row vars os. ap (λ p. then_move (test_move c p.0 os) (branch_move (put p.1) (h row vars))) (sym (value_of_when row vars w)))
-    (branch_pends columns variables k u (puts_value second) unless place old b.tested b.passed between l.0 new (b.test fits) b.skips (b.result k goes) l.1 l.2)
+    (branch_pends columns variables k u (puts_value second) unless index old b.tested b.passed between l.0 new (b.test fits) b.skips (b.result k goes) l.1 l.2)
 
-pub branches_first : (columns variables : List Letter) (k : Letter) (c : Bool) (w v : ResolvedWhen) (none : List ResolvedWhen) (unless place : ℕ) (places : List ℕ) (old between new : Written) → w ≡ v → none ≡ [] → places ≡ place ∷ []
-    → Branch columns variables k c w unless old between → Leaves unless place between new → WritesWhens columns variables k c (v ∷ none) places old new
-branches_first columns variables k c w v none unless place places old between new q n p b l =
-    subst (λ ws. WritesWhens columns variables k c (v ∷ ws) places old new) (sym n) (subst (λ x. WritesWhens columns variables k c (x ∷ []) places old new) q
+pub branches_first : (columns variables : List Letter) (k : Letter) (c : Bool) (w v : ResolvedWhen) (none : List ResolvedWhen) (unless index : ℕ) (indexes : List ℕ) (old between new : Written) → w ≡ v → none ≡ [] → indexes ≡ index ∷ []
+    → Branch columns variables k c w unless old between → Leaves unless index between new → WritesWhens columns variables k c (v ∷ none) indexes old new
+branches_first columns variables k c w v none unless index indexes old between new q n p b l =
+    subst (λ ws. WritesWhens columns variables k c (v ∷ ws) indexes old new) (sym n) (subst (λ x. WritesWhens columns variables k c (x ∷ []) indexes old new) q
     (subst (λ ps. WritesWhens columns variables k c (w ∷ []) ps old new) (sym p)
-    (λ t g. one_pends columns variables k c w unless place old between new b l (and_first (fits_test c old.stack (when_row_type columns variables w).0) true t) (and_first (goes_as k (when_row_type columns variables w).1) true g))))
+    (λ t g. one_pends columns variables k c w unless index old between new b l (and_first (fits_test c old.stack (when_row_type columns variables w).0) true t) (and_first (goes_as k (when_row_type columns variables w).1) true g))))
 
-pub branches_next : (columns variables : List Letter) (k : Letter) (c : Bool) (ws vs : List ResolvedWhen) (w : ResolvedWhen) (places next : List ℕ) (unless place : ℕ) (old w1 w2 w3 : Written) → vs ≡ ws ++ w ∷ [] → next ≡ places ++ place ∷ []
-    → WritesWhens columns variables k c ws places old w1 → Branch columns variables k c w unless w1 w2 → Leaves unless place w2 w3 → WritesWhens columns variables k c vs next old w3
-branches_next columns variables k c ws vs w places next unless place old w1 w2 w3 q n x b l =
+pub branches_next : (columns variables : List Letter) (k : Letter) (c : Bool) (ws vs : List ResolvedWhen) (w : ResolvedWhen) (indexes next : List ℕ) (unless index : ℕ) (old w1 w2 w3 : Written) → vs ≡ ws ++ w ∷ [] → next ≡ indexes ++ index ∷ []
+    → WritesWhens columns variables k c ws indexes old w1 → Branch columns variables k c w unless w1 w2 → Leaves unless index w2 w3 → WritesWhens columns variables k c vs next old w3
+branches_next columns variables k c ws vs w indexes next unless index old w1 w2 w3 q n x b l =
     subst (λ us. WritesWhens columns variables k c us next old w3) (sym q) (subst (λ ps. WritesWhens columns variables k c (ws ++ w ∷ []) ps old w3) (sym n) (λ t g.
     let M : Op → Letter → Bool = is_of_kind columns variables in
     let tests = all_one_more (λ s. fits_test c old.stack s.0) (when_row_type columns variables) ws w t in
     let results = all_one_more (λ s. goes_as k s.1) (when_row_type columns variables) ws w g in
-    let before : Pends M (k ∷ old.stack) op.Jump (branched c ws) places old w1 = x tests.0 results.0 in
+    let before : Pends M (k ∷ old.stack) op.Jump (branched c ws) indexes old w1 = x tests.0 results.0 in
     let fits : fits_test c w1.stack (when_row_type columns variables w).0 ≡ true = ap (λ s. fits_test c s (when_row_type columns variables w).0) before.letters ∙ tests.1 in
-    let one : Pends M (k ∷ old.stack) op.Jump (branched c (w ∷ [])) (place ∷ []) w1 w3 =
-    subst (λ s. Pends M (k ∷ s) op.Jump (branched c (w ∷ [])) (place ∷ []) w1 w3) before.letters (one_pends columns variables k c w unless place w1 w2 w3 b l fits results.1) in
-    pends_same M (k ∷ old.stack) op.Jump (λ h. branched c ws (branched c (w ∷ []) h)) (branched c (ws ++ w ∷ [])) (places ++ place ∷ []) old w3
+    let one : Pends M (k ∷ old.stack) op.Jump (branched c (w ∷ [])) (index ∷ []) w1 w3 =
+    subst (λ s. Pends M (k ∷ s) op.Jump (branched c (w ∷ [])) (index ∷ []) w1 w3) before.letters (one_pends columns variables k c w unless index w1 w2 w3 b l fits results.1) in
+    pends_same M (k ∷ old.stack) op.Jump (λ h. branched c ws (branched c (w ∷ []) h)) (branched c (ws ++ w ∷ [])) (indexes ++ index ∷ []) old w3
     (λ h row vars os.
     sym (ap (λ l. chosen_move c l (h row vars) os) (map-append (when_value row vars) ws (w ∷ []))
     ∙ ap (λ m. m os) (chosen_move-append c (map (when_value row vars) ws) (when_value row vars w ∷ []) (h row vars))))
-    (pends_more M (k ∷ old.stack) op.Jump (branched c ws) (branched c (w ∷ [])) places (place ∷ []) old w1 w3 before one)))
+    (pends_more M (k ∷ old.stack) op.Jump (branched c ws) (branched c (w ∷ [])) indexes (index ∷ []) old w1 w3 before one)))
 
-pub branches_end : (columns variables : List Letter) (k : Letter) (c : Bool) (ws vs : List ResolvedWhen) (places : List ℕ) (w0 w1 : Written) → ws ≡ vs → WritesWhens columns variables k c ws places w0 w1 → WritesWhens columns variables k c vs places w0 w1
-branches_end columns variables k c ws vs places w0 w1 q x = subst (λ us. WritesWhens columns variables k c us places w0 w1) q x
+pub branches_end : (columns variables : List Letter) (k : Letter) (c : Bool) (ws vs : List ResolvedWhen) (indexes : List ℕ) (w0 w1 : Written) → ws ≡ vs → WritesWhens columns variables k c ws indexes w0 w1 → WritesWhens columns variables k c vs indexes w0 w1
+branches_end columns variables k c ws vs indexes w0 w1 q x = subst (λ us. WritesWhens columns variables k c us indexes w0 w1) q x
 
 -- ---- what stands after ELSE
 
@@ -202,32 +202,32 @@ else_given columns variables k otherwise e w0 w1 (Err y) q z = tt
 abbrev else_value : Option ResolvedExpr → Meaning
 else_value otherwise row vars = else_of (option_map (row_value row vars) otherwise)
 
-cases_closed : (columns variables : List Letter) (k : Letter) (c : Bool) (whens : List ResolvedWhen) (otherwise : Option ResolvedExpr) (places : List ℕ) (w0 w1 w2 w3 : Written) → WritesWhens columns variables k c whens places w0 w1
-    → WritesElse columns variables k otherwise w1 w2 → w3 ≡ record { lines = patched (op.Jump (length w2.lines)) places w2.lines; stack = w2.stack } → is_value k ≡ true
+cases_closed : (columns variables : List Letter) (k : Letter) (c : Bool) (whens : List ResolvedWhen) (otherwise : Option ResolvedExpr) (indexes : List ℕ) (w0 w1 w2 w3 : Written) → WritesWhens columns variables k c whens indexes w0 w1
+    → WritesElse columns variables k otherwise w1 w2 → w3 ≡ record { lines = patched (op.Jump (length w2.lines)) indexes w2.lines; stack = w2.stack } → is_value k ≡ true
     → list_all (λ s. fits_test c w0.stack s.0) (map (when_row_type columns variables) whens) ≡ true → are_results k (map (when_row_type columns variables) whens) (option_map (row_type_of columns variables) otherwise) ≡ true
     → Adds (is_of_kind columns variables) (k ∷ []) (branched c whens (puts_else otherwise)) w0 w3
-cases_closed columns variables k c whens otherwise places w0 w1 w2 w3 b x q v t g =
+cases_closed columns variables k c whens otherwise indexes w0 w1 w2 w3 b x q v t g =
     let results : Bool = list_all (λ s. goes_as k s.1) (map (when_row_type columns variables) whens) in
     let last : Bool = may_be (goes_as k) (option_map (row_type_of columns variables) otherwise) in
-    pends_closed (is_of_kind columns variables) (k ∷ []) op.Jump (branched c whens) (puts_else otherwise) places w0 w1 w2 w3 (b t (and_first results last g)) (x v (and_second results last g)) q
+    pends_closed (is_of_kind columns variables) (k ∷ []) op.Jump (branched c whens) (puts_else otherwise) indexes w0 w1 w2 w3 (b t (and_first results last g)) (x v (and_second results last g)) q
 
 -- ---- CASE without an operand
 
-pub searched_written : (columns variables : List Letter) (e : ResolvedExpr) (whens : Several ResolvedWhen) (otherwise : Option ResolvedExpr) (scale : Option ℕ) (l : Letter) (jumps places : List ℕ) (w0 w1 w2 w3 w4 : Written)
-    (r : Result (Unit {0}) AllocError) → e ≡ exprs.Case None whens otherwise scale → l ≡ letter_at scale → jumps ≡ places → WritesWhens columns variables l false (listed whens) jumps w0 w1 → WritesElse columns variables l otherwise w1 w2
-    → w3 ≡ record { lines = patched (op.Jump (length w2.lines)) places w2.lines; stack = w2.stack } → IfOk r (λ _. w4 ≡ with_scale scale w3) → IfOk r (λ _. Writes columns variables e w0 w4)
-searched_written columns variables e whens otherwise scale l jumps places w0 w1 w2 w3 w4 r q m n x z p y = written_ok columns variables e w0 w4 (with_scale scale w3) r y (λ k h.
+pub searched_written : (columns variables : List Letter) (e : ResolvedExpr) (whens : Several ResolvedWhen) (otherwise : Option ResolvedExpr) (scale : Option ℕ) (l : Letter) (jumps indexes : List ℕ) (w0 w1 w2 w3 w4 : Written)
+    (r : Result (Unit {0}) AllocError) → e ≡ exprs.Case None whens otherwise scale → l ≡ letter_at scale → jumps ≡ indexes → WritesWhens columns variables l false (listed whens) jumps w0 w1 → WritesElse columns variables l otherwise w1 w2
+    → w3 ≡ record { lines = patched (op.Jump (length w2.lines)) indexes w2.lines; stack = w2.stack } → IfOk r (λ _. w4 ≡ with_scale scale w3) → IfOk r (λ _. Writes columns variables e w0 w4)
+searched_written columns variables e whens otherwise scale l jumps indexes w0 w1 w2 w3 w4 r q m n x z p y = written_ok columns variables e w0 w4 (with_scale scale w3) r y (λ k h.
     let M : Op → Letter → Bool = is_of_kind columns variables in
     let L : Letter = letter_at scale in
     let row_types : List (RowType × RowType) = map (when_row_type columns variables) (listed whens) in
     let tests : Bool = are_tests None row_types in
     let results : Bool = are_results L row_types (option_map (row_type_of columns variables) otherwise) in
-    let s = told (row_type_of columns variables e) (tests && (results && is_scale scale)) L k (ap (row_type_of columns variables) q ∙ row_type-Case columns variables None whens otherwise scale) h in
+    let s = where_true_inverted (row_type_of columns variables e) (tests && (results && is_scale scale)) L k (ap (row_type_of columns variables) q ∙ row_type-Case columns variables None whens otherwise scale) h in
     let more : (results && is_scale scale) ≡ true = and_second tests (results && is_scale scale) s.0 in
     let u : Meaning = λ row vars. chosen (map (when_value row vars) (listed whens)) (else_value otherwise row vars) in
     let whole : Adds M (L ∷ []) (puts u) w0 w3 =
     adds_same M (L ∷ []) (branched false (listed whens) (puts_else otherwise)) (puts u) w0 w3 (λ row vars os. chosen_moved (map (when_value row vars) (listed whens)) (else_value otherwise row vars) os)
-    (cases_closed columns variables L false (listed whens) otherwise places w0 w1 w2 w3
+    (cases_closed columns variables L false (listed whens) otherwise indexes w0 w1 w2 w3
     (subst (λ ps. WritesWhens columns variables L false (listed whens) ps w0 w1) n (subst (λ i. WritesWhens columns variables i false (listed whens) jumps w0 w1) m x))
     (subst (λ i. WritesElse columns variables i otherwise w1 w2) m z) p (letter_value scale) (and_first tests (results && is_scale scale) s.0) (and_first results (is_scale scale) more)) in
     relabel M L k (puts_value e) w0 (with_scale scale w3) s.1
@@ -258,17 +258,17 @@ operand_moved (Some (Err state)) ws z os = refl
 operand_moved (Some (Ok (Truth t))) ws z os = refl
 operand_moved (Some (Ok (Value d))) ws z os = kept_moved d (chosen (map (equal_to d) ws) z) os
 
-pub compared_written : (columns variables : List Letter) (e a : ResolvedExpr) (whens : Several ResolvedWhen) (otherwise : Option ResolvedExpr) (scale : Option ℕ) (l : Letter) (jumps places : List ℕ) (w0 w1 w2 w3 w4 w5 w6 : Written)
-    (r : Result (Unit {0}) AllocError) → e ≡ exprs.Case (Some a) whens otherwise scale → l ≡ letter_at scale → jumps ≡ places → Writes columns variables a w0 w1 → WritesWhens columns variables l true (listed whens) jumps w1 w2
-    → WritesElse columns variables l otherwise w2 w3 → w4 ≡ record { lines = patched (op.Jump (length w3.lines)) places w3.lines; stack = w3.stack } → w5 ≡ with_op w4 op.DropBelow 2 l
+pub compared_written : (columns variables : List Letter) (e a : ResolvedExpr) (whens : Several ResolvedWhen) (otherwise : Option ResolvedExpr) (scale : Option ℕ) (l : Letter) (jumps indexes : List ℕ) (w0 w1 w2 w3 w4 w5 w6 : Written)
+    (r : Result (Unit {0}) AllocError) → e ≡ exprs.Case (Some a) whens otherwise scale → l ≡ letter_at scale → jumps ≡ indexes → Writes columns variables a w0 w1 → WritesWhens columns variables l true (listed whens) jumps w1 w2
+    → WritesElse columns variables l otherwise w2 w3 → w4 ≡ record { lines = patched (op.Jump (length w3.lines)) indexes w3.lines; stack = w3.stack } → w5 ≡ with_op w4 op.DropBelow 2 l
     → IfOk r (λ _. w6 ≡ with_scale scale w5) → IfOk r (λ _. Writes columns variables e w0 w6)
-compared_written columns variables e a whens otherwise scale l jumps places w0 w1 w2 w3 w4 w5 w6 r q m n g x z p o y = written_ok columns variables e w0 w6 (with_scale scale w5) r y (λ k h.
+compared_written columns variables e a whens otherwise scale l jumps indexes w0 w1 w2 w3 w4 w5 w6 r q m n g x z p o y = written_ok columns variables e w0 w6 (with_scale scale w5) r y (λ k h.
     let M : Op → Letter → Bool = is_of_kind columns variables in
     let L : Letter = letter_at scale in
     let row_types : List (RowType × RowType) = map (when_row_type columns variables) (listed whens) in
     let test : Letter → Bool = λ j. is_of j (row_type_of columns variables a) && list_all (λ w. is_of j w.0) row_types in
     let results : Bool = are_results L row_types (option_map (row_type_of columns variables) otherwise) in
-    let s = told (row_type_of columns variables e) (some_value test && (results && is_scale scale)) L k (ap (row_type_of columns variables) q ∙ row_type-Case columns variables (Some a) whens otherwise scale) h in
+    let s = where_true_inverted (row_type_of columns variables e) (some_value test && (results && is_scale scale)) L k (ap (row_type_of columns variables) q ∙ row_type-Case columns variables (Some a) whens otherwise scale) h in
     let more : (results && is_scale scale) ≡ true = and_second (some_value test) (results && is_scale scale) s.0 in
     let f = value_found test (and_first (some_value test) (results && is_scale scale) s.0) in
     let first : Adds M (f.0 ∷ []) (puts_value a) w0 w1 = g f.0 (and_first (is_of f.0 (row_type_of columns variables a)) (list_all (λ w. is_of f.0 w.0) row_types) f.2) in
@@ -278,7 +278,7 @@ compared_written columns variables e a whens otherwise scale l jumps places w0 w
     let second : Adds M (L ∷ []) over w1 w4 =
     adds_same M (L ∷ []) (branched true (listed whens) (puts_else otherwise)) over w1 w4
     (λ row vars os. chosen_over_moved (when_value row vars whens.first) (map (when_value row vars) whens.rest) (else_value otherwise row vars) os)
-    (cases_closed columns variables L true (listed whens) otherwise places w1 w2 w3 w4
+    (cases_closed columns variables L true (listed whens) otherwise indexes w1 w2 w3 w4
     (subst (λ ps. WritesWhens columns variables L true (listed whens) ps w1 w2) n (subst (λ i. WritesWhens columns variables i true (listed whens) jumps w1 w2) m x))
     (subst (λ i. WritesElse columns variables i otherwise w2 w3) m z) p (letter_value scale) tests (and_first results (is_scale scale) more)) in
     let u : Meaning = λ row vars. cased (Some (row_value row vars a)) (map (when_value row vars) (listed whens)) (else_value otherwise row vars) in

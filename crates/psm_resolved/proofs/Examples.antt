@@ -102,7 +102,7 @@ a_null_operand = refl
 equal_values_are_null : value_layer [] [] (layers.NullIf (num 1 0) (num 10 1)) ≡ null
 equal_values_are_null = refl
 
--- a column and a variable by their places
+-- a column and a variable by their indexes
 a_column : value_layer (data_of.Null ∷ data_of.Text (codes "b") ∷ []) [] (layers.Column 1) ≡ text (codes "b")
 a_column = refl
 

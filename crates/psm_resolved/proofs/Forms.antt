@@ -47,9 +47,9 @@ use Rattle.psm_resolved.proofs.Operations.{move_one, move_two, move_three, move_
 -- ---- sorts
 
 -- what an operation asks of its operands holds where it is of a letter, and that letter is its own
-pub told : (s : RowType) (test : Bool) (l k : Letter) → s ≡ where_true test l → is_of k s ≡ true → (test ≡ true) × (l ≡ k)
-told s true l k e h = (refl, sym (is_letter-same k l (sym (ap (is_of k) e) ∙ h)))
-told s false l k e h = let f : false ≡ true = sym (ap (is_of k) e) ∙ h in absurd (cc)
+pub where_true_inverted : (s : RowType) (test : Bool) (l k : Letter) → s ≡ where_true test l → is_of k s ≡ true → (test ≡ true) × (l ≡ k)
+where_true_inverted s true l k e h = (refl, sym (is_letter-same k l (sym (ap (is_of k) e) ∙ h)))
+where_true_inverted s false l k e h = let f : false ≡ true = sym (ap (is_of k) e) ∙ h in absurd (cc)
 
 pub value_found : (test : Letter → Bool) → some_value test ≡ true → (k : Letter) × (is_value k ≡ true) × (test k ≡ true)
 value_found test h = by (test N) refl h where
@@ -57,10 +57,10 @@ value_found test h = by (test N) refl h where
   by true e g = (N, refl, e)
   by false e g = (T, refl, g)
 
-named_told : (found : Option Letter) (k : Letter) → is_of k (row_type.named found) ≡ true → (is_value k ≡ true) × (is_known k found ≡ true) × (letter_or found ≡ k)
-named_told None k h = absurd (cc)
-named_told (Some l) k h =
-    let s = told (row_type.named (Some l)) (is_value l) l k refl h in
+named_inverted : (found : Option Letter) (k : Letter) → is_of k (row_type.named found) ≡ true → (is_value k ≡ true) × (is_known k found ≡ true) × (letter_or found ≡ k)
+named_inverted None k h = absurd (cc)
+named_inverted (Some l) k h =
+    let s = where_true_inverted (row_type.named (Some l)) (is_value l) l k refl h in
     (sym (ap is_value s.1) ∙ s.0, ap (is_letter k) s.1 ∙ is_letter-self k, s.1)
 
 -- ---- operands that are put, and an operation on them
@@ -131,7 +131,7 @@ written_ok columns variables e old new w (Err x) h a = tt
 pub number_written : (columns variables : List Letter) (e : ResolvedExpr) (n : Num) (w0 w1 : Written) (r : Result (Unit {0}) AllocError) → e ≡ exprs.Number n → IfOk r (λ _. w1 ≡ with_op w0 (op.Constant N (data_of.Num n)) 0 N)
     → IfOk r (λ _. Writes columns variables e w0 w1)
 number_written columns variables e n w0 w1 r q y = written_ok columns variables e w0 w1 (with_op w0 (op.Constant N (data_of.Num n)) 0 N) r y (λ k h.
-    let s = told (row_type_of columns variables e) true N k (ap (row_type_of columns variables) q ∙ row_type-Number columns variables n) h in
+    let s = where_true_inverted (row_type_of columns variables e) true N k (ap (row_type_of columns variables) q ∙ row_type-Number columns variables n) h in
     relabel (is_of_kind columns variables) N k (puts_value e) w0 (with_op w0 (op.Constant N (data_of.Num n)) 0 N) s.1
     (adds_leaf (is_of_kind columns variables) N (op.Constant N (data_of.Num n)) (puts_value e) w0 (record { kind = N; other = N; bounded = refl; is_kind = refl; allowed = refl; takes_is = refl; puts_is = refl; branch_is = refl })
     (λ row vars os. ap (λ x. fall_through (put x os)) (sym (ap (row_value row vars) q ∙ value-Number row vars n)))))
@@ -139,7 +139,7 @@ number_written columns variables e n w0 w1 r q y = written_ok columns variables 
 pub text_written : (columns variables : List Letter) (e : ResolvedExpr) (text : List ℕ) (w0 w1 : Written) (r : Result (Unit {0}) AllocError) → e ≡ exprs.Text text → IfOk r (λ _. w1 ≡ with_op w0 (op.Constant T (data_of.Text text)) 0 T)
     → IfOk r (λ _. Writes columns variables e w0 w1)
 text_written columns variables e text w0 w1 r q y = written_ok columns variables e w0 w1 (with_op w0 (op.Constant T (data_of.Text text)) 0 T) r y (λ k h.
-    let s = told (row_type_of columns variables e) true T k (ap (row_type_of columns variables) q ∙ row_type-Text columns variables text) h in
+    let s = where_true_inverted (row_type_of columns variables e) true T k (ap (row_type_of columns variables) q ∙ row_type-Text columns variables text) h in
     relabel (is_of_kind columns variables) T k (puts_value e) w0 (with_op w0 (op.Constant T (data_of.Text text)) 0 T) s.1
     (adds_leaf (is_of_kind columns variables) T (op.Constant T (data_of.Text text)) (puts_value e) w0 (record { kind = T; other = N; bounded = refl; is_kind = refl; allowed = refl; takes_is = refl; puts_is = refl; branch_is = refl })
     (λ row vars os. ap (λ x. fall_through (put x os)) (sym (ap (row_value row vars) q ∙ value-Text row vars text)))))
@@ -151,7 +151,7 @@ named_fall_through os (Some d) = refl
 pub column_written : (columns variables : List Letter) (e : ResolvedExpr) (i : ℕ) (l : Letter) (w0 w1 : Written) (r : Result (Unit {0}) AllocError) → e ≡ exprs.Column i → l ≡ letter_or (slice_get columns i) → IfOk r (λ _. w1 ≡ with_op w0 (op.Column i) 0 l)
     → IfOk r (λ _. Writes columns variables e w0 w1)
 column_written columns variables e i l w0 w1 r q p y = written_ok columns variables e w0 w1 (with_op w0 (op.Column i) 0 l) r y (λ k h.
-    let s = named_told (slice_get columns i) k (sym (ap (is_of k) (ap (row_type_of columns variables) q ∙ row_type-Column columns variables i)) ∙ h) in
+    let s = named_inverted (slice_get columns i) k (sym (ap (is_of k) (ap (row_type_of columns variables) q ∙ row_type-Column columns variables i)) ∙ h) in
     subst (λ j. Adds (is_of_kind columns variables) (k ∷ []) (puts_value e) w0 (with_op w0 (op.Column i) 0 j)) (sym (p ∙ s.2))
     (adds_leaf (is_of_kind columns variables) k (op.Column i) (puts_value e) w0 (record { kind = k; other = N; bounded = refl; is_kind = s.0; allowed = s.1; takes_is = refl; puts_is = refl; branch_is = refl })
     (λ row vars os. named_fall_through os (slice_get row i) ∙ ap (λ x. fall_through (put x os)) (sym (ap (row_value row vars) q ∙ value-Column row vars i)))))
@@ -159,7 +159,7 @@ column_written columns variables e i l w0 w1 r q p y = written_ok columns variab
 pub variable_written : (columns variables : List Letter) (e : ResolvedExpr) (i : ℕ) (l : Letter) (w0 w1 : Written) (r : Result (Unit {0}) AllocError) → e ≡ exprs.Variable i → l ≡ letter_or (slice_get variables i) → IfOk r (λ _. w1 ≡ with_op w0 (op.Variable i) 0 l)
     → IfOk r (λ _. Writes columns variables e w0 w1)
 variable_written columns variables e i l w0 w1 r q p y = written_ok columns variables e w0 w1 (with_op w0 (op.Variable i) 0 l) r y (λ k h.
-    let s = named_told (slice_get variables i) k (sym (ap (is_of k) (ap (row_type_of columns variables) q ∙ row_type-Variable columns variables i)) ∙ h) in
+    let s = named_inverted (slice_get variables i) k (sym (ap (is_of k) (ap (row_type_of columns variables) q ∙ row_type-Variable columns variables i)) ∙ h) in
     subst (λ j. Adds (is_of_kind columns variables) (k ∷ []) (puts_value e) w0 (with_op w0 (op.Variable i) 0 j)) (sym (p ∙ s.2))
     (adds_leaf (is_of_kind columns variables) k (op.Variable i) (puts_value e) w0 (record { kind = k; other = N; bounded = refl; is_kind = s.0; allowed = s.1; takes_is = refl; puts_is = refl; branch_is = refl })
     (λ row vars os. named_fall_through os (slice_get vars i) ∙ ap (λ x. fall_through (put x os)) (sym (ap (row_value row vars) q ∙ value-Variable row vars i)))))
@@ -169,7 +169,7 @@ variable_written columns variables e i l w0 w1 r q p y = written_ok columns vari
 pub not_written : (columns variables : List Letter) (e a : ResolvedExpr) (w0 w1 w2 : Written) (r : Result (Unit {0}) AllocError) → e ≡ exprs.Not a → Writes columns variables a w0 w1
     → IfOk r (λ _. w2 ≡ with_op w1 op.Not 1 B) → IfOk r (λ _. Writes columns variables e w0 w2)
 not_written columns variables e a w0 w1 w2 r q x y = written_ok columns variables e w0 w2 (with_op w1 op.Not 1 B) r y (λ k h.
-    let s = told (row_type_of columns variables e) (is_of B (row_type_of columns variables a)) B k (ap (row_type_of columns variables) q ∙ row_type-Not columns variables a) h in
+    let s = where_true_inverted (row_type_of columns variables e) (is_of B (row_type_of columns variables a)) B k (ap (row_type_of columns variables) q ∙ row_type-Not columns variables a) h in
     relabel (is_of_kind columns variables) B k (puts_value e) w0 (with_op w1 op.Not 1 B) s.1
     (truth_adds (is_of_kind columns variables) op.Not opposite (λ row vars. row_value row vars a) (λ row vars. row_value row vars e) w0 w1 (not_rule columns variables)
     (λ row vars os. one_truth_fall_through opposite os) (λ row vars. ap (row_value row vars) q ∙ value-Not row vars a) (x B s.0)))
@@ -177,7 +177,7 @@ not_written columns variables e a w0 w1 w2 r q x y = written_ok columns variable
 pub negated_written : (columns variables : List Letter) (e a : ResolvedExpr) (o : Op) (l : Letter) (w0 w1 w2 : Written) (r : Result (Unit {0}) AllocError) → e ≡ exprs.Negated a → o ≡ op.Negate → l ≡ N → Writes columns variables a w0 w1
     → IfOk r (λ _. w2 ≡ with_op w1 o 1 l) → IfOk r (λ _. Writes columns variables e w0 w2)
 negated_written columns variables e a o l w0 w1 w2 r q p m x y = written_ok columns variables e w0 w2 (with_op w1 o 1 l) r y (λ k h.
-    let s = told (row_type_of columns variables e) (is_of N (row_type_of columns variables a)) N k (ap (row_type_of columns variables) q ∙ row_type-Negated columns variables a) h in
+    let s = where_true_inverted (row_type_of columns variables e) (is_of N (row_type_of columns variables a)) N k (ap (row_type_of columns variables) q ∙ row_type-Negated columns variables a) h in
     subst (λ i. Adds (is_of_kind columns variables) (k ∷ []) (puts_value e) w0 (with_op w1 i 1 l)) (sym p) (subst (λ i. Adds (is_of_kind columns variables) (k ∷ []) (puts_value e) w0 (with_op w1 op.Negate 1 i)) (sym m)
     (relabel (is_of_kind columns variables) N k (puts_value e) w0 (with_op w1 op.Negate 1 N) s.1
     (one_adds (is_of_kind columns variables) N N op.Negate (λ a. valued (Ok (negated_of a))) (λ row vars. row_value row vars a) (λ row vars. row_value row vars e) w0 w1 (record { kind = N; other = N; bounded = refl; is_kind = refl; allowed = refl; takes_is = refl; puts_is = refl; branch_is = refl })
@@ -186,7 +186,7 @@ negated_written columns variables e a o l w0 w1 w2 r q p m x y = written_ok colu
 pub trim_written : (columns variables : List Letter) (e a : ResolvedExpr) (side : Side) (o : Op) (l : Letter) (w0 w1 w2 : Written) (r : Result (Unit {0}) AllocError) → e ≡ exprs.Trim side a → o ≡ (op.Trim side) → l ≡ T → Writes columns variables a w0 w1
     → IfOk r (λ _. w2 ≡ with_op w1 o 1 l) → IfOk r (λ _. Writes columns variables e w0 w2)
 trim_written columns variables e a side o l w0 w1 w2 r q p m x y = written_ok columns variables e w0 w2 (with_op w1 o 1 l) r y (λ k h.
-    let s = told (row_type_of columns variables e) (is_of T (row_type_of columns variables a)) T k (ap (row_type_of columns variables) q ∙ row_type-Trim columns variables side a) h in
+    let s = where_true_inverted (row_type_of columns variables e) (is_of T (row_type_of columns variables a)) T k (ap (row_type_of columns variables) q ∙ row_type-Trim columns variables side a) h in
     subst (λ i. Adds (is_of_kind columns variables) (k ∷ []) (puts_value e) w0 (with_op w1 i 1 l)) (sym p) (subst (λ i. Adds (is_of_kind columns variables) (k ∷ []) (puts_value e) w0 (with_op w1 (op.Trim side) 1 i)) (sym m)
     (relabel (is_of_kind columns variables) T k (puts_value e) w0 (with_op w1 (op.Trim side) 1 T) s.1
     (one_adds (is_of_kind columns variables) T T (op.Trim side) (λ a. valued (Ok (on_text (trim_of side) a))) (λ row vars. row_value row vars a) (λ row vars. row_value row vars e) w0 w1 (record { kind = T; other = N; bounded = refl; is_kind = refl; allowed = refl; takes_is = refl; puts_is = refl; branch_is = refl })
@@ -205,7 +205,7 @@ function_fall_through functions.Lower row vars os = one_fall_through (λ d below
 pub function_written : (columns variables : List Letter) (e a : ResolvedExpr) (function : TextFunction) (o : Op) (l : Letter) (w0 w1 w2 : Written) (r : Result (Unit {0}) AllocError) → e ≡ exprs.Function function a → o ≡ (op_of_function function) → l ≡ (row_type.function_of function) → Writes columns variables a w0 w1
     → IfOk r (λ _. w2 ≡ with_op w1 o 1 l) → IfOk r (λ _. Writes columns variables e w0 w2)
 function_written columns variables e a function o l w0 w1 w2 r q p m x y = written_ok columns variables e w0 w2 (with_op w1 o 1 l) r y (λ k h.
-    let s = told (row_type_of columns variables e) (is_of T (row_type_of columns variables a)) (row_type.function_of function) k (ap (row_type_of columns variables) q ∙ row_type-Function columns variables function a) h in
+    let s = where_true_inverted (row_type_of columns variables e) (is_of T (row_type_of columns variables a)) (row_type.function_of function) k (ap (row_type_of columns variables) q ∙ row_type-Function columns variables function a) h in
     subst (λ i. Adds (is_of_kind columns variables) (k ∷ []) (puts_value e) w0 (with_op w1 i 1 l)) (sym p) (subst (λ i. Adds (is_of_kind columns variables) (k ∷ []) (puts_value e) w0 (with_op w1 (op_of_function function) 1 i)) (sym m)
     (relabel (is_of_kind columns variables) (row_type.function_of function) k (puts_value e) w0 (with_op w1 (op_of_function function) 1 (row_type.function_of function)) s.1
     (one_adds (is_of_kind columns variables) T (row_type.function_of function) (op_of_function function) (λ d. valued (Ok (function_of function d))) (λ row vars. row_value row vars a) (λ row vars. row_value row vars e) w0 w1 (function_rule columns variables function)
@@ -216,7 +216,7 @@ pub is_null_written : (columns variables : List Letter) (e a : ResolvedExpr) (ne
 is_null_written columns variables e a negated w0 w1 w2 w3 r q x z y = written_ok columns variables e w0 w3 (with_not negated w2) r y (λ k h.
     let test : Letter → Bool = λ j. is_of j (row_type_of columns variables a) in
     let f : Datum → Outcome = λ d. decided (Ok (truth_of (is_null d))) in
-    let s = told (row_type_of columns variables e) (some_value test) B k (ap (row_type_of columns variables) q ∙ row_type-IsNull columns variables negated a) h in
+    let s = where_true_inverted (row_type_of columns variables e) (some_value test) B k (ap (row_type_of columns variables) q ∙ row_type-IsNull columns variables negated a) h in
     let v = value_found test s.0 in
     relabel (is_of_kind columns variables) B k (puts_value e) w0 (with_not negated w2) s.1
     (not_adds columns variables negated (λ row vars. of_one f (row_value row vars a)) (λ row vars. row_value row vars e) w0 w2 (λ row vars. ap (row_value row vars) q ∙ value-IsNull row vars negated a)
@@ -229,7 +229,7 @@ pub cast_written : (columns variables : List Letter) (e a : ResolvedExpr) (to : 
     → IfOk r (λ _. w2 ≡ with_op w1 (op.Cast to) 1 l) → IfOk r (λ _. Writes columns variables e w0 w2)
 cast_written columns variables e a to w0 w1 w2 l r q x p y = written_ok columns variables e w0 w2 (with_op w1 (op.Cast to) 1 l) r y (λ k h.
     let test : Letter → Bool = λ j. is_of j (given N (row_type_of columns variables a)) in
-    let s = told (row_type_of columns variables e) (some_value test && is_type to) (letter_of to) k (ap (row_type_of columns variables) q ∙ row_type-Cast columns variables a to) h in
+    let s = where_true_inverted (row_type_of columns variables e) (some_value test && is_type to) (letter_of to) k (ap (row_type_of columns variables) q ∙ row_type-Cast columns variables a to) h in
     let v = value_found test (and_first (some_value test) (is_type to) s.0) in
     subst (λ i. Adds (is_of_kind columns variables) (k ∷ []) (puts_value e) w0 (with_op w1 (op.Cast to) 1 i)) (sym p)
     (relabel (is_of_kind columns variables) (letter_of to) k (puts_value e) w0 (with_op w1 (op.Cast to) 1 (letter_of to)) s.1
@@ -273,7 +273,7 @@ compare_written columns variables e a b operator o w0 w1 w2 w3 r q p x z y = wri
     let left : Letter → Bool = λ j. is_of j (row_type_of columns variables a) in
     let right : Letter → Bool = λ j. is_of j (row_type_of columns variables b) in
     let test : Letter → Bool = λ j. left j && right j in
-    let s = told (row_type_of columns variables e) (some_value test) B k (ap (row_type_of columns variables) q ∙ row_type-Compare columns variables operator a b) h in
+    let s = where_true_inverted (row_type_of columns variables e) (some_value test) B k (ap (row_type_of columns variables) q ∙ row_type-Compare columns variables operator a b) h in
     let v = value_found test s.0 in
     subst (λ i. Adds (is_of_kind columns variables) (k ∷ []) (puts_value e) w0 (with_op w2 i 2 B)) (sym p)
     (relabel (is_of_kind columns variables) B k (puts_value e) w0 (with_op w2 (op_of_comparison operator) 2 B) s.1
@@ -284,7 +284,7 @@ compare_written columns variables e a b operator o w0 w1 w2 w3 r q p x z y = wri
 pub position_written : (columns variables : List Letter) (e a b : ResolvedExpr) (w0 w1 w2 w3 : Written) (r : Result (Unit {0}) AllocError) → e ≡ exprs.Position a b → Writes columns variables a w0 w1 → Writes columns variables b w1 w2
     → IfOk r (λ _. w3 ≡ with_op w2 op.Position 2 N) → IfOk r (λ _. Writes columns variables e w0 w3)
 position_written columns variables e a b w0 w1 w2 w3 r q x z y = written_ok columns variables e w0 w3 (with_op w2 op.Position 2 N) r y (λ k h.
-    let s = told (row_type_of columns variables e) (is_of T (row_type_of columns variables a) && is_of T (row_type_of columns variables b)) N k (ap (row_type_of columns variables) q ∙ row_type-Position columns variables a b) h in
+    let s = where_true_inverted (row_type_of columns variables e) (is_of T (row_type_of columns variables a) && is_of T (row_type_of columns variables b)) N k (ap (row_type_of columns variables) q ∙ row_type-Position columns variables a b) h in
     relabel (is_of_kind columns variables) N k (puts_value e) w0 (with_op w2 op.Position 2 N) s.1
     (two_adds (is_of_kind columns variables) T T N op.Position (λ c d. valued (Ok (position_of c d))) (λ row vars. row_value row vars a) (λ row vars. row_value row vars b) (λ row vars. row_value row vars e) w0 w1 w2
     (record { kind = T; other = N; bounded = refl; is_kind = refl; allowed = refl; takes_is = refl; puts_is = refl; branch_is = refl }) (λ row vars os. two_fall_through (λ c d below. with_value below (Ok (position_of c d))) (λ c d. valued (Ok (position_of c d))) (λ c d below. value_fall_through below (Ok (position_of c d))) os) (λ row vars. ap (row_value row vars) q ∙ value-Position row vars a b)
@@ -293,7 +293,7 @@ position_written columns variables e a b w0 w1 w2 w3 r q x z y = written_ok colu
 pub part_written : (columns variables : List Letter) (e a b : ResolvedExpr) (w0 w1 w2 w3 : Written) (r : Result (Unit {0}) AllocError) → e ≡ exprs.Substring a b None → Writes columns variables a w0 w1 → Writes columns variables b w1 w2
     → IfOk r (λ _. w3 ≡ with_op w2 op.SubstringFrom 2 T) → IfOk r (λ _. Writes columns variables e w0 w3)
 part_written columns variables e a b w0 w1 w2 w3 r q x z y = written_ok columns variables e w0 w3 (with_op w2 op.SubstringFrom 2 T) r y (λ k h.
-    let s = told (row_type_of columns variables e) (is_of T (row_type_of columns variables a) && (is_of N (row_type_of columns variables b) && true)) T k (ap (row_type_of columns variables) q ∙ row_type-Substring columns variables a b None) h in
+    let s = where_true_inverted (row_type_of columns variables e) (is_of T (row_type_of columns variables a) && (is_of N (row_type_of columns variables b) && true)) T k (ap (row_type_of columns variables) q ∙ row_type-Substring columns variables a b None) h in
     relabel (is_of_kind columns variables) T k (puts_value e) w0 (with_op w2 op.SubstringFrom 2 T) s.1
     (two_adds (is_of_kind columns variables) T N T op.SubstringFrom (λ c d. valued (part_from c d)) (λ row vars. row_value row vars a) (λ row vars. row_value row vars b) (λ row vars. row_value row vars e) w0 w1 w2
     (record { kind = T; other = N; bounded = refl; is_kind = refl; allowed = refl; takes_is = refl; puts_is = refl; branch_is = refl }) (λ row vars os. two_fall_through (λ c d below. with_value below (part_from c d)) (λ c d. valued (part_from c d)) (λ c d below. value_fall_through below (part_from c d)) os) (λ row vars. ap (row_value row vars) q ∙ value-Substring row vars a b None)
@@ -306,7 +306,7 @@ part_for_written columns variables e a b c w0 w1 w2 w3 w4 r q x z u y = written_
     let tb : Bool = is_of N (row_type_of columns variables b) in
     let tc : Bool = is_of N (row_type_of columns variables c) in
     let f : Datum → Datum → Datum → Outcome = λ d i n. valued (part_of d i n) in
-    let s = told (row_type_of columns variables e) (ta && (tb && tc)) T k (ap (row_type_of columns variables) q ∙ row_type-Substring columns variables a b (Some c)) h in
+    let s = where_true_inverted (row_type_of columns variables e) (ta && (tb && tc)) T k (ap (row_type_of columns variables) q ∙ row_type-Substring columns variables a b (Some c)) h in
     let rest : (tb && tc) ≡ true = and_second ta (tb && tc) s.0 in
     relabel (is_of_kind columns variables) T k (puts_value e) w0 (with_op w3 op.SubstringFromFor 3 T) s.1
     (three_adds (is_of_kind columns variables) T N N T op.SubstringFromFor f (λ row vars. row_value row vars a) (λ row vars. row_value row vars b) (λ row vars. row_value row vars c) (λ row vars. row_value row vars e) w0 w1 w2 w3
@@ -320,7 +320,7 @@ like_written columns variables e a b negated w0 w1 w2 w3 w4 r q x z p y = writte
     let tb : Bool = is_of T (row_type_of columns variables b) in
     let f : Datum → Datum → Outcome = λ d i. decided (like d i) in
     let u : Meaning = λ row vars. of_two f (row_value row vars a) (row_value row vars b) in
-    let s = told (row_type_of columns variables e) (ta && (tb && true)) B k (ap (row_type_of columns variables) q ∙ row_type-Like columns variables negated a b None) h in
+    let s = where_true_inverted (row_type_of columns variables e) (ta && (tb && true)) B k (ap (row_type_of columns variables) q ∙ row_type-Like columns variables negated a b None) h in
     relabel (is_of_kind columns variables) B k (puts_value e) w0 (with_not negated w3) s.1
     (not_adds columns variables negated u (λ row vars. row_value row vars e) w0 w3 (λ row vars. ap (row_value row vars) q ∙ value-Like row vars negated a b None)
     (subst (λ w. Adds (is_of_kind columns variables) (B ∷ []) (puts u) w0 w) (sym p)
@@ -336,7 +336,7 @@ like_escape_written columns variables e a b c negated w0 w1 w2 w3 w4 w5 r q x z 
     let tc : Bool = is_of T (row_type_of columns variables c) in
     let f : Datum → Datum → Datum → Outcome = λ d i j. decided (like_escaped d i j) in
     let u : Meaning = λ row vars. of_three f (row_value row vars a) (row_value row vars b) (row_value row vars c) in
-    let s = told (row_type_of columns variables e) (ta && (tb && tc)) B k (ap (row_type_of columns variables) q ∙ row_type-Like columns variables negated a b (Some c)) h in
+    let s = where_true_inverted (row_type_of columns variables e) (ta && (tb && tc)) B k (ap (row_type_of columns variables) q ∙ row_type-Like columns variables negated a b (Some c)) h in
     let rest : (tb && tc) ≡ true = and_second ta (tb && tc) s.0 in
     relabel (is_of_kind columns variables) B k (puts_value e) w0 (with_not negated w4) s.1
     (not_adds columns variables negated u (λ row vars. row_value row vars e) w0 w4 (λ row vars. ap (row_value row vars) q ∙ value-Like row vars negated a b (Some c))
@@ -354,7 +354,7 @@ between_written columns variables e a b c negated w0 w1 w2 w3 w4 w5 r q x z t p 
     let test : Letter → Bool = λ j. ta j && (tb j && tc j) in
     let f : Datum → Datum → Datum → Outcome = λ d i j. decided (Ok (between d i j)) in
     let u : Meaning = λ row vars. of_three f (row_value row vars a) (row_value row vars b) (row_value row vars c) in
-    let s = told (row_type_of columns variables e) (some_value test) B k (ap (row_type_of columns variables) q ∙ row_type-Between columns variables negated a b c) h in
+    let s = where_true_inverted (row_type_of columns variables e) (some_value test) B k (ap (row_type_of columns variables) q ∙ row_type-Between columns variables negated a b c) h in
     let v = value_found test s.0 in
     let rest : (tb v.0 && tc v.0) ≡ true = and_second (ta v.0) (tb v.0 && tc v.0) v.2 in
     relabel (is_of_kind columns variables) B k (puts_value e) w0 (with_not negated w4) s.1
@@ -368,8 +368,8 @@ between_written columns variables e a b c negated w0 w1 w2 w3 w4 w5 r q x z t p 
 -- ---- NULLIF
 
 -- both operands are of its letter
-null_if_told : (a b s : RowType) (k : Letter) → s ≡ row_type.null_if a b → is_of k s ≡ true → (is_value k ≡ true) × (is_of k a ≡ true) × (is_of k b ≡ true)
-null_if_told a b s k e h = by (is_of N a && is_of N b) refl (sym (ap (is_of k) e) ∙ h) where
+null_if_inverted : (a b s : RowType) (k : Letter) → s ≡ row_type.null_if a b → is_of k s ≡ true → (is_value k ≡ true) × (is_of k a ≡ true) × (is_of k b ≡ true)
+null_if_inverted a b s k e h = by (is_of N a && is_of N b) refl (sym (ap (is_of k) e) ∙ h) where
   number : (is_of N a && is_of N b) ≡ true → N ≡ k → (is_value k ≡ true) × (is_of k a ≡ true) × (is_of k b ≡ true)
   number g n = (sym (ap is_value n), sym (ap (λ j. is_of j a) n) ∙ and_first (is_of N a) (is_of N b) g, sym (ap (λ j. is_of j b) n) ∙ and_second (is_of N a) (is_of N b) g)
 
@@ -378,12 +378,12 @@ null_if_told a b s k e h = by (is_of N a && is_of N b) refl (sym (ap (is_of k) e
 
   by : (c : Bool) → (is_of N a && is_of N b) ≡ c → is_of k (if c then Of N else where_true (is_of T a && is_of T b) T) ≡ true → (is_value k ≡ true) × (is_of k a ≡ true) × (is_of k b ≡ true)
   by true g m = number g (sym (is_letter-same k N m))
-  by false g m = let d = told (where_true (is_of T a && is_of T b) T) (is_of T a && is_of T b) T k refl m in texts d.0 d.1
+  by false g m = let d = where_true_inverted (where_true (is_of T a && is_of T b) T) (is_of T a && is_of T b) T k refl m in texts d.0 d.1
 
 pub null_if_written : (columns variables : List Letter) (e a b : ResolvedExpr) (l : Letter) (w0 w1 w2 w3 : Written) (r : Result (Unit {0}) AllocError) → e ≡ exprs.NullIf a b → Writes columns variables a w0 w1 → l ≡ last_letter w1.stack → Writes columns variables b w1 w2
     → IfOk r (λ _. w3 ≡ with_op w2 op.NullIf 2 l) → IfOk r (λ _. Writes columns variables e w0 w3)
 null_if_written columns variables e a b l w0 w1 w2 w3 r q x p z y = written_ok columns variables e w0 w3 (with_op w2 op.NullIf 2 l) r y (λ k h.
-    let s = null_if_told (row_type_of columns variables a) (row_type_of columns variables b) (row_type_of columns variables e) k (ap (row_type_of columns variables) q ∙ row_type-NullIf columns variables a b) h in
+    let s = null_if_inverted (row_type_of columns variables a) (row_type_of columns variables b) (row_type_of columns variables e) k (ap (row_type_of columns variables) q ∙ row_type-NullIf columns variables a b) h in
     let first = x k s.1 in
     let f : Datum → Datum → Outcome = λ c d. valued (Ok (unless_equal c d)) in
     subst (λ i. Adds (is_of_kind columns variables) (k ∷ []) (puts_value e) w0 (with_op w2 op.NullIf 2 i)) (sym (p ∙ ap last_letter first.letters))

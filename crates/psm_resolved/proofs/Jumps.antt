@@ -1,4 +1,4 @@
--- Lines with jumps whose place isn't known yet: open blocks, which a block after them closes.
+-- Lines with jumps whose target isn't known yet: open blocks, which a block after them closes.
 use Rattle.std.proofs.Common.{◌≡◌, ℕ, suc, ◌+◌, ◌-◌, ◌<◌, ◌≤◌, Bool, true, false, ◌&&◌, List, [], ◌∷◌, ◌++◌, length, nat_eq, nat_lt, refl, ap, sym, subst, ◌∙◌, arith, Some, None, Ok, append_assoc, length-append, eq-eqb, eqb-true}
 use Rattle.std.specs.Prelude.{reverse, slice_get, if◌then◌else◌}
 use Rattle.std.proofs.lemmas.Bool.{ne_eqb, lt-ltb}
@@ -11,10 +11,10 @@ use Rattle.psm_exprcode.specs.declared.op.Op.{Op}
 use Rattle.psm_exprcode.specs.declared.op.Op.TheVariants as op
 use Rattle.psm_exprcode.specs.declared.operand.Operand.{Operand}
 use Rattle.psm_exprcode.specs.declared.operand.Operand.TheVariants.{Value, Truth}
-use Rattle.psm_exprcode.specs.declared.operand.Next.TheVariants.{Ahead, Jump}
+use Rattle.psm_exprcode.specs.declared.operand.Next.TheVariants.{FallThrough, Jump}
 use Rattle.psm_exprcode.specs.Applied.{Went, applied}
 use Rattle.psm_exprcode.specs.Comparison.{is_null}
-use Rattle.psm_exprcode.specs.Evaluated.{Outcome, place_after, goes_on, ran}
+use Rattle.psm_exprcode.specs.Evaluated.{Outcome, line_after, goes_on, ran}
 use Rattle.psm_exprcode.specs.Kinds.{is_value}
 use Rattle.psm_exprcode.specs.WellFormed.{are_stated, lands, is_line, are_lines}
 use Rattle.psm_exprcode.proofs.Standing.{both_true}
@@ -33,13 +33,13 @@ lands_past end [] more s = refl
 lands_past end (l ∷ ls) more s =
     ap (λ b. are_stated end (slice_get (ls ++ more) (length ls)) b s) (eq_suc (length ls) (length (ls ++ more)) (nat_eq (length ls) (length (ls ++ more))) refl) ∙ lands_past end ls more s
 
--- the place that stands n lines after
+-- the index that stands n lines after
 pub lands_at : (end : Letter) (ls more : List Line) (n : ℕ) (s : List Letter) → n ≡ length ls → lands end more 0 s ≡ true → lands end (ls ++ more) n s ≡ true
 lands_at end ls more n s e h = ap (λ i. lands end (ls ++ more) i s) e ∙ lands_past end ls more s ∙ h
 
 passed_one : (row vars : List Datum) (at pc : ℕ) (l : Line) (more : List Line) (os : List Operand) → at < pc → ran row vars at pc (l ∷ more) os ≡ ran row vars (suc at) pc more os
 passed_one row vars at pc l more os h =
-    ap (λ b. if b then goes_on (applied l.op os row vars) (λ next. ran row vars (suc at) (place_after at next) more) else ran row vars (suc at) pc more os) (ne_eqb at pc (λ q. omega (arith, q, h)))
+    ap (λ b. if b then goes_on (applied l.op os row vars) (λ next. ran row vars (suc at) (line_after at next) more) else ran row vars (suc at) pc more os) (ne_eqb at pc (λ q. omega (arith, q, h)))
 
 passed : (row vars : List Datum) (at pc : ℕ) (ls more : List Line) (os : List Operand) → pc ≡ at + length ls → ran row vars at pc (ls ++ more) os ≡ ran row vars pc pc more os
 passed row vars at pc [] more os h = let e : at ≡ pc = omega (arith, h) in ap (λ i. ran row vars i pc more os) e
@@ -67,16 +67,16 @@ branch_rule may o p m q = subst (λ i. Rule may i [] None (Some (p, []))) (sym q
 branch_ran : (row vars : List Datum) (p3 p4 e : ℕ) (l : Line) (rest more : List Line) (os : List Operand) → l.op ≡ op.Jump e → p4 ≡ suc p3 → e ≡ p4 + length rest
     → ran row vars p3 p3 (l ∷ (rest ++ more)) os ≡ ran row vars e e more os
 branch_ran row vars p3 p4 e l rest more os q n h =
-    ran_here row vars p3 l (rest ++ more) os ∙ ap (λ o. goes_on (applied o os row vars) (λ next. ran row vars (suc p3) (place_after p3 next) (rest ++ more))) q
+    ran_here row vars p3 l (rest ++ more) os ∙ ap (λ o. goes_on (applied o os row vars) (λ next. ran row vars (suc p3) (line_after p3 next) (rest ++ more))) q
     ∙ passed row vars (suc p3) e rest more os (h ∙ ap (λ i. i + length rest) n)
 
 forked_ran : (row vars : List Datum) (p1 p4 : ℕ) (l : Line) (more : List Line) (os : List Operand) (found unless : List Operand → Outcome) (v h : List Operand → Moved) (end : List Operand → Outcome)
     → ((us : List Operand) → ran row vars (suc p1) (suc p1) more us ≡ after (v us) end) → ((us : List Operand) → ran row vars (suc p1) p4 more us ≡ after (h us) end)
-    → goes_on (applied (op.JumpUnlessTrue p4) os row vars) (λ next. ran row vars (suc p1) (place_after p1 next) more) ≡ after (branch_move v h os) end
+    → goes_on (applied (op.JumpUnlessTrue p4) os row vars) (λ next. ran row vars (suc p1) (line_after p1 next) more) ≡ after (branch_move v h os) end
 forked_ran row vars p1 p4 l more [] found unless v h end y n = refl
 forked_ran row vars p1 p4 l more (Value a ∷ os) found unless v h end y n = refl
 forked_ran row vars p1 p4 l more (Truth t ∷ os) found unless v h end y n = by (is_certain t) where
-  by : (b : Bool) → goes_on (if b then Went Ahead os else Went (Jump p4) os) (λ next. ran row vars (suc p1) (place_after p1 next) more) ≡ after (if b then v os else h os) end
+  by : (b : Bool) → goes_on (if b then Went FallThrough os else Went (Jump p4) os) (λ next. ran row vars (suc p1) (line_after p1 next) more) ≡ after (if b then v os else h os) end
   by true = y os
   by false = n os
 
@@ -113,7 +113,7 @@ fork_block may s t p1 p2 p3 p4 e unless branching found rest v h m1 m2 f =
           both_true (is_line may end p1 unless ((found ++ branching ∷ rest) ++ more)) (are_lines may end (suc p1) ((found ++ branching ∷ rest) ++ more)) one
           (ap (are_lines may end (suc p1)) (assoc more) ∙ ap (λ i. are_lines may end i (found ++ (branching ∷ (rest ++ more)))) (sym f.first) ∙ result);
       runs = λ row vars more os.
-          ran_here row vars p1 unless ((found ++ branching ∷ rest) ++ more) os ∙ ap (λ o. goes_on (applied o os row vars) (λ next. ran row vars (suc p1) (place_after p1 next) ((found ++ branching ∷ rest) ++ more))) f.no_op
+          ran_here row vars p1 unless ((found ++ branching ∷ rest) ++ more) os ∙ ap (λ o. goes_on (applied o os row vars) (λ next. ran row vars (suc p1) (line_after p1 next) ((found ++ branching ∷ rest) ++ more))) f.no_op
           ∙ forked_ran row vars p1 p4 unless ((found ++ branching ∷ rest) ++ more) os (λ us. None) (λ us. None) (v row vars) (h row vars) (ran row vars e e more)
           (λ us. ap (λ x. ran row vars (suc p1) (suc p1) x us) (assoc more) ∙ ap (λ i. ran row vars i i (found ++ (branching ∷ (rest ++ more))) us) (sym f.first)
           ∙ f.result.runs row vars (branching ∷ (rest ++ more)) us
@@ -129,11 +129,11 @@ set_move h (Truth t ∷ os) = None
 set_move h (Value a ∷ os) = if is_null a then h os else Some (Ok (Value a ∷ os))
 
 set_ran : (row vars : List Datum) (p e : ℕ) (more : List Line) (os : List Operand) (h : List Operand → Moved) (end : List Operand → Outcome) → ((us : List Operand) → ran row vars (suc p) (suc p) more us ≡ after (h us) end)
-    → ((us : List Operand) → ran row vars (suc p) e more us ≡ end us) → goes_on (applied (op.JumpUnlessNull e) os row vars) (λ next. ran row vars (suc p) (place_after p next) more) ≡ after (set_move h os) end
+    → ((us : List Operand) → ran row vars (suc p) e more us ≡ end us) → goes_on (applied (op.JumpUnlessNull e) os row vars) (λ next. ran row vars (suc p) (line_after p next) more) ≡ after (set_move h os) end
 set_ran row vars p e more [] h end y n = refl
 set_ran row vars p e more (Truth t ∷ os) h end y n = refl
 set_ran row vars p e more (Value a ∷ os) h end y n = by (is_null a) where
-  by : (b : Bool) → goes_on (if b then Went Ahead os else Went (Jump e) (Value a ∷ os)) (λ next. ran row vars (suc p) (place_after p next) more) ≡ after (if b then h os else Some (Ok (Value a ∷ os))) end
+  by : (b : Bool) → goes_on (if b then Went FallThrough os else Went (Jump e) (Value a ∷ os)) (λ next. ran row vars (suc p) (line_after p next) more) ≡ after (if b then h os else Some (Ok (Value a ∷ os))) end
   by true = y os
   by false = n (Value a ∷ os)
 
@@ -153,7 +153,7 @@ set_block may k s p next e l rest h v m n st q b =
           (both_true (nat_lt p e) (lands end (rest ++ more) (e - suc p) (k ∷ s)) far (lands_at end rest more (e - suc p) (k ∷ s) (omega (arith, size, n)) g)))
           (ap (λ j. are_lines may end j (rest ++ more)) (sym n) ∙ b.right end more g i);
       runs = λ row vars more os.
-          ran_here row vars p l (rest ++ more) os ∙ ap (λ o. goes_on (applied o os row vars) (λ j. ran row vars (suc p) (place_after p j) (rest ++ more))) q
+          ran_here row vars p l (rest ++ more) os ∙ ap (λ o. goes_on (applied o os row vars) (λ j. ran row vars (suc p) (line_after p j) (rest ++ more))) q
           ∙ set_ran row vars p e (rest ++ more) os (h row vars) (ran row vars e e more)
           (λ us. ap (λ j. ran row vars j j (rest ++ more) us) (sym n) ∙ b.runs row vars more us)
           (λ us. passed row vars (suc p) e rest more us (size ∙ ap (λ j. j + length rest) n));

@@ -8,9 +8,9 @@ use Rattle.psm_exprcode.specs.declared.op.Line.{Line}
 use Rattle.psm_exprcode.specs.declared.op.Op.{Op}
 use Rattle.psm_exprcode.specs.declared.operand.Operand.{Operand}
 use Rattle.psm_exprcode.specs.declared.operand.Next.{Next}
-use Rattle.psm_exprcode.specs.declared.operand.Next.TheVariants.{Ahead}
+use Rattle.psm_exprcode.specs.declared.operand.Next.TheVariants.{FallThrough}
 use Rattle.psm_exprcode.specs.Applied.{Applied, Went, Raised, Stuck, applied}
-use Rattle.psm_exprcode.specs.Evaluated.{Outcome, place_after, goes_on, ran}
+use Rattle.psm_exprcode.specs.Evaluated.{Outcome, line_after, goes_on, ran}
 use Rattle.psm_exprcode.specs.Kinds.{is_letter, is_value, some_value, some_letter}
 use Rattle.psm_exprcode.specs.Operations.{Effect, effect}
 use Rattle.psm_exprcode.specs.WellFormed.{same_stack, left_of, is_bounded, lands, falls_through, branches, goes_on_with, leads, is_line, are_lines}
@@ -25,7 +25,7 @@ use Rattle.psm_resolved.specs.Open.{then_move}
 abbrev pub fall_through : Moved → Applied
 fall_through None = Stuck
 fall_through (Some (Err state)) = Raised state
-fall_through (Some (Ok os)) = Went Ahead os
+fall_through (Some (Ok os)) = Went FallThrough os
 
 pub after_same : (m : Moved) (p q : List Operand → Outcome) → ((os : List Operand) → p os ≡ q os) → after m p ≡ after m q
 after_same None p q h = refl
@@ -37,7 +37,7 @@ after_then None g q = refl
 after_then (Some (Err state)) g q = refl
 after_then (Some (Ok os)) g q = refl
 
-goes_fall_through_after : (m : Moved) (go : Next → List Operand → Outcome) → goes_on (fall_through m) go ≡ after m (go Ahead)
+goes_fall_through_after : (m : Moved) (go : Next → List Operand → Outcome) → goes_on (fall_through m) go ≡ after m (go FallThrough)
 goes_fall_through_after None go = refl
 goes_fall_through_after (Some (Err state)) go = refl
 goes_fall_through_after (Some (Ok os)) go = refl
@@ -99,9 +99,9 @@ line_right may end pc l more takes rest puts branching r e h g =
     (value_some for_kind r.kind r.is_kind (both_true (may l.op r.kind) (some_letter (ways r.kind)) r.allowed (letter_some (ways r.kind) r.other way)))
 
 pub ran_here : (row vars : List Datum) (pc : ℕ) (l : Line) (more : List Line) (os : List Operand)
-    → ran row vars pc pc (l ∷ more) os ≡ goes_on (applied l.op os row vars) (λ next. ran row vars (suc pc) (place_after pc next) more)
+    → ran row vars pc pc (l ∷ more) os ≡ goes_on (applied l.op os row vars) (λ next. ran row vars (suc pc) (line_after pc next) more)
 ran_here row vars pc l more os =
-    ap (λ b. if b then goes_on (applied l.op os row vars) (λ next. ran row vars (suc pc) (place_after pc next) more) else ran row vars (suc pc) pc more os) (eq-eqb pc pc refl)
+    ap (λ b. if b then goes_on (applied l.op os row vars) (λ next. ran row vars (suc pc) (line_after pc next) more) else ran row vars (suc pc) pc more os) (eq-eqb pc pc refl)
 
 -- an operation that never jumps
 pub line_block : (may : Op → Letter → Bool) (s takes puts rest : List Letter) (pc next : ℕ) (l : Line) (move : Move) → Rule may l.op takes (Some puts) None → reverse l.stack ≡ s → s ≡ takes ++ rest → next ≡ suc pc
@@ -111,8 +111,8 @@ line_block may s takes puts rest pc next l move r e f n h =
       size = omega arith;
       begins = λ end more g. stated_here end l more s e;
       right = λ end more g k. both_true (is_line may end pc l more) (are_lines may end (suc pc) more) (line_right may end pc l more takes rest (Some puts) None r (e ∙ f) g refl) k;
-      runs = λ row vars more os. ran_here row vars pc l more os ∙ ap (λ a. goes_on a (λ i. ran row vars (suc pc) (place_after pc i) more)) (h row vars os)
-          ∙ goes_fall_through_after (move row vars os) (λ i. ran row vars (suc pc) (place_after pc i) more);
+      runs = λ row vars more os. ran_here row vars pc l more os ∙ ap (λ a. goes_on a (λ i. ran row vars (suc pc) (line_after pc i) more)) (h row vars os)
+          ∙ goes_fall_through_after (move row vars os) (λ i. ran row vars (suc pc) (line_after pc i) more);
     })
 
 -- ---- blocks

@@ -32,7 +32,7 @@ use Rattle.psm_resolved.specs.RowValue.{listed, tested, row_value}
 use Rattle.psm_resolved.specs.RowType.{is_of, row_type_of}
 use Rattle.psm_resolved.specs.Written.{Written, with_op, with_not, Adds, puts_value, puts_all, Writes, WritesAll}
 use Rattle.psm_resolved.proofs.Equations.{value-In, row_type-In}
-use Rattle.psm_resolved.proofs.Forms.{Meaning, puts, told, value_found, relabel, not_adds, written_ok}
+use Rattle.psm_resolved.proofs.Forms.{Meaning, puts, where_true_inverted, value_found, relabel, not_adds, written_ok}
 use Rattle.psm_resolved.proofs.Lines.{fall_through, Rule}
 use Rattle.psm_resolved.proofs.Operations.{adds_same, adds_more, adds_op}
 use Rattle.psm_resolved.proofs.Several.{all_one_more}
@@ -273,7 +273,7 @@ in_written columns variables e a list negated n m w0 w1 w2 w3 w4 r q x z c d p y
     let tb : Letter → Bool = λ j. list_all (is_of j) (map (row_type_of columns variables) (listed list)) in
     let test : Letter → Bool = λ j. ta j && tb j in
     let u : Meaning = λ row vars. of_others (λ i ds. decided (Ok (among i ds))) (row_value row vars a) (map (row_value row vars) (listed list)) in
-    let s = told (row_type_of columns variables e) (some_value test) B k (ap (row_type_of columns variables) q ∙ row_type-In columns variables negated a list) h in
+    let s = where_true_inverted (row_type_of columns variables e) (some_value test) B k (ap (row_type_of columns variables) q ∙ row_type-In columns variables negated a list) h in
     let v = value_found test s.0 in
     let here : w3 ≡ with_op w2 (op.In l) (suc l) B = p ∙ ap (λ i. with_op w2 (op.In n) i B) d ∙ ap (λ i. with_op w2 (op.In i) (suc i) B) c in
     let rule : Rule M (op.In l) (replicate l v.0 ++ v.0 ∷ []) (Some (B ∷ [])) None =

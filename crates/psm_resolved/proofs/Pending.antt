@@ -1,4 +1,4 @@
--- Lines that are written with jumps whose place is filled in later.
+-- Lines that are written with jumps whose target is filled in later.
 use Rattle.std.proofs.Common.{◌≡◌, ℕ, ◌+◌, ◌<◌, ◌≤◌, Bool, List, [], ◌∷◌, ◌++◌, length, refl, ap, sym, subst, ◌∙◌, append_assoc, length-append}
 use Rattle.std.proofs.lemmas.List.{append-nil}
 use Rattle.psm_exprcode.specs.declared.op.Letter.{Letter}
@@ -56,13 +56,13 @@ pends_more may t jump f g ps qs old between new a b =
     }
 
 -- a block after them closes them
-pub pends_closed : (may : Op → Letter → Bool) (ks : List Letter) (jump : ℕ → Op) (g : Move → Move) (h : Move) (places : List ℕ) (old between new last : Written) → Pends may (ks ++ old.stack) jump g places old between
-    → Adds may ks h between new → last ≡ record { lines = patched (jump (length new.lines)) places new.lines; stack = new.stack } → Adds may ks (g h) old last
-pends_closed may ks jump g h places old between new last a b q =
+pub pends_closed : (may : Op → Letter → Bool) (ks : List Letter) (jump : ℕ → Op) (g : Move → Move) (h : Move) (indexes : List ℕ) (old between new last : Written) → Pends may (ks ++ old.stack) jump g indexes old between
+    → Adds may ks h between new → last ≡ record { lines = patched (jump (length new.lines)) indexes new.lines; stack = new.stack } → Adds may ks (g h) old last
+pends_closed may ks jump g h indexes old between new last a b q =
     let e : ℕ = length new.lines in
     let whole : new.lines ≡ old.lines ++ (a.lines ++ b.lines) = b.added ∙ ap (λ k. k ++ b.lines) a.added ∙ append_assoc old.lines a.lines b.lines in
-    let filled : patched (jump e) places new.lines ≡ old.lines ++ (a.filled e ++ b.lines) = ap (patched (jump e) places) whole ∙ a.fills e old.lines b.lines refl in
-    let counted : length (patched (jump e) places new.lines) ≡ e =
+    let filled : patched (jump e) indexes new.lines ≡ old.lines ++ (a.filled e ++ b.lines) = ap (patched (jump e) indexes) whole ∙ a.fills e old.lines b.lines refl in
+    let counted : length (patched (jump e) indexes new.lines) ≡ e =
     ap length filled ∙ length-append old.lines (a.filled e ++ b.lines) ∙ ap (λ n. length old.lines + n) (length-append (a.filled e) b.lines ∙ ap (λ n. n + length b.lines) (a.as_many e) ∙ sym (length-append a.lines b.lines))
     ∙ sym (length-append old.lines (a.lines ++ b.lines)) ∙ sym (ap length whole) in
     let S : List Letter → Type 0 = λ s. Block may s (ks ++ s) (length between.lines) e b.lines h in

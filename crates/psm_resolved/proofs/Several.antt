@@ -34,7 +34,7 @@ use Rattle.psm_resolved.specs.RowType as row_type
 use Rattle.psm_resolved.specs.RowType.{RowType, Wrong, Untyped, Of, is_of, typed, where_true, row_type_of, chain_link_row_type}
 use Rattle.psm_resolved.specs.Written.{Written, with_op, op_of_logical_operator, op_of_operator, letter_of_operator, Adds, puts_value, Writes, Extends}
 use Rattle.psm_resolved.proofs.Equations.{value-LogicalOperator, value-OperatorChain, value_of_chain_link, row_type-LogicalOperator, row_type-OperatorChain, row_type_of_chain_link}
-use Rattle.psm_resolved.proofs.Forms.{Meaning, puts, told, relabel, two_adds}
+use Rattle.psm_resolved.proofs.Forms.{Meaning, puts, where_true_inverted, relabel, two_adds}
 use Rattle.psm_resolved.proofs.Lines.{fall_through, Rule}
 use Rattle.psm_resolved.proofs.Operations.{move_two, move_truths, value_fall_through, two_fall_through, two_truths_fall_through, truths_moved, adds_same, adds_more, adds_op}
 
@@ -82,7 +82,7 @@ pub logical_operator_first : (columns variables : List Letter) (j : LogicalOpera
 logical_operator_first columns variables j a none w0 w1 q x = subst (λ xs. Writes columns variables (exprs.LogicalOperator j (record { first = a; rest = xs })) w0 w1) (sym q) (λ k h.
     let e : ResolvedExpr = exprs.LogicalOperator j (record { first = a; rest = [] }) in
     let test : Bool = is_of B (row_type_of columns variables a) && true in
-    let s = told (row_type_of columns variables e) test B k (row_type-LogicalOperator columns variables j (record { first = a; rest = [] })) h in
+    let s = where_true_inverted (row_type_of columns variables e) test B k (row_type-LogicalOperator columns variables j (record { first = a; rest = [] })) h in
     relabel (is_of_kind columns variables) B k (puts_value e) w0 w1 s.1
     (adds_same (is_of_kind columns variables) (B ∷ []) (puts_value a) (puts_value e) w0 w1 (λ row vars os. ap (λ v. put v os) (sym (value-LogicalOperator row vars j (record { first = a; rest = [] }))))
     (x B (and_first (is_of B (row_type_of columns variables a)) true s.0))))
@@ -95,7 +95,7 @@ logical_operator_next columns variables j a b xs ys o w0 w1 w2 w3 q p x z y =
     let f : ResolvedExpr → RowType = row_type_of columns variables in
     let before : ResolvedExpr = exprs.LogicalOperator j (record { first = a; rest = xs }) in
     let e : ResolvedExpr = exprs.LogicalOperator j (record { first = a; rest = xs ++ b ∷ [] }) in
-    let s = told (f e) (is_of B (f a) && list_all (is_of B) (map f (xs ++ b ∷ []))) B k (row_type-LogicalOperator columns variables j (record { first = a; rest = xs ++ b ∷ [] })) h in
+    let s = where_true_inverted (f e) (is_of B (f a) && list_all (is_of B) (map f (xs ++ b ∷ []))) B k (row_type-LogicalOperator columns variables j (record { first = a; rest = xs ++ b ∷ [] })) h in
     let parts = all_one_more (is_of B) f xs b (and_second (is_of B (f a)) (list_all (is_of B) (map f (xs ++ b ∷ []))) s.0) in
     let all : (is_of B (f a) && list_all (is_of B) (map f xs)) ≡ true =
     both_true (is_of B (f a)) (list_all (is_of B) (map f xs)) (and_first (is_of B (f a)) (list_all (is_of B) (map f (xs ++ b ∷ []))) s.0) parts.0 in
@@ -127,24 +127,24 @@ Operands o s t k = (is_of (letter_of_operator o) s ≡ true) × (is_of (letter_o
 
 operands_by : (s t : RowType) (l k : Letter) → is_of k (where_true (is_of l s && is_of l t) l) ≡ true → (is_of l s ≡ true) × (is_of l t ≡ true) × (l ≡ k)
 operands_by s t l k h =
-    let d = told (where_true (is_of l s && is_of l t) l) (is_of l s && is_of l t) l k refl h in (and_first (is_of l s) (is_of l t) d.0, and_second (is_of l s) (is_of l t) d.0, d.1)
+    let d = where_true_inverted (where_true (is_of l s && is_of l t) l) (is_of l s && is_of l t) l k refl h in (and_first (is_of l s) (is_of l t) d.0, and_second (is_of l s) (is_of l t) d.0, d.1)
 
-operands_told : (o : Operator) (s t : RowType) (k : Letter) → is_of k (row_type.operated o s t) ≡ true → Operands o s t k
-operands_told operators.Add s t k h = operands_by s t N k h
-operands_told operators.Subtract s t k h = operands_by s t N k h
-operands_told operators.Concatenate s t k h = operands_by s t T k h
-operands_told operators.Multiply s t k h = operands_by s t N k h
-operands_told operators.Divide s t k h = operands_by s t N k h
+operands_inverted : (o : Operator) (s t : RowType) (k : Letter) → is_of k (row_type.operated o s t) ≡ true → Operands o s t k
+operands_inverted operators.Add s t k h = operands_by s t N k h
+operands_inverted operators.Subtract s t k h = operands_by s t N k h
+operands_inverted operators.Concatenate s t k h = operands_by s t T k h
+operands_inverted operators.Multiply s t k h = operands_by s t N k h
+operands_inverted operators.Divide s t k h = operands_by s t N k h
 
-typed_told : (s : RowType) (k : Letter) → is_of k (typed s) ≡ true → is_of k s ≡ true
-typed_told Wrong k h = h
-typed_told Untyped k h = h
-typed_told (Of l) k h = h
+typed_inverted : (s : RowType) (k : Letter) → is_of k (typed s) ≡ true → is_of k s ≡ true
+typed_inverted Wrong k h = h
+typed_inverted Untyped k h = h
+typed_inverted (Of l) k h = h
 
 pub operator_chain_first : (columns variables : List Letter) (a : ResolvedExpr) (w0 w1 : Written) → Writes columns variables a w0 w1 → Writes columns variables (exprs.OperatorChain a []) w0 w1
 operator_chain_first columns variables a w0 w1 x = λ k h.
     adds_same (is_of_kind columns variables) (k ∷ []) (puts_value a) (puts_value (exprs.OperatorChain a [])) w0 w1 (λ row vars os. ap (λ v. put v os) (sym (value-OperatorChain row vars a [])))
-    (x k (typed_told (row_type_of columns variables a) k (sym (ap (is_of k) (row_type-OperatorChain columns variables a [])) ∙ h)))
+    (x k (typed_inverted (row_type_of columns variables a) k (sym (ap (is_of k) (row_type-OperatorChain columns variables a [])) ∙ h)))
 
 operator_chain_next : (columns variables : List Letter) (a : ResolvedExpr) (b : ResolvedOperation) (xs : List ResolvedOperation) (w0 w1 w2 : Written) → Writes columns variables (exprs.OperatorChain a xs) w0 w1
     → Writes columns variables (out-ResolvedOperation b).operand w1 w2
@@ -157,7 +157,7 @@ operator_chain_next columns variables a b xs w0 w1 w2 x z = λ k h.
     let row_types : row_type_of columns variables e ≡ row_type.operated o before (row_type_of columns variables c) =
     row_type-OperatorChain columns variables a (xs ++ b ∷ []) ∙ row_types_one_more (typed (row_type_of columns variables a)) (chain_link_row_type columns variables) xs b
     ∙ ap (λ p. row_type.operated p.0 before p.1) (row_type_of_chain_link columns variables b) in
-    let s = operands_told o before (row_type_of columns variables c) k (sym (ap (is_of k) row_types) ∙ h) in
+    let s = operands_inverted o before (row_type_of columns variables c) k (sym (ap (is_of k) row_types) ∙ h) in
     relabel (is_of_kind columns variables) (letter_of_operator o) k (puts_value e) w0 (with_op w2 (op_of_operator o) 2 (letter_of_operator o)) s.2
     (two_adds (is_of_kind columns variables) (letter_of_operator o) (letter_of_operator o) (letter_of_operator o) (op_of_operator o) (λ y w. valued (values.operated o y w))
     (λ row vars. row_value row vars (exprs.OperatorChain a xs)) (λ row vars. row_value row vars c) (λ row vars. row_value row vars e) w0 w1 w2 (operator_rule columns variables o) (λ row vars os. operator_fall_through o row vars os)
@@ -198,8 +198,8 @@ extends_end columns variables xs ys w0 w1 q x = subst (λ us. Extends columns va
 
 -- ---- what is seen of an item and others
 
-pub first_told : {A : Type 0} {s t : Several A} {a : A} → s ≡ t → a ≡ s.first → a ≡ t.first
-first_told {A} {s} {t} {a} p q = let f : Several A → A = λ u. u.first in q ∙ ap f p
+pub first_same : {A : Type 0} {s t : Several A} {a : A} → s ≡ t → a ≡ s.first → a ≡ t.first
+first_same {A} {s} {t} {a} p q = let f : Several A → A = λ u. u.first in q ∙ ap f p
 
-pub rest_told : {A : Type 0} {s t : Several A} {xs : List A} → s ≡ t → xs ≡ s.rest → xs ≡ t.rest
-rest_told {A} {s} {t} {xs} p q = let f : Several A → List A = λ u. u.rest in q ∙ ap f p
+pub rest_same : {A : Type 0} {s t : Several A} {xs : List A} → s ≡ t → xs ≡ s.rest → xs ≡ t.rest
+rest_same {A} {s} {t} {xs} p q = let f : Several A → List A = λ u. u.rest in q ∙ ap f p

@@ -27,7 +27,7 @@ use Rattle.psm_resolved.specs.RowType as row_types
 use Rattle.psm_resolved.specs.RowType.{RowType, Wrong, Untyped, Of, is_of, given, typed, where_true, row_type_layer, row_type_of, chain_link_row_type, when_row_type}
 use Rattle.psm_resolved.specs.Written.{Written, with_op, puts_value, Writes, WritesSource, Extends}
 use Rattle.psm_resolved.proofs.Equations.{value-Null, row_type-Null, row_type-Call, row_type-Scalar, row_type-Exists}
-use Rattle.psm_resolved.proofs.Forms.{told, relabel}
+use Rattle.psm_resolved.proofs.Forms.{where_true_inverted, relabel}
 use Rattle.psm_resolved.proofs.Several.{operator_chain_first}
 use Rattle.psm_resolved.proofs.Lines.{fall_through}
 use Rattle.psm_resolved.proofs.Operations.{adds_leaf}
@@ -96,14 +96,14 @@ unfolding roll-ResolvedExpr Carrier.roll
 only_null columns variables e h =
     sym (roll-out-ResolvedExpr e) ∙ ap roll-ResolvedExpr (null_layer columns variables (out-ResolvedExpr e) (sym (fold_out-ResolvedExpr RowType (Unit {0}) (Unit {0}) (Operator × RowType) (Unit {0}) (RowType × RowType) (row_type_layer columns variables) row_types.items_none row_types.item_none row_types.chain_link_layer row_types.query_none row_types.when_layer e) ∙ h))
 
-given_told : (s : RowType) (w k : Letter) → (s ≡ Untyped → ⊥) → is_of k (given w s) ≡ true → is_of k s ≡ true
-given_told Wrong w k n h = h
-given_told Untyped w k n h = absurd (n refl)
-given_told (Of l) w k n h = h
+given_inverted : (s : RowType) (w k : Letter) → (s ≡ Untyped → ⊥) → is_of k (given w s) ≡ true → is_of k s ≡ true
+given_inverted Wrong w k n h = h
+given_inverted Untyped w k n h = absurd (n refl)
+given_inverted (Of l) w k n h = h
 
 pub source_written : (columns variables : List Letter) (e : ResolvedExpr) (l : Letter) (w0 w1 : Written) (r : Result (Unit {0}) AllocError) → (e ≡ exprs.Null → ⊥) → IfOk r (λ _. Writes columns variables e w0 w1)
     → IfOk r (λ _. WritesSource columns variables l e w0 w1)
-source_written columns variables e l w0 w1 (Ok x) n a = λ k h. a k (given_told (row_type_of columns variables e) l k (λ q. n (only_null columns variables e q)) h)
+source_written columns variables e l w0 w1 (Ok x) n a = λ k h. a k (given_inverted (row_type_of columns variables e) l k (λ q. n (only_null columns variables e q)) h)
 source_written columns variables e l w0 w1 (Err x) n a = tt
 
 null_bounded : (l : Letter) → is_value l ≡ true → is_bounded (op.Constant l data_of.Null) ≡ true
@@ -113,7 +113,7 @@ null_bounded B h = absurd (cc)
 
 null_source : (columns variables : List Letter) (e : ResolvedExpr) (l : Letter) (w0 : Written) → e ≡ exprs.Null → WritesSource columns variables l e w0 (with_op w0 (op.Constant l data_of.Null) 0 l)
 null_source columns variables e l w0 q = λ k h.
-    let s = told (given l (row_type_of columns variables e)) (is_value l) l k (ap (λ x. given l (row_type_of columns variables x)) q ∙ ap (given l) (row_type-Null columns variables)) h in
+    let s = where_true_inverted (given l (row_type_of columns variables e)) (is_value l) l k (ap (λ x. given l (row_type_of columns variables x)) q ∙ ap (given l) (row_type-Null columns variables)) h in
     relabel (is_of_kind columns variables) l k (puts_value e) w0 (with_op w0 (op.Constant l data_of.Null) 0 l) s.1
     (adds_leaf (is_of_kind columns variables) l (op.Constant l data_of.Null) (puts_value e) w0
     (record { kind = N; other = N; bounded = null_bounded l s.0; is_kind = refl; allowed = refl; takes_is = refl; puts_is = refl; branch_is = refl })

@@ -36,7 +36,7 @@ after None go = None
 after (Some (Err state)) go = Some (Err state)
 after (Some (Ok os)) go = go os
 
--- The lines of a block at a place, up to the next place. A test says which letter a variable or a column may have.
+-- The lines of a block at an index, up to the next index. A test says which letter a variable or a column may have.
 pub record Block (may : Op → Letter → Bool) (s t : List Letter) (pc next : ℕ) (lines : List Line) (move : Move) : Type 0 where
   pub size : next ≡ pc + length lines
   pub begins : (end : Letter) (more : List Line) → lands end more 0 t ≡ true → lands end (lines ++ more) 0 s ≡ true

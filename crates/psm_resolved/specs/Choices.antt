@@ -43,7 +43,7 @@ WritesTest columns variables is_compared e old new =
 
 -- ---- WHENs
 
--- the lines of a WHEN: its test, at the place unless a jump over its result, and the result
+-- the lines of a WHEN: its test, at the index unless a jump over its result, and the result
 pub record Branch (columns variables : List Letter) (letter : Letter) (is_compared : Bool) (when : ResolvedWhen) (unless : ℕ) (old new : Written) : Type 0 where
   pub tested : Written
   pub passed : Written
@@ -59,11 +59,11 @@ chosen_move is_compared (w ∷ ws) m = λ os. then_move (test_move is_compared w
 abbrev pub branched : Bool → List ResolvedWhen → Move → Move
 branched is_compared whens h row vars os = chosen_move is_compared (map (when_value row vars) whens) (h row vars) os
 
--- the lines of WHENs, with jumps to the end at those places
+-- the lines of WHENs, with jumps to the end at those indexes
 abbrev pub WritesWhens : List Letter → List Letter → Letter → Bool → List ResolvedWhen → List ℕ → Written → Written → Type 0
-WritesWhens columns variables letter is_compared whens places old new =
+WritesWhens columns variables letter is_compared whens indexes old new =
     list_all (λ s. fits_test is_compared old.stack s.0) (map (when_row_type columns variables) whens) ≡ true → list_all (λ s. goes_as letter s.1) (map (when_row_type columns variables) whens) ≡ true
-    → Pends (is_of_kind columns variables) (letter ∷ old.stack) op.Jump (branched is_compared whens) places old new
+    → Pends (is_of_kind columns variables) (letter ∷ old.stack) op.Jump (branched is_compared whens) indexes old new
 
 -- ---- ELSE
 

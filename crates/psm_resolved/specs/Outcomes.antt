@@ -1,4 +1,4 @@
--- What is made of operands, from left to right: the first that lacks something or has a condition decides.
+-- What is made of operands, from left to right: the first that is stuck or has a condition decides.
 use Rattle.std.specs.Prelude.{ℕ, Bool, true, false, List, [], ◌∷◌, Option, Some, None, Result, Ok, Err, if◌then◌else◌}
 use Rattle.psm_value.specs.declared.datum.Datum.{Datum}
 use Rattle.psm_value.specs.declared.truth.Truth.{Truth as Answer}

@@ -1,6 +1,6 @@
 -- What a row expression evaluates to over a row and variables (ISO/IEC 9075:1992, clauses 6 and 8): a value or a truth value, or
 -- the SQLSTATE of the first condition. A call and a subquery are no row expressions, and come to nothing; so does an operation
--- that finds a value in place of a truth value, or lacks a column or a variable.
+-- that finds a value in place of a truth value, or is stuck without a column or a variable.
 use Rattle.std.specs.Prelude.{ℕ, Bool, List, [], ◌∷◌, map, slice_get, Option, Some, None, Result, Ok}
 use Rattle.std.specs.Ordering.{is_eq, is_ne, is_lt, is_le, is_gt, is_ge}
 use Rattle.std.specs.declared.cmp.Ordering.{Ordering}
@@ -86,8 +86,8 @@ likened a pattern None = of_two (λ t p. decided (like t p)) a pattern
 likened a pattern (Some escape) = of_three (λ t p e. decided (like_escaped t p e)) a pattern escape
 
 abbrev pub part : Outcome → Outcome → Option Outcome → Outcome
-part a place None = of_two (λ t p. valued (part_from t p)) a place
-part a place (Some count) = of_three (λ t p c. valued (part_of t p c)) a place count
+part a index None = of_two (λ t p. valued (part_from t p)) a index
+part a index (Some count) = of_three (λ t p c. valued (part_of t p c)) a index count
 
 -- ---- CASE
 

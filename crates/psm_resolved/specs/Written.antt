@@ -56,7 +56,7 @@ abbrev pub last_letter : List Letter → Letter
 last_letter [] = N
 last_letter (k ∷ s) = k
 
--- the letter at a place, or that of a number
+-- the letter at an index, or that of a number
 abbrev pub letter_or : Option Letter → Letter
 letter_or None = N
 letter_or (Some k) = k
@@ -157,16 +157,16 @@ WritesOthers columns variables k rest old new =
 -- another operation at several lines
 abbrev pub patched : Op → List ℕ → List Line → List Line
 patched o [] lines = lines
-patched o (p ∷ places) lines = patched o places (with_op_at lines p o)
+patched o (p ∷ indexes) lines = patched o indexes (with_op_at lines p o)
 
--- an operation is written at that place, and takes n operands off
+-- an operation is written at that index, and takes n operands off
 abbrev pub Jumps : Op → ℕ → ℕ → Written → Written → Type 0
-Jumps o takes place old new = (place ≡ length old.lines) × (new ≡ with_line old o (drop takes old.stack))
+Jumps o takes index old new = (index ≡ length old.lines) × (new ≡ with_line old o (drop takes old.stack))
 
--- a jump to the end is written at that place, and that at the place unless passes over it
+-- a jump to the end is written at that index, and that at the index unless passes over it
 abbrev pub Leaves : ℕ → ℕ → Written → Written → Type 0
-Leaves unless place old new =
-    (left : Written) × Jumps (op.Jump 0) 1 place old left × (new ≡ record { lines = with_op_at left.lines unless (op.JumpUnlessTrue (length left.lines)); stack = left.stack })
+Leaves unless index old new =
+    (left : Written) × Jumps (op.Jump 0) 1 index old left × (new ≡ record { lines = with_op_at left.lines unless (op.JumpUnlessTrue (length left.lines)); stack = left.stack })
 
 -- ---- the whole code
 

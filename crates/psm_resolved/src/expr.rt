@@ -50,7 +50,7 @@ pub enum ResolvedExpr {
     Null,
     Number(Dec),
     Text(Text),
-    /// A column of the row, by its place from 0.
+    /// A column of the row, by its index from 0.
     Column(u32),
     /// A variable or a parameter, by its slot from 0.
     Variable(u32),

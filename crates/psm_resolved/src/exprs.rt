@@ -49,9 +49,9 @@ fn expr(out: &mut Writer, expr_context: ExprContext<'_>, e: &ResolvedExpr) -> Re
             let value = Datum::Text(value.copy(expr_context.alloc)?);
             out.apply(Op::Constant(Letter::T, value), 0, Letter::T)
         }
-        ResolvedExpr::Column(place) => {
-            let letter = letter_at(expr_context.columns, *place);
-            out.apply(Op::Column(*place), 0, letter)
+        ResolvedExpr::Column(index) => {
+            let letter = letter_at(expr_context.columns, *index);
+            out.apply(Op::Column(*index), 0, letter)
         }
         ResolvedExpr::Variable(slot) => {
             let letter = letter_at(expr_context.variables, *slot);
@@ -274,7 +274,7 @@ fn others(
 }
 
 /// Writes the WHENs: each result jumps to the end. With `is_compared` the tests are compared with the operand,
-/// which stays below the result. The answer is the places of the jumps.
+/// which stays below the result. The answer is the indexes of the jumps.
 #[cycle(writing)]
 fn cases(
     out: &mut Writer,
@@ -283,7 +283,7 @@ fn cases(
     is_compared: bool,
     letter: Letter,
 ) -> Result<Vec<usize>, AllocError>
-    ensures { IfOk result (λ places. WritesWhens expr_context.entry.columns.now expr_context.entry.variables.now letter is_compared (listed whens.now) places.items out.old out.new) }
+    ensures { IfOk result (λ indexes. WritesWhens expr_context.entry.columns.now expr_context.entry.variables.now letter is_compared (listed whens.now) indexes.items out.old out.new) }
 {
     let mut jumps = Vec::new(expr_context.alloc);
     let unless = branch(out, expr_context, whens.first.get(), is_compared, letter)?;
@@ -298,7 +298,7 @@ fn cases(
 }
 
 /// Writes a WHEN: its test, a jump over its result unless the test is true, and the result. The answer is the
-/// place of the jump.
+/// index of the jump.
 #[cycle(writing)]
 fn branch(
     out: &mut Writer,
@@ -307,7 +307,7 @@ fn branch(
     is_compared: bool,
     letter: Letter,
 ) -> Result<usize, AllocError>
-    ensures { IfOk result (λ place. Branch expr_context.entry.columns.now expr_context.entry.variables.now letter is_compared when.now place out.old out.new) }
+    ensures { IfOk result (λ index. Branch expr_context.entry.columns.now expr_context.entry.variables.now letter is_compared when.now index out.old out.new) }
 {
     out.perhaps_duplicate(is_compared)?;
     expr(out, expr_context, when.test.get())?;

@@ -6,11 +6,11 @@ ghost use Rattle.psm_resolved.specs.RowType.{function_of, letter_at as letter_of
 use crate::expr::{Comparison, LogicalOperator, Operator, TextFunction};
 use psm_exprcode::{Letter, Op};
 
-/// The letter of the column or the variable at a place; that of a number where there is none.
-pub(crate) fn letter_at(letters: &[Letter], place: u32) -> Letter
-    ensures { result ≡ letter_or (slice_get letters.now place) }
+/// The letter of the column or the variable at an index; that of a number where there is none.
+pub(crate) fn letter_at(letters: &[Letter], index: u32) -> Letter
+    ensures { result ≡ letter_or (slice_get letters.now index) }
 {
-    match letters.get(place as usize) {
+    match letters.get(index as usize) {
         Some(letter) => *letter,
         None => Letter::N,
     }

@@ -154,7 +154,7 @@ pub enum ResolvedRows {
     Query(Boxed<ResolvedQuery>),
 }
 
-/// A column of UPDATE, by its place, and its new value.
+/// A column of UPDATE, by its index, and its new value.
 #[derive(Drop)]
 pub struct ResolvedSet {
     pub column: u32,
@@ -195,7 +195,7 @@ pub enum ResolvedSimple {
         query: Boxed<ResolvedQuery>,
         slots: List<u32>,
     },
-    /// The columns for which there are values, by their places.
+    /// The columns for which there are values, by their indexes.
     Insert {
         table: u32,
         columns: List<u32>,

@@ -114,52 +114,52 @@ impl Writer {
         }
     }
 
-    /// Writes an operation that may jump to a place that isn't known yet, and takes n letters off. The
-    /// answer is its own place.
+    /// Writes an operation that may jump to a line that isn't known yet, and takes n letters off. The
+    /// answer is its own index.
     pub fn jump(&mut self, op: Op, takes: usize) -> Result<usize, AllocError>
-        ensures { IfOk result (λ place. Jumps op takes place self.old self.new) }
+        ensures { IfOk result (λ index. Jumps op takes index self.old self.new) }
     {
-        let place = self.code.len();
+        let index = self.code.len();
         self.line(op)?;
         self.forget(takes);
-        Ok(place)
+        Ok(index)
     }
 
-    /// The place of the line that follows. More lines than fit in 32 bits count as out of memory.
+    /// The index of the line that follows. More lines than fit in 32 bits count as out of memory.
     pub fn here(&self) -> Result<u32, AllocError>
-        ensures { IfOk result (λ place. place ≡ length self.now.lines) }
+        ensures { IfOk result (λ index. index ≡ length self.now.lines) }
     {
         match u32::try_from(self.code.len()) {
-            Ok(place) => Ok(place),
+            Ok(index) => Ok(index),
             Err(_) => Err(AllocError),
         }
     }
 
     /// Puts another operation at a line.
-    pub fn set(&mut self, place: usize, op: Op)
-        ensures { self.new ≡ record { lines = with_op_at self.old.lines place op; stack = self.old.stack } }
+    pub fn set(&mut self, index: usize, op: Op)
+        ensures { self.new ≡ record { lines = with_op_at self.old.lines index op; stack = self.old.stack } }
     {
-        self.code.set_op(place, op);
+        self.code.set_op(index, op);
     }
 
-    /// Writes a jump to the end after a result, and lets the jump at that place pass over both. The answer is
-    /// the place of the jump to the end.
+    /// Writes a jump to the end after a result, and lets the jump at that index pass over both. The answer is
+    /// the index of the jump to the end.
     pub fn leave(&mut self, unless: usize) -> Result<usize, AllocError>
-        ensures { IfOk result (λ place. Leaves unless place self.old self.new) }
+        ensures { IfOk result (λ index. Leaves unless index self.old self.new) }
     {
-        let place = self.jump(Op::Jump(0), 1)?;
+        let index = self.jump(Op::Jump(0), 1)?;
         let next = self.here()?;
         self.set(unless, Op::JumpUnlessTrue(next));
-        Ok(place)
+        Ok(index)
     }
 
-    /// Lets the operations at these places jump to the line that follows.
-    pub fn close(&mut self, places: &[usize], kind: Exit) -> Result<(), AllocError>
-        ensures { IfOk result (λ _. self.new ≡ record { lines = patched (exit_op kind (length self.old.lines)) places.now self.old.lines; stack = self.old.stack }) }
+    /// Lets the operations at these indexes jump to the line that follows.
+    pub fn close(&mut self, indexes: &[usize], kind: Exit) -> Result<(), AllocError>
+        ensures { IfOk result (λ _. self.new ≡ record { lines = patched (exit_op kind (length self.old.lines)) indexes.now self.old.lines; stack = self.old.stack }) }
     {
         let end = self.here()?;
-        for place in places {
-            self.set(*place, kind.op(end));
+        for index in indexes {
+            self.set(*index, kind.op(end));
         }
         Ok(())
     }

@@ -27,7 +27,7 @@ use Rattle.psm_table.proofs.Ordered.{in_order-ascending}
 use Rattle.psm_table.proofs.Rules.{all-in_order, both, first_true, second_true}
 use Rattle.psm_store.specs.RowCalls.{changed_at, put_table}
 use Rattle.psm_row_changes.specs.declared.seeking.Sought.{Sought}
-use Rattle.psm_row_changes.specs.KeyTests.{adds_only, by_values, changes_all, found_in, holds_late, is_late, refers_early, replaces, replaces_late, stays, values_new, IsSought, Matched, Tells}
+use Rattle.psm_row_changes.specs.KeyTests.{adds_only, by_values, changes_all, found_in, holds_late, is_late, refers_early, replaces, replaces_late, stays, values_new, IsSought, Matched, IsDecided}
 use Rattle.psm_row_changes.specs.Rows.{changed_if, fit_in, keys_of_rows, with_rows, without_keys, AreInPlace, IsWhole, TakesRows}
 use Rattle.psm_row_changes.proofs.Effects.{changed_is, said, set_same}
 use Rattle.psm_row_changes.proofs.Leftover.{all-left, and_where, ascending-all, rows_in_order}
@@ -190,7 +190,7 @@ module _ (f : Contents → Contents) (same : (c : Contents) → (f c).def ≡ c.
   pub rows_after : (c : Contents) → slice_get old t ≡ Some c → rows_in new ≡ slice_set (rows_in old) t (f c).rows
   rows_after c g = ap rows_in e ∙ ap rows_in (changed_is f old t c g) ∙ rows_set old t (f c)
 
-  -- what a test of the new tables tells
+  -- what a test of the new tables says
   pub tested : (adds : Bool) (constraints : List ForeignKey) (may : Contents → Bool) (r : Result Bool AllocError) → IfOk r (λ b. b ≡ list_all (holds_late t None adds (rows_in new)) constraints) → IfSome (slice_get old t) (λ c. true ≡ may c)
       → IfSome (slice_get old t) (λ c. IfOk r (λ b. b ≡ (may c && list_all (holds_late t None adds (slice_set (rows_in old) t (f c).rows)) constraints)))
   tested adds constraints may r h g = by (slice_get old t) refl g where
@@ -265,9 +265,9 @@ module _ (constraints : List ForeignKey) (old : List Contents) (t : ℕ) (c : Co
     pub replaced_late : early None rows ≡ true → replaces_late constraints old t keys rows c ≡ replaces constraints old t keys rows c
     replaced_late e = sym (replaced ∙ ap (λ b. fit && (b && then_late)) e)
 
-    -- what is looked up tells
+    -- what is looked up says
     one_tells : (new : List Contents) → rows_in new ≡ slice_set (rows_in old) t (with_rows rows (without_keys keys c)).rows → fit ≡ true → (key : ForeignKey) (s : Option Sought) → is_keyed (rows_in old) key ≡ true
-        → IsSought old t keys rows key s → Tells t (adds_only keys) (rows_in new) key s
+        → IsSought old t keys rows key s → IsDecided t (adds_only keys) (rows_in new) key s
     one_tells new e f key None h k = tt
     one_tells new e f key (Some s) h k =
         let to : key.to ≡ t = eqb-true key.to t (first_true (nat_eq key.to t) (not false && (nat_eq key.from t || not (adds_only keys))) k.0) in
@@ -280,10 +280,10 @@ module _ (constraints : List ForeignKey) (old : List Contents) (t : ℕ) (c : Co
         ∙ ap (λ l. by_values (rows_in new) key (record { refer = l; gone = map (values_at key.target) found })) (sym k.1)
         ∙ ap (λ l. by_values (rows_in new) key (record { refer = s.refer; gone = l })) (sym gone)
 
-    pub tell : (new : List Contents) → rows_in new ≡ slice_set (rows_in old) t (with_rows rows (without_keys keys c)).rows → fit ≡ true → (sought : List (Option Sought))
-        → Matched (IsSought old t keys rows) constraints sought → Matched (Tells t (adds_only keys) (rows_in new)) constraints sought
-    tell new e f sought h = each constraints sought held h where
-      each : (ks : List ForeignKey) (ss : List (Option Sought)) → are_keyed ks (rows_in old) ≡ true → Matched (IsSought old t keys rows) ks ss → Matched (Tells t (adds_only keys) (rows_in new)) ks ss
+    pub decided : (new : List Contents) → rows_in new ≡ slice_set (rows_in old) t (with_rows rows (without_keys keys c)).rows → fit ≡ true → (sought : List (Option Sought))
+        → Matched (IsSought old t keys rows) constraints sought → Matched (IsDecided t (adds_only keys) (rows_in new)) constraints sought
+    decided new e f sought h = each constraints sought held h where
+      each : (ks : List ForeignKey) (ss : List (Option Sought)) → are_keyed ks (rows_in old) ≡ true → Matched (IsSought old t keys rows) ks ss → Matched (IsDecided t (adds_only keys) (rows_in new)) ks ss
       each [] [] i m = tt
       each [] (s ∷ ss) i m = m
       each (k ∷ ks) [] i m = m

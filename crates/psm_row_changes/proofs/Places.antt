@@ -41,7 +41,7 @@ crossed p q (x ∷ xs) = step (p x) (q x) refl refl (crossed p q xs) where
   step false true e f h = rw (f, e) h
   step false false e f h = rw (f, e) h
 
--- what a search finds is found in a longer list, and behind a filter that lets it pass
+-- what a search finds is found in a longer list, and after a filter that lets it pass
 pub found_cons : {X : Type 0} (p : X → Bool) (x : X) (xs : List X) → IsSome (find p xs) → IsSome (find p (x ∷ xs))
 found_cons p x xs h = step (p x) refl where
   step : (b : Bool) → p x ≡ b → IsSome (find p (x ∷ xs))
@@ -52,15 +52,15 @@ found_after : {X : Type 0} (p : X → Bool) (xs ys : List X) → IsSome (find p 
 found_after p [] ys h = h
 found_after p (x ∷ xs) ys h = found_cons p x (xs ++ ys) (found_after p xs ys h)
 
-behind_step : {X : Type 0} (p q : X → Bool) (x : X) (xs : List X) (b c : Bool) → p x ≡ b → q x ≡ c → (p x ≡ true → q x ≡ true) → (IsSome (find p xs) → IsSome (find p (filter q xs))) → IsSome (find p (x ∷ xs)) → IsSome (find p (filter q (x ∷ xs)))
-behind_step p q x xs true true e g f r h = rw (g, e) refl
-behind_step p q x xs true false e g f r h = absurd (let bad : true ≡ false = sym (f e) ∙ g in cc)
-behind_step p q x xs false true e g f r h = rw (g, e) (r (rw e at h))
-behind_step p q x xs false false e g f r h = rw g (r (rw e at h))
+step_past : {X : Type 0} (p q : X → Bool) (x : X) (xs : List X) (b c : Bool) → p x ≡ b → q x ≡ c → (p x ≡ true → q x ≡ true) → (IsSome (find p xs) → IsSome (find p (filter q xs))) → IsSome (find p (x ∷ xs)) → IsSome (find p (filter q (x ∷ xs)))
+step_past p q x xs true true e g f r h = rw (g, e) refl
+step_past p q x xs true false e g f r h = absurd (let bad : true ≡ false = sym (f e) ∙ g in cc)
+step_past p q x xs false true e g f r h = rw (g, e) (r (rw e at h))
+step_past p q x xs false false e g f r h = rw g (r (rw e at h))
 
-found_behind : {X : Type 0} (p q : X → Bool) → ((x : X) → p x ≡ true → q x ≡ true) → (xs : List X) → IsSome (find p xs) → IsSome (find p (filter q xs))
-found_behind p q f [] h = h
-found_behind p q f (x ∷ xs) h = behind_step p q x xs (p x) (q x) refl refl (f x) (found_behind p q f xs) h
+found_past : {X : Type 0} (p q : X → Bool) → ((x : X) → p x ≡ true → q x ≡ true) → (xs : List X) → IsSome (find p xs) → IsSome (find p (filter q xs))
+found_past p q f [] h = h
+found_past p q f (x ∷ xs) h = step_past p q x xs (p x) (q x) refl refl (f x) (found_past p q f xs) h
 
 -- ---- a row with a smaller key
 
@@ -133,7 +133,7 @@ module _ (columns : List ℕ) where
     still_found s =
         found_after (λ x. is_eq (row_order columns key x)) low (row ∷ high)
         (found_cons (λ x. is_eq (row_order columns key x)) row high
-        (found_behind (λ x. is_eq (row_order columns key x)) (λ x. is_gt (row_order columns own x)) greater rows s))
+        (found_past (λ x. is_eq (row_order columns key x)) (λ x. is_gt (row_order columns own x)) greater rows s))
 
   pub put_without_all : (row : Row) (keys : List (List Datum)) (rows : List Row) → All (λ key. row_order columns key row ≡ Less) keys → without_all columns keys (put columns row rows) ≡ put columns row (without_all columns keys rows)
   put_without_all row [] rows h = refl

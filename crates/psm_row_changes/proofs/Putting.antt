@@ -12,7 +12,7 @@ use Rattle.psm_table.specs.Key.{row_order, values_at}
 use Rattle.psm_table.specs.Rows.{put, row_with, rows_above, rows_below, without, IsAscending}
 use Rattle.psm_table.specs.Table.{with_row, Contents}
 use Rattle.psm_table.specs.Unique.{clashes, conflict, is_rival}
-use Rattle.psm_table.proofs.Ordered.{in_order-last, placed_after, put-placed}
+use Rattle.psm_table.proofs.Ordered.{in_order-last, placed_after, put-put_in}
 use Rattle.psm_table.proofs.Rules.{all-in_order, and_assoc, apart_from, keep-front, keep-new, second_true}
 use Rattle.psm_table.proofs.Tables.{ascending-put}
 use Rattle.psm_row_changes.specs.Rows.{fit_in, fits_in, with_rows}
@@ -99,7 +99,7 @@ pub put_order : (c : Contents) (xs : List Row) (row : Row) → c.rows ≡ in_ord
 put_order c xs row e up f =
     let none : row_with c.def.key (values_at c.def.key row) c.rows ≡ None =
     not_taken c.def row c.rows (row_with c.def.key (values_at c.def.key row) c.rows) refl (second_true (is_filled c.def row) (apart_from c.def row c.rows) f) in
-    put-placed c.def.key row c.rows up none ∙ ap (placed_after c.def.key row) e ∙ sym (in_order-last c.def.key xs row)
+    put-put_in c.def.key row c.rows up none ∙ ap (placed_after c.def.key row) e ∙ sym (in_order-last c.def.key xs row)
 
 -- some rows keep the rules one after another exactly where all rows together do, and then all stand in order
 pub record AreIn (rows xs : List Row) (c : Contents) : Type 0 where

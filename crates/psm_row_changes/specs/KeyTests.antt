@@ -78,10 +78,10 @@ is_found key tables values = is_there key tables values || not (has_values key.c
 abbrev pub by_values : List (List (List Datum)) → ForeignKey → Sought → Bool
 by_values tables key s = list_all (is_there key tables) s.refer && list_all (is_found key tables) s.gone
 
--- what is looked up of a constraint, if it is, tells whether it holds
-abbrev pub Tells : ℕ → Bool → List (List (List Datum)) → ForeignKey → Option Sought → Type 0
-Tells t adds tables key None = Unit {0}
-Tells t adds tables key (Some s) = holds_late t None adds tables key ≡ by_values tables key s
+-- what is looked up of a constraint, if it is, says whether it holds
+abbrev pub IsDecided : ℕ → Bool → List (List (List Datum)) → ForeignKey → Option Sought → Type 0
+IsDecided t adds tables key None = Unit {0}
+IsDecided t adds tables key (Some s) = holds_late t None adds tables key ≡ by_values tables key s
 
 -- each of one list with its fellow of another
 abbrev pub Matched : {A B : Type 0} → (A → B → Type 0) → List A → List B → Type 0

@@ -5,7 +5,7 @@ ghost use Rattle.std.specs.Option.{option_copied};
 ghost use Rattle.psm_table.specs.Key.{values_at, AreColumnsOf};
 ghost use Rattle.psm_table.specs.Keyed.{defs_in, has_values, is_referred, rows_in, IsKeyOf};
 ghost use Rattle.psm_table.specs.Unique.{has_null as has_null_among};
-ghost use Rattle.psm_row_changes.specs.KeyTests.{holds_late, is_late as is_tested_late, refers_early, stays as values_stay, Matched, Tells};
+ghost use Rattle.psm_row_changes.specs.KeyTests.{holds_late, is_late as is_tested_late, refers_early, stays as values_stay, Matched, IsDecided};
 ghost use Rattle.psm_row_changes.specs.Rows.{IsWhole};
 
 use crate::filling::is_null;
@@ -97,7 +97,7 @@ pub(crate) fn hold_late<S: Store>(
     sought: &[Option<Sought>],
 ) -> Result<bool, AllocError>
     requires constraints { All (IsKeyOf (defs_in (S.tables store.now))) constraints.now }
-    requires sought { Matched (Tells t adds (rows_in (S.tables store.now))) constraints.now sought.now }
+    requires sought { Matched (IsDecided t adds (rows_in (S.tables store.now))) constraints.now sought.now }
     ensures { IfOk result (λ b. b ≡ list_all (holds_late t None adds (rows_in (S.tables store.now))) constraints.now) }
 {
     for at in 0..constraints.len() {
@@ -118,7 +118,7 @@ fn holds_by<S: Store>(
     sought: &Option<Sought>,
 ) -> Result<bool, AllocError>
     requires key { IsKeyOf (defs_in (S.tables store.now)) key.now }
-    requires sought { Tells t adds (rows_in (S.tables store.now)) key.now sought.now }
+    requires sought { IsDecided t adds (rows_in (S.tables store.now)) key.now sought.now }
     ensures { IfOk result (λ b. b ≡ holds_late t None adds (rows_in (S.tables store.now)) key.now) }
 {
     match sought {

@@ -61,8 +61,8 @@ rule_at rule.ArgumentMisfitsMode = refl
 rule_at rule.CharacteristicRepeated = refl
 rule_at rule.KeyDoesNotMatch = refl
 
-pub number_tells : (a b : Rule) → number_of a ≡ number_of b → a ≡ b
-number_tells a b e = sym (rule_at a) ∙ ap rule_of e ∙ rule_at b
+pub number_decides : (a b : Rule) → number_of a ≡ number_of b → a ≡ b
+number_decides a b e = sym (rule_at a) ∙ ap rule_of e ∙ rule_at b
 
 fault_same : (a b : Fault) → a.place.line ≡ b.place.line → a.place.column ≡ b.place.column → a.rule ≡ b.rule → a ≡ b
 fault_same a b p q r =
@@ -70,7 +70,7 @@ fault_same a b p q r =
     ∙ ap (λ c. let f : Fault = record { place = record { line = b.place.line; column = c }; rule = a.rule } in f) q
     ∙ ap (λ u. let f : Fault = record { place = b.place; rule = u } in f) r
 
--- ---- what the order tells, over plain numbers
+-- ---- what the order decides, over plain numbers
 
 abbrev ahead : ℕ → ℕ → ℕ → ℕ → ℕ → ℕ → Bool
 ahead l c n m d k = nat_lt l m || (nat_eq l m && (nat_lt c d || (nat_eq c d && nat_lt n k)))
@@ -81,8 +81,8 @@ Ahead l c n m d k = (l < m) ⊎ ((l ≡ m) × ((c < d) ⊎ ((c ≡ d) × (n < k)
 abbrev After : ℕ → ℕ → ℕ → ℕ → ℕ → ℕ → Type 0
 After l c n m d k = (m < l) ⊎ ((l ≡ m) × ((d < c) ⊎ ((c ≡ d) × (k ≤ n))))
 
-ahead_tells : (l c n m d k : ℕ) → ((ahead l c n m d k ≡ true) × Ahead l c n m d k) ⊎ ((ahead l c n m d k ≡ false) × After l c n m d k)
-ahead_tells l c n m d k = grind (arith, nat_tests)
+ahead_decides : (l c n m d k : ℕ) → ((ahead l c n m d k ≡ true) × Ahead l c n m d k) ⊎ ((ahead l c n m d k ≡ false) × After l c n m d k)
+ahead_decides l c n m d k = grind (arith, nat_tests)
 
 trans : (l c n m d k o e j : ℕ) → Ahead l c n m d k → Ahead m d k o e j → After l c n o e j → ⊥
 trans l c n m d k o e j p q r = omega arith
@@ -96,9 +96,9 @@ not_both l c n m d k p q = omega arith
 same_line : (l c n m d k : ℕ) → After l c n m d k → After m d k l c n → (l ≡ m) × (c ≡ d) × (n ≡ k)
 same_line l c n m d k p q = (omega arith, omega arith, omega arith)
 
-tells : (a b : Fault) → ((precedes a b ≡ true) × Ahead a.place.line a.place.column (number_of a.rule) b.place.line b.place.column (number_of b.rule))
+decides : (a b : Fault) → ((precedes a b ≡ true) × Ahead a.place.line a.place.column (number_of a.rule) b.place.line b.place.column (number_of b.rule))
     ⊎ ((precedes a b ≡ false) × After a.place.line a.place.column (number_of a.rule) b.place.line b.place.column (number_of b.rule))
-tells a b = ahead_tells a.place.line a.place.column (number_of a.rule) b.place.line b.place.column (number_of b.rule)
+decides a b = ahead_decides a.place.line a.place.column (number_of a.rule) b.place.line b.place.column (number_of b.rule)
 
 -- ---- the laws
 
@@ -115,19 +115,19 @@ taken t a b e = ap (λ u. Some (if u then b else a)) e
 -- where neither is ahead they are one
 same_place : (a b : Fault) → precedes b a ≡ false → precedes a b ≡ false → a ≡ b
 same_place a b e h =
-    elim (tells b a) as (λ _. a ≡ b) [
+    elim (decides b a) as (λ _. a ≡ b) [
       | inl x ↦ cc
-      | inr x ↦ elim (tells a b) as (λ _. a ≡ b) [
+      | inr x ↦ elim (decides a b) as (λ _. a ≡ b) [
         | inl y ↦ cc
         | inr y ↦ let s = same_line a.place.line a.place.column (number_of a.rule) b.place.line b.place.column (number_of b.rule) y.1 x.1 in
-            fault_same a b s.0 s.1 (number_tells a.rule b.rule s.2)
+            fault_same a b s.0 s.1 (number_decides a.rule b.rule s.2)
       ]
     ]
 
 not_both_ahead : (a b : Fault) → precedes b a ≡ true → precedes a b ≡ true → ⊥
 not_both_ahead a b e h =
-    elim (tells b a) as (λ _. ⊥) [
-      | inl x ↦ elim (tells a b) as (λ _. ⊥) [
+    elim (decides b a) as (λ _. ⊥) [
+      | inl x ↦ elim (decides a b) as (λ _. ⊥) [
         | inl y ↦ not_both a.place.line a.place.column (number_of a.rule) b.place.line b.place.column (number_of b.rule) y.1 x.1
         | inr y ↦ cc
       ]
@@ -136,9 +136,9 @@ not_both_ahead a b e h =
 
 precedes-trans : (a b c : Fault) → precedes a b ≡ true → precedes b c ≡ true → precedes a c ≡ true
 precedes-trans a b c e h =
-    elim (tells a b) as (λ _. precedes a c ≡ true) [
-      | inl x ↦ elim (tells b c) as (λ _. precedes a c ≡ true) [
-        | inl y ↦ elim (tells a c) as (λ _. precedes a c ≡ true) [
+    elim (decides a b) as (λ _. precedes a c ≡ true) [
+      | inl x ↦ elim (decides b c) as (λ _. precedes a c ≡ true) [
+        | inl y ↦ elim (decides a c) as (λ _. precedes a c ≡ true) [
           | inl z ↦ z.0
           | inr z ↦ absurd (trans a.place.line a.place.column (number_of a.rule) b.place.line b.place.column (number_of b.rule) c.place.line c.place.column (number_of c.rule) x.1 y.1 z.1)
         ]
@@ -149,11 +149,11 @@ precedes-trans a b c e h =
 
 following-trans : (a b c : Fault) → precedes a b ≡ false → precedes b c ≡ false → precedes a c ≡ false
 following-trans a b c e h =
-    elim (tells a b) as (λ _. precedes a c ≡ false) [
+    elim (decides a b) as (λ _. precedes a c ≡ false) [
       | inl x ↦ cc
-      | inr x ↦ elim (tells b c) as (λ _. precedes a c ≡ false) [
+      | inr x ↦ elim (decides b c) as (λ _. precedes a c ≡ false) [
         | inl y ↦ cc
-        | inr y ↦ elim (tells a c) as (λ _. precedes a c ≡ false) [
+        | inr y ↦ elim (decides a c) as (λ _. precedes a c ≡ false) [
           | inl z ↦ absurd (after_trans a.place.line a.place.column (number_of a.rule) b.place.line b.place.column (number_of b.rule) c.place.line c.place.column (number_of c.rule) x.1 y.1 z.1)
           | inr z ↦ z.0
         ]

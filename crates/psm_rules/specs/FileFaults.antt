@@ -375,7 +375,7 @@ abbrev pub with_routines : SymbolTable → List Routine → SymbolTable
 with_routines symbols [] = symbols
 with_routines symbols (r ∷ rs) = with_routines (with_routine symbols r r.returns) rs
 
--- ---- routines that can't be told apart
+-- ---- routines that can't be distinguished
 
 -- procedures of one name have different numbers of parameters
 abbrev pub same_procedures : Routine → Routine → Bool

@@ -19,7 +19,7 @@ use Rattle.psm_scope.specs.Pass.{added, joined, order, order_in}
 use Rattle.psm_scope.proofs.Lists.{both}
 use Rattle.psm_scope.proofs.Narrowing.{Each, narrowed_more, narrowed_none}
 
--- ---- kinds are told apart by their numbers
+-- ---- kinds are distinguished by their numbers
 
 abbrev kind_at : ℕ → ArgKind
 kind_at zero = SmallInt
@@ -123,62 +123,62 @@ order_in_self Char k = cmp_same (rank k)
 order_in_self VarChar k = cmp_same (rank k)
 order_in_self Null k = refl
 
-order_self : (place : ℕ) (args ks : List ArgKind) → order place args ks ks ≡ Equal
-order_self place [] ks = refl
-order_self place (a ∷ others) ks =
-    ap (λ o. ordering_then o (order (suc place) others ks ks)) (order_in_self a (slice_index_or ks place Null)) ∙ order_self (suc place) others ks
+order_self : (index : ℕ) (args ks : List ArgKind) → order index args ks ks ≡ Equal
+order_self index [] ks = refl
+order_self index (a ∷ others) ks =
+    ap (λ o. ordering_then o (order (suc index) others ks ks)) (order_in_self a (slice_index_or ks index Null)) ∙ order_self (suc index) others ks
 
-head_there : (ks : List ArgKind) (place : ℕ) (x : ArgKind) (others : List ArgKind) → drop place ks ≡ x ∷ others
-    → (slice_index_or ks place Null ≡ x) × (drop (suc place) ks ≡ others)
+head_there : (ks : List ArgKind) (index : ℕ) (x : ArgKind) (others : List ArgKind) → drop index ks ≡ x ∷ others
+    → (slice_index_or ks index Null ≡ x) × (drop (suc index) ks ≡ others)
 head_there [] zero x others e = cc
 head_there [] (suc k) x others e = cc
 head_there (y ∷ ys) zero x others e = let h : y ≡ x = cc in let t : ys ≡ others = cc in (h, t)
 head_there (y ∷ ys) (suc k) x others e = head_there ys k x others e
 
-module _ (place : ℕ) (others ks ls : List ArgKind) (a p : ArgKind) (typed : is_typed a ≡ true) (head : slice_index_or ks place Null ≡ a) (other : slice_index_or ls place Null ≡ p) where
+module _ (index : ℕ) (others ks ls : List ArgKind) (a p : ArgKind) (typed : is_typed a ≡ true) (head : slice_index_or ks index Null ≡ a) (other : slice_index_or ls index Null ≡ p) where
   abbrev up : Ordering
-  up = order (suc place) others ks ls
+  up = order (suc index) others ks ls
 
   abbrev down : Ordering
-  down = order (suc place) others ls ks
+  down = order (suc index) others ls ks
 
-  order_up : (o : Ordering) → nat_cmp (rank a) (rank p) ≡ o → order place (a ∷ others) ks ls ≡ ordering_then o up
+  order_up : (o : Ordering) → nat_cmp (rank a) (rank p) ≡ o → order index (a ∷ others) ks ls ≡ ordering_then o up
   order_up o e =
-      ap (λ k. ordering_then (order_in a k (slice_index_or ls place Null)) up) head ∙ ap (λ l. ordering_then (order_in a a l) up) other
+      ap (λ k. ordering_then (order_in a k (slice_index_or ls index Null)) up) head ∙ ap (λ l. ordering_then (order_in a a l) up) other
       ∙ ap (λ q. ordering_then q up) (order_typed a a p typed ∙ e)
 
-  order_down : (o : Ordering) → nat_cmp (rank p) (rank a) ≡ o → order place (a ∷ others) ls ks ≡ ordering_then o down
+  order_down : (o : Ordering) → nat_cmp (rank p) (rank a) ≡ o → order index (a ∷ others) ls ks ≡ ordering_then o down
   order_down o e =
-      ap (λ k. ordering_then (order_in a (slice_index_or ls place Null) k) down) head ∙ ap (λ l. ordering_then (order_in a l a) down) other
+      ap (λ k. ordering_then (order_in a (slice_index_or ls index Null) k) down) head ∙ ap (λ l. ordering_then (order_in a l a) down) other
       ∙ ap (λ q. ordering_then q down) (order_typed a p a typed ∙ e)
 
 -- ks are exactly the arguments' kinds, ls others that they go to
-pub before : (place : ℕ) (args ks ls rest : List ArgKind) → list_all is_typed args ≡ true → drop place ks ≡ args → drop place ls ≡ rest → all_go args rest ≡ true
-    → pointwise is_kind args rest ≡ false → (order place args ks ls ≡ Less) × (order place args ls ks ≡ Greater)
-before place [] ks ls [] typed e f go differ = cc
-before place [] ks ls (p ∷ ps) typed e f go differ = cc
-before place (a ∷ others) ks ls [] typed e f go differ = cc
-before place (a ∷ others) ks ls (p ∷ ps) typed e f go differ =
+pub before : (index : ℕ) (args ks ls rest : List ArgKind) → list_all is_typed args ≡ true → drop index ks ≡ args → drop index ls ≡ rest → all_go args rest ≡ true
+    → pointwise is_kind args rest ≡ false → (order index args ks ls ≡ Less) × (order index args ls ks ≡ Greater)
+before index [] ks ls [] typed e f go differ = cc
+before index [] ks ls (p ∷ ps) typed e f go differ = cc
+before index (a ∷ others) ks ls [] typed e f go differ = cc
+before index (a ∷ others) ks ls (p ∷ ps) typed e f go differ =
     let t = both (is_typed a) (list_all is_typed others) typed in
     let g = both (goes_to a p) (all_go others ps) go in
-    let h = head_there ks place a others e in
-    let r = head_there ls place p ps f in
+    let h = head_there ks index a others e in
+    let r = head_there ls index p ps f in
     let own = own_lowest a p t.0 g.0 in
-    by (nat_cmp (rank a) (rank p)) refl t.0 h.0 r.0 own.0 own.1 (λ d. before (suc place) others ks ls ps t.1 h.1 r.1 g.1 d)
+    by (nat_cmp (rank a) (rank p)) refl t.0 h.0 r.0 own.0 own.1 (λ d. before (suc index) others ks ls ps t.1 h.1 r.1 g.1 d)
   where
-    by : (o : Ordering) → nat_cmp (rank a) (rank p) ≡ o → is_typed a ≡ true → slice_index_or ks place Null ≡ a → slice_index_or ls place Null ≡ p
+    by : (o : Ordering) → nat_cmp (rank a) (rank p) ≡ o → is_typed a ≡ true → slice_index_or ks index Null ≡ a → slice_index_or ls index Null ≡ p
         → rank a ≤ rank p → (rank a ≡ rank p → a ≡ p)
-        → (pointwise is_kind others ps ≡ false → (order (suc place) others ks ls ≡ Less) × (order (suc place) others ls ks ≡ Greater))
-        → (order place (a ∷ others) ks ls ≡ Less) × (order place (a ∷ others) ls ks ≡ Greater)
+        → (pointwise is_kind others ps ≡ false → (order (suc index) others ks ls ≡ Less) × (order (suc index) others ls ks ≡ Greater))
+        → (order index (a ∷ others) ks ls ≡ Less) × (order index (a ∷ others) ls ks ≡ Greater)
     by Less c t h r low same rec =
         let d : nat_cmp (rank p) (rank a) ≡ Greater = grind (arith, nat_tests, c) in
-        (order_up place others ks ls a p t h r Less c, order_down place others ks ls a p t h r Greater d)
+        (order_up index others ks ls a p t h r Less c, order_down index others ks ls a p t h r Greater d)
     by Equal c t h r low same rec =
         let n : rank a ≡ rank p = grind (arith, nat_tests, c) in
         let k : is_kind a p ≡ true = (is_kind-Decides a p).1 (same n) in
         let d : nat_cmp (rank p) (rank a) ≡ Equal = ap (λ m. nat_cmp m (rank a)) (sym n) ∙ cmp_same (rank a) in
         let o = rec (sym (ap (λ b. b && pointwise is_kind others ps) k) ∙ differ) in
-        (order_up place others ks ls a p t h r Equal c ∙ o.0, order_down place others ks ls a p t h r Equal d ∙ o.1)
+        (order_up index others ks ls a p t h r Equal c ∙ o.0, order_down index others ks ls a p t h r Equal d ∙ o.1)
     by Greater c t h r low same rec = let g : rank p < rank a = grind (arith, nat_tests, c) in absurd (omega (arith, g, low))
 
 -- ---- what stays beside the functions with exactly the arguments' kinds

@@ -248,8 +248,8 @@ walk_ends routines name args best r w only_is =
 
 -- one block: what was found in it
 module _ (routines : List Signature) (name : List ℕ) (args : List ArgKind) (b : Block) (left : List Block) (best : Option Best) (w : Walk routines name args (b ∷ left) best) where
-  pub walk_places : length args ≡ length b.places.items
-  walk_places = sym w.blocks.3
+  pub walk_parameters : length args ≡ length b.parameter_sets.items
+  walk_parameters = sym w.blocks.3
 
   abbrev own : List Candidate
   own = w.blocks.0

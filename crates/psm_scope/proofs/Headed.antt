@@ -23,10 +23,10 @@ module _ {A : Type 0} (n : Spelling) (count : ℕ) (es : List (CallKey × A)) (k
   pub none_headed : false ≡ is_some (lookup (is_key n count) es) → None ≡ procedure n count known
   none_headed e = get_headed None (sym (is_none (lookup (is_key n count) es) (sym e)))
 
-  pub some_headed : (place : ℕ) (k : CallKey) (x : A) → ◌≡◌ {A = Option (CallKey × A)} (Some (k, x)) (slice_get es place)
-      → slice_get (values_of es) place ≡ lookup (is_key n count) es → Some x ≡ procedure n count known
-  some_headed place k x e f =
-      get_headed (Some x) (ap (option_map {T = CallKey × A} {U = A} (λ e. e.1)) e ∙ sym (slice_get-map (λ e. e.1) es place) ∙ f)
+  pub some_headed : (index : ℕ) (k : CallKey) (x : A) → ◌≡◌ {A = Option (CallKey × A)} (Some (k, x)) (slice_get es index)
+      → slice_get (values_of es) index ≡ lookup (is_key n count) es → Some x ≡ procedure n count known
+  some_headed index k x e f =
+      get_headed (Some x) (ap (option_map {T = CallKey × A} {U = A} (λ e. e.1)) e ∙ sym (slice_get-map (λ e. e.1) es index) ∙ f)
 
   pub new_headed : false ≡ is_some (lookup (is_key n count) es) → (lookup (is_key n count) es ≡ None) × (procedure n count known ≡ None)
   new_headed e = (is_none (lookup (is_key n count) es) (sym e), sym (none_headed e))

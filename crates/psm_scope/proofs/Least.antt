@@ -58,9 +58,9 @@ pub kept : (cs : List Candidate) → filter (λ c. true) cs ≡ cs
 kept [] = refl
 kept (c ∷ cs) = ap (λ l. c ∷ l) (kept cs)
 
--- ---- one place
+-- ---- one index
 
--- r and s are the ranks of two candidates, m the lowest, and o is how they compare after the place
+-- r and s are the ranks of two candidates, m the lowest, and o is how they compare after the index
 at_lowest : (r s m : ℕ) (o c : Ordering) → nat_cmp r s ≡ c → m ≤ r → r ≤ m → m ≤ s → (not (nat_le s m) || not (is_after o)) ≡ not (is_after (ordering_then c o))
 at_lowest r s m o Less e l p q = let t : nat_le s m ≡ false = grind (arith, nat_tests, e, l) in ap (λ b. not b || not (is_after o)) t
 at_lowest r s m o Equal e l p q = let t : nat_le s m ≡ true = grind (arith, nat_tests, e, p) in ap (λ b. not b || not (is_after o)) t
@@ -71,51 +71,51 @@ not_after r s o Less e f = grind (arith, nat_tests, e)
 not_after r s o Equal e f = grind (arith, nat_tests, e)
 not_after r s o Greater e f = cc
 
-module _ (place : ℕ) (others : List ArgKind) (cs : List Candidate) where
-  one_place : (c : Candidate) → least place cs ≤ rank_in place c
-      → (nat_le (rank_in place c) (least place cs) && list_all (λ d. not (is_after (order (suc place) others c.1 d.1))) (upto place (least place cs) cs))
-      ≡ list_all (λ d. not (is_after (ordering_then (nat_cmp (rank_in place c) (rank_in place d)) (order (suc place) others c.1 d.1)))) cs
-  one_place c low =
-      ap (λ b. nat_le (rank_in place c) (least place cs) && b)
-      (all_filter (λ d. not (is_after (order (suc place) others c.1 d.1))) (λ d. nat_le (rank_in place d) (least place cs)) cs)
-      ∙ by (nat_le (rank_in place c) (least place cs)) refl
+module _ (index : ℕ) (others : List ArgKind) (cs : List Candidate) where
+  one_index : (c : Candidate) → least index cs ≤ rank_in index c
+      → (nat_le (rank_in index c) (least index cs) && list_all (λ d. not (is_after (order (suc index) others c.1 d.1))) (upto index (least index cs) cs))
+      ≡ list_all (λ d. not (is_after (ordering_then (nat_cmp (rank_in index c) (rank_in index d)) (order (suc index) others c.1 d.1)))) cs
+  one_index c low =
+      ap (λ b. nat_le (rank_in index c) (least index cs) && b)
+      (all_filter (λ d. not (is_after (order (suc index) others c.1 d.1))) (λ d. nat_le (rank_in index d) (least index cs)) cs)
+      ∙ by (nat_le (rank_in index c) (least index cs)) refl
     where
-      by : (b : Bool) → nat_le (rank_in place c) (least place cs) ≡ b
-          → (b && list_all (λ d. not (nat_le (rank_in place d) (least place cs)) || not (is_after (order (suc place) others c.1 d.1))) cs)
-          ≡ list_all (λ d. not (is_after (ordering_then (nat_cmp (rank_in place c) (rank_in place d)) (order (suc place) others c.1 d.1)))) cs
+      by : (b : Bool) → nat_le (rank_in index c) (least index cs) ≡ b
+          → (b && list_all (λ d. not (nat_le (rank_in index d) (least index cs)) || not (is_after (order (suc index) others c.1 d.1))) cs)
+          ≡ list_all (λ d. not (is_after (ordering_then (nat_cmp (rank_in index c) (rank_in index d)) (order (suc index) others c.1 d.1)))) cs
       by true e =
-          let r : rank_in place c ≤ least place cs = grind (arith, nat_tests, e) in
-          all_same (λ d. not (nat_le (rank_in place d) (least place cs)) || not (is_after (order (suc place) others c.1 d.1)))
-          (λ d. not (is_after (ordering_then (nat_cmp (rank_in place c) (rank_in place d)) (order (suc place) others c.1 d.1)))) cs
-          (each_map (λ d. least place cs ≤ rank_in place d)
-          (λ d. (not (nat_le (rank_in place d) (least place cs)) || not (is_after (order (suc place) others c.1 d.1)))
-          ≡ not (is_after (ordering_then (nat_cmp (rank_in place c) (rank_in place d)) (order (suc place) others c.1 d.1))))
-          (λ d p. at_lowest (rank_in place c) (rank_in place d) (least place cs) (order (suc place) others c.1 d.1) (nat_cmp (rank_in place c) (rank_in place d)) refl low r p)
-          cs (above_least place cs))
-      by false e = no (list_all (λ d. not (is_after (ordering_then (nat_cmp (rank_in place c) (rank_in place d)) (order (suc place) others c.1 d.1)))) cs) refl
+          let r : rank_in index c ≤ least index cs = grind (arith, nat_tests, e) in
+          all_same (λ d. not (nat_le (rank_in index d) (least index cs)) || not (is_after (order (suc index) others c.1 d.1)))
+          (λ d. not (is_after (ordering_then (nat_cmp (rank_in index c) (rank_in index d)) (order (suc index) others c.1 d.1)))) cs
+          (each_map (λ d. least index cs ≤ rank_in index d)
+          (λ d. (not (nat_le (rank_in index d) (least index cs)) || not (is_after (order (suc index) others c.1 d.1)))
+          ≡ not (is_after (ordering_then (nat_cmp (rank_in index c) (rank_in index d)) (order (suc index) others c.1 d.1))))
+          (λ d p. at_lowest (rank_in index c) (rank_in index d) (least index cs) (order (suc index) others c.1 d.1) (nat_cmp (rank_in index c) (rank_in index d)) refl low r p)
+          cs (above_least index cs))
+      by false e = no (list_all (λ d. not (is_after (ordering_then (nat_cmp (rank_in index c) (rank_in index d)) (order (suc index) others c.1 d.1)))) cs) refl
         where
-          no : (t : Bool) → list_all (λ d. not (is_after (ordering_then (nat_cmp (rank_in place c) (rank_in place d)) (order (suc place) others c.1 d.1)))) cs ≡ t → false ≡ t
+          no : (t : Bool) → list_all (λ d. not (is_after (ordering_then (nat_cmp (rank_in index c) (rank_in index d)) (order (suc index) others c.1 d.1)))) cs ≡ t → false ≡ t
           no false f = refl
           no true f =
-              sym e ∙ sym (all_least place (rank_in place c) cs (rank_in_small place c))
-              ∙ all_more (λ d. not (is_after (ordering_then (nat_cmp (rank_in place c) (rank_in place d)) (order (suc place) others c.1 d.1)))) (λ d. nat_le (rank_in place c) (rank_in place d)) cs
-              (λ d g. not_after (rank_in place c) (rank_in place d) (order (suc place) others c.1 d.1) (nat_cmp (rank_in place c) (rank_in place d)) refl g) f
+              sym e ∙ sym (all_least index (rank_in index c) cs (rank_in_small index c))
+              ∙ all_more (λ d. not (is_after (ordering_then (nat_cmp (rank_in index c) (rank_in index d)) (order (suc index) others c.1 d.1)))) (λ d. nat_le (rank_in index c) (rank_in index d)) cs
+              (λ d g. not_after (rank_in index c) (rank_in index d) (order (suc index) others c.1 d.1) (nat_cmp (rank_in index c) (rank_in index d)) refl g) f
 
-  lowest_least : least_in_order (suc place) others (lowest place cs)
-      ≡ filter (λ c. list_all (λ d. not (is_after (ordering_then (nat_cmp (rank_in place c) (rank_in place d)) (order (suc place) others c.1 d.1)))) cs) cs
+  lowest_least : least_in_order (suc index) others (lowest index cs)
+      ≡ filter (λ c. list_all (λ d. not (is_after (ordering_then (nat_cmp (rank_in index c) (rank_in index d)) (order (suc index) others c.1 d.1)))) cs) cs
   lowest_least =
-      ap (least_in_order (suc place) others) (lowest_is place cs)
-      ∙ filter_filter (λ c. list_all (λ d. not (is_after (order (suc place) others c.1 d.1))) (upto place (least place cs) cs)) (λ c. nat_le (rank_in place c) (least place cs)) cs
-      ∙ filter_same (λ c. nat_le (rank_in place c) (least place cs) && list_all (λ d. not (is_after (order (suc place) others c.1 d.1))) (upto place (least place cs) cs))
-      (λ c. list_all (λ d. not (is_after (ordering_then (nat_cmp (rank_in place c) (rank_in place d)) (order (suc place) others c.1 d.1)))) cs) cs
-      (each_map (λ c. least place cs ≤ rank_in place c)
-      (λ c. (nat_le (rank_in place c) (least place cs) && list_all (λ d. not (is_after (order (suc place) others c.1 d.1))) (upto place (least place cs) cs))
-      ≡ list_all (λ d. not (is_after (ordering_then (nat_cmp (rank_in place c) (rank_in place d)) (order (suc place) others c.1 d.1)))) cs)
-      one_place cs (above_least place cs))
+      ap (least_in_order (suc index) others) (lowest_is index cs)
+      ∙ filter_filter (λ c. list_all (λ d. not (is_after (order (suc index) others c.1 d.1))) (upto index (least index cs) cs)) (λ c. nat_le (rank_in index c) (least index cs)) cs
+      ∙ filter_same (λ c. nat_le (rank_in index c) (least index cs) && list_all (λ d. not (is_after (order (suc index) others c.1 d.1))) (upto index (least index cs) cs))
+      (λ c. list_all (λ d. not (is_after (ordering_then (nat_cmp (rank_in index c) (rank_in index d)) (order (suc index) others c.1 d.1)))) cs) cs
+      (each_map (λ c. least index cs ≤ rank_in index c)
+      (λ c. (nat_le (rank_in index c) (least index cs) && list_all (λ d. not (is_after (order (suc index) others c.1 d.1))) (upto index (least index cs) cs))
+      ≡ list_all (λ d. not (is_after (ordering_then (nat_cmp (rank_in index c) (rank_in index d)) (order (suc index) others c.1 d.1)))) cs)
+      one_index cs (above_least index cs))
 
--- ---- all places
+-- ---- all indexes
 
-pub narrowed_least : (place : ℕ) (args : List ArgKind) (cs : List Candidate) → narrowed place args cs ≡ least_in_order place args cs
-narrowed_least place [] cs = sym (ap (λ b. filter (λ c. b) cs) (all_kept cs) ∙ kept cs)
-narrowed_least place (Null ∷ others) cs = narrowed_least (suc place) others cs
-narrowed_least place (a ∷ others) cs = narrowed_least (suc place) others (lowest place cs) ∙ lowest_least place others cs
+pub narrowed_least : (index : ℕ) (args : List ArgKind) (cs : List Candidate) → narrowed index args cs ≡ least_in_order index args cs
+narrowed_least index [] cs = sym (ap (λ b. filter (λ c. b) cs) (all_kept cs) ∙ kept cs)
+narrowed_least index (Null ∷ others) cs = narrowed_least (suc index) others cs
+narrowed_least index (a ∷ others) cs = narrowed_least (suc index) others (lowest index cs) ∙ lowest_least index others cs

@@ -9,5 +9,5 @@ pub mod Merged
 pub mod Named
 pub mod Narrowed
 pub mod Narrowing
-pub mod Places
+pub mod Indexes
 pub mod Sets

@@ -1,4 +1,4 @@
--- What tests that are joined say, and the items of a list from a place on.
+-- What tests that are joined say, and the items of a list from an index on.
 use Rattle.std.proofs.Common.{◌≡◌, ℕ, suc, zero, Bool, true, false, ◌&&◌, drop, List, [], ◌∷◌, refl, ap}
 use Rattle.std.specs.Prelude.{Some, slice_get}
 

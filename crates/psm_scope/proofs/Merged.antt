@@ -19,8 +19,8 @@ digit Null k = 0
 digit a k = rank k
 
 abbrev value : ℕ → List ArgKind → List ArgKind → ℕ
-value place [] ks = 0
-value place (a ∷ others) ks = digit a (slice_index_or ks place Null) * 3 ^ length others + value (suc place) others ks
+value index [] ks = 0
+value index (a ∷ others) ks = digit a (slice_index_or ks index Null) * 3 ^ length others + value (suc index) others ks
 
 digit_small : (a k : ArgKind) → digit a k ≤ 2
 digit_small SmallInt k = rank_small k
@@ -44,11 +44,11 @@ digit_below (suc zero) m u le lt = omega (arith, lt)
 digit_below (suc (suc zero)) m u le lt = omega (arith, lt)
 digit_below (suc (suc (suc d))) m u le lt = absurd (omega (arith, le))
 
-value_below : (place : ℕ) (args ks : List ArgKind) → value place args ks < 3 ^ length args
-value_below place [] ks = omega arith
-value_below place (a ∷ others) ks =
-    let r : digit a (slice_index_or ks place Null) * 3 ^ length others + value (suc place) others ks < 3 ^ length others * 3 =
-    digit_below (digit a (slice_index_or ks place Null)) (3 ^ length others) (value (suc place) others ks) (digit_small a (slice_index_or ks place Null)) (value_below (suc place) others ks) in
+value_below : (index : ℕ) (args ks : List ArgKind) → value index args ks < 3 ^ length args
+value_below index [] ks = omega arith
+value_below index (a ∷ others) ks =
+    let r : digit a (slice_index_or ks index Null) * 3 ^ length others + value (suc index) others ks < 3 ^ length others * 3 =
+    digit_below (digit a (slice_index_or ks index Null)) (3 ^ length others) (value (suc index) others ks) (digit_small a (slice_index_or ks index Null)) (value_below (suc index) others ks) in
     let p : 3 ^ suc (length others) ≡ 3 ^ length others * 3 = pow-suc 3 (length others) in
     omega (arith, r, p)
 
@@ -87,14 +87,14 @@ digits_order zero (suc (suc (suc e))) m u v p q lt lu = absurd (omega (arith, q)
 digits_order (suc zero) (suc (suc (suc e))) m u v p q lt lu = absurd (omega (arith, q))
 digits_order (suc (suc zero)) (suc (suc (suc e))) m u v p q lt lu = absurd (omega (arith, q))
 
-value_order : (place : ℕ) (args ks ls : List ArgKind) → order place args ks ls ≡ nat_cmp (value place args ks) (value place args ls)
-value_order place [] ks ls = refl
-value_order place (a ∷ others) ks ls =
-    let k = slice_index_or ks place Null in
-    let l = slice_index_or ls place Null in
-    (λ i. ordering_then (digit_order a k l i) (value_order (suc place) others ks ls i))
-    ∙ digits_order (digit a k) (digit a l) (3 ^ length others) (value (suc place) others ks) (value (suc place) others ls) (digit_small a k) (digit_small a l)
-    (value_below (suc place) others ks) (value_below (suc place) others ls)
+value_order : (index : ℕ) (args ks ls : List ArgKind) → order index args ks ls ≡ nat_cmp (value index args ks) (value index args ls)
+value_order index [] ks ls = refl
+value_order index (a ∷ others) ks ls =
+    let k = slice_index_or ks index Null in
+    let l = slice_index_or ls index Null in
+    (λ i. ordering_then (digit_order a k l i) (value_order (suc index) others ks ls i))
+    ∙ digits_order (digit a k) (digit a l) (3 ^ length others) (value (suc index) others ks) (value (suc index) others ls) (digit_small a k) (digit_small a l)
+    (value_below (suc index) others ks) (value_below (suc index) others ls)
 
 -- ---- one candidate more before the first list
 

@@ -26,7 +26,7 @@ pub is_none : {A : Type 0} (o : Option A) → is_some o ≡ false → o ≡ None
 is_none None e = refl
 is_none (Some x) e = absurd (true≢false e)
 
--- ---- places
+-- ---- indexes
 
 position_more : {A : Type 0} (p : A → Bool) (x : A) (xs : List A) → position p (x ∷ xs) ≡ (if p x then Some 0 else option_map suc (position p xs))
 position_more p x xs = by (p x)
@@ -106,7 +106,7 @@ pub last_named : {A : Type 0} (es : List (NameKey × A)) (new : List (NameKey ×
     → new ≡ es ++ (k, x) ∷ [] → map spelled new ≡ known ++ (k.name.now, x) ∷ []
 last_named {A} es new known k x view e = ap (map spelled) e ∙ map_last spelled es (k, x) ∙ ap (λ l. l ++ (k.name.now, x) ∷ []) view
 
--- ---- the name in a place
+-- ---- the name at an index
 
 numbered : {A : Type 0} (k : ℕ) (o : Option (ℕ × A)) → Some k ≡ option_map {T = ℕ × A} {U = ℕ} (λ p. p.0) o → (x : A) × ◌≡◌ {A = Option (ℕ × A)} o (Some (k, x))
 numbered k None e = cc
@@ -118,9 +118,9 @@ record Placed {A : Type 0} (i k : ℕ) (x : A) (xs : List (Spelling × A)) : Typ
   within : following < length xs
   known : option_map {T = Spelling × A} {U = A} (λ p. p.1) (slice_get xs following) ≡ Some x
 
-place_there : {A : Type 0} (i : ℕ) (n : Spelling) (xs : List (Spelling × A)) (k : ℕ) (x : A) → ◌≡◌ {A = Option (ℕ × A)} (index_named i n xs) (Some (k, x)) → Placed i k x xs
-place_there i n [] k x e = cc
-place_there {A} i n (p ∷ more) k x e = by (is_spelled n p.0) e (λ e. place_there (suc i) n more k x e)
+index_there : {A : Type 0} (i : ℕ) (n : Spelling) (xs : List (Spelling × A)) (k : ℕ) (x : A) → ◌≡◌ {A = Option (ℕ × A)} (index_named i n xs) (Some (k, x)) → Placed i k x xs
+index_there i n [] k x e = cc
+index_there {A} i n (p ∷ more) k x e = by (is_spelled n p.0) e (λ e. index_there (suc i) n more k x e)
   where
     by : (b : Bool) → ◌≡◌ {A = Option (ℕ × A)} (if b then Some (i, p.1) else index_named (suc i) n more) (Some (k, x))
         → (◌≡◌ {A = Option (ℕ × A)} (index_named (suc i) n more) (Some (k, x)) → Placed (suc i) k x more) → Placed i k x (p ∷ more)
@@ -138,7 +138,7 @@ module _ {A : Type 0} (n : Spelling) (xs : List (Spelling × A)) (k : ℕ) (e : 
   pub index_within : k < length xs
   index_within =
       let f = numbered k (index_named 0 n xs) e in
-      let r = place_there 0 n xs k f.0 f.1 in
+      let r = index_there 0 n xs k f.0 f.1 in
       let s : k ≡ 0 + r.following = r.sum in
       let w : r.following < length xs = r.within in
       omega (arith, s, w)
@@ -146,14 +146,14 @@ module _ {A : Type 0} (n : Spelling) (xs : List (Spelling × A)) (k : ℕ) (e : 
   pub index_known : (x : A) → option_map {T = Spelling × A} {U = A} (λ p. p.1) (slice_get xs k) ≡ Some x → ◌≡◌ {A = Option (ℕ × A)} (Some (k, x)) (index_named 0 n xs)
   index_known x g =
       let f = numbered k (index_named 0 n xs) e in
-      let r = place_there 0 n xs k f.0 f.1 in
+      let r = index_there 0 n xs k f.0 f.1 in
       let s : k ≡ 0 + r.following = r.sum in
       let j : r.following ≡ k = omega (arith, s) in
       let both : Some f.0 ≡ Some x = sym r.known ∙ ap (λ j. option_map {T = Spelling × A} {U = A} (λ p. p.1) (slice_get xs j)) j ∙ g in
       let same : x ≡ f.0 = cc in
       ap {B = Option (ℕ × A)} (λ x. Some (k, x)) same ∙ sym f.1
 
--- ---- what is known of a name, by its place
+-- ---- what is known of a name, by its index
 
 named_at : {A : Type 0} (i : ℕ) (n : Spelling) (xs : List (Spelling × A)) → named n xs ≡ option_map {T = ℕ × A} {U = A} (λ p. p.1) (index_named i n xs)
 named_at i n [] = refl

@@ -5,7 +5,7 @@ use Rattle.std.specs.Int.RustNames.{bit_and}
 use Rattle.std.specs.List.{filter}
 use Rattle.std.proofs.lemmas.Bool.Decides.{nat_tests}
 use Rattle.std.proofs.lemmas.Nat.{and-not, and_comm}
-use Rattle.psm_scope.specs.declared.blocks.PlaceSets.{PlaceSets}
+use Rattle.psm_scope.specs.declared.blocks.ParameterSets.{ParameterSets}
 use Rattle.psm_scope.specs.declared.kinds.ArgKind.{ArgKind}
 use Rattle.psm_scope.specs.declared.kinds.ArgKind.TheVariants.{SmallInt, Integer, Numeric, Char, VarChar, Null}
 use Rattle.psm_scope.specs.Choice.{Candidate, all_go, goes_to, is_number, is_text, lowest, rank, rank_in}
@@ -46,91 +46,91 @@ up_to_one r = by (nat_le 2 r) refl
     by true e = grind (arith, nat_tests, e)
     by false e = grind (arith, nat_tests, e)
 
-none_up_to : (place n : ℕ) (ds : List Candidate) → n < 2 → upto place n ds ≡ [] → n < least place ds
-none_up_to place n [] lt e = omega (arith, lt)
-none_up_to place n (c ∷ cs) lt e = by (nat_le (rank_in place c) n) refl e (none_up_to place n cs lt)
+none_up_to : (index n : ℕ) (ds : List Candidate) → n < 2 → upto index n ds ≡ [] → n < least index ds
+none_up_to index n [] lt e = omega (arith, lt)
+none_up_to index n (c ∷ cs) lt e = by (nat_le (rank_in index c) n) refl e (none_up_to index n cs lt)
   where
-    by : (b : Bool) → nat_le (rank_in place c) n ≡ b → (if b then c ∷ upto place n cs else upto place n cs) ≡ [] → (upto place n cs ≡ [] → n < least place cs)
-        → n < min (rank_in place c) (least place cs)
+    by : (b : Bool) → nat_le (rank_in index c) n ≡ b → (if b then c ∷ upto index n cs else upto index n cs) ≡ [] → (upto index n cs ≡ [] → n < least index cs)
+        → n < min (rank_in index c) (least index cs)
     by true f e rec = cc
     by false f e rec =
-        let rest : n < least place cs = rec e in
-        let own : n < rank_in place c = grind (arith, nat_tests, f) in
+        let rest : n < least index cs = rec e in
+        let own : n < rank_in index c = grind (arith, nat_tests, f) in
         omega (arith, rest, own)
 
-some_up_to : (place n : ℕ) (ds : List Candidate) (d : Candidate) (more : List Candidate) → upto place n ds ≡ d ∷ more → least place ds ≤ n
-some_up_to place n [] d more e = cc
-some_up_to place n (c ∷ cs) d more e = by (nat_le (rank_in place c) n) refl e (some_up_to place n cs d more)
+some_up_to : (index n : ℕ) (ds : List Candidate) (d : Candidate) (more : List Candidate) → upto index n ds ≡ d ∷ more → least index ds ≤ n
+some_up_to index n [] d more e = cc
+some_up_to index n (c ∷ cs) d more e = by (nat_le (rank_in index c) n) refl e (some_up_to index n cs d more)
   where
-    by : (b : Bool) → nat_le (rank_in place c) n ≡ b → (if b then c ∷ upto place n cs else upto place n cs) ≡ d ∷ more → (upto place n cs ≡ d ∷ more → least place cs ≤ n)
-        → min (rank_in place c) (least place cs) ≤ n
-    by true f e rec = let own : rank_in place c ≤ n = grind (arith, nat_tests, f) in omega (arith, own)
-    by false f e rec = let rest : least place cs ≤ n = rec e in omega (arith, rest)
+    by : (b : Bool) → nat_le (rank_in index c) n ≡ b → (if b then c ∷ upto index n cs else upto index n cs) ≡ d ∷ more → (upto index n cs ≡ d ∷ more → least index cs ≤ n)
+        → min (rank_in index c) (least index cs) ≤ n
+    by true f e rec = let own : rank_in index c ≤ n = grind (arith, nat_tests, f) in omega (arith, own)
+    by false f e rec = let rest : least index cs ≤ n = rec e in omega (arith, rest)
 
-least_small : (place : ℕ) (ds : List Candidate) → least place ds ≤ 2
-least_small place [] = omega arith
-least_small place (c ∷ cs) = let s : rank_in place c ≤ 2 = rank_in_small place c in omega (arith, s)
+least_small : (index : ℕ) (ds : List Candidate) → least index ds ≤ 2
+least_small index [] = omega arith
+least_small index (c ∷ cs) = let s : rank_in index c ≤ 2 = rank_in_small index c in omega (arith, s)
 
-all_up_to : (place : ℕ) (ds : List Candidate) → upto place 2 ds ≡ ds
-all_up_to place [] = refl
-all_up_to place (c ∷ cs) =
-    let s : rank_in place c ≤ 2 = rank_in_small place c in
-    let t : nat_le (rank_in place c) 2 ≡ true = grind (arith, nat_tests, s) in
-    ap (λ b. if b then c ∷ upto place 2 cs else upto place 2 cs) t ∙ ap (λ l. c ∷ l) (all_up_to place cs)
+all_up_to : (index : ℕ) (ds : List Candidate) → upto index 2 ds ≡ ds
+all_up_to index [] = refl
+all_up_to index (c ∷ cs) =
+    let s : rank_in index c ≤ 2 = rank_in_small index c in
+    let t : nat_le (rank_in index c) 2 ≡ true = grind (arith, nat_tests, s) in
+    ap (λ b. if b then c ∷ upto index 2 cs else upto index 2 cs) t ∙ ap (λ l. c ∷ l) (all_up_to index cs)
 
-module _ (place set : ℕ) (cs : List Candidate) (within : set ≤ all_of cs) where
+module _ (index set : ℕ) (cs : List Candidate) (within : set ≤ all_of cs) where
   abbrev ds : List Candidate
   ds = members set cs
 
   -- those of a rank up to n, and none below
-  lowest_at : (n low : ℕ) → low ≤ all_of cs → (low ≡ 0 → ⊥) → members low cs ≡ upto place n ds → n ≤ least place ds → members low cs ≡ lowest place ds
+  lowest_at : (n low : ℕ) → low ≤ all_of cs → (low ≡ 0 → ⊥) → members low cs ≡ upto index n ds → n ≤ least index ds → members low cs ≡ lowest index ds
   lowest_at n low le some is above = by (members low cs) refl
     where
-      by : (ms : List Candidate) → members low cs ≡ ms → members low cs ≡ lowest place ds
+      by : (ms : List Candidate) → members low cs ≡ ms → members low cs ≡ lowest index ds
       by [] e = absurd (some (none_zero low cs le e))
       by (m ∷ more) e =
-          let below : least place ds ≤ n = some_up_to place n ds m more (sym is ∙ e) in
-          let at : n ≡ least place ds = omega (arith, below, above) in
-          is ∙ ap (λ n. upto place n ds) at ∙ sym (lowest_is place ds)
+          let below : least index ds ≤ n = some_up_to index n ds m more (sym is ∙ e) in
+          let at : n ≡ least index ds = omega (arith, below, above) in
+          is ∙ ap (λ n. upto index n ds) at ∙ sym (lowest_is index ds)
 
-  module _ (first : ℕ) (firsts : members first cs ≡ filter (λ c. not (nat_le 1 (rank (parameter place c)))) ds) (first_within : first ≤ set) where
-    first_is : members first cs ≡ upto place 0 ds
-    first_is = firsts ∙ (λ i. filter (λ c. up_to_none (rank_in place c) i) ds)
+  module _ (first : ℕ) (firsts : members first cs ≡ filter (λ c. not (nat_le 1 (rank (parameter index c)))) ds) (first_within : first ≤ set) where
+    first_is : members first cs ≡ upto index 0 ds
+    first_is = firsts ∙ (λ i. filter (λ c. up_to_none (rank_in index c) i) ds)
 
     empty : (low : ℕ) → low ≡ 0 → members low cs ≡ []
     empty low e = ap (λ n. members n cs) e ∙ no_members cs
 
-    pub lowest_first : (first ≡ 0 → ⊥) → members first cs ≡ lowest place ds
+    pub lowest_first : (first ≡ 0 → ⊥) → members first cs ≡ lowest index ds
     lowest_first some = lowest_at 0 first (omega (arith, first_within, within)) some first_is (omega arith)
 
-    module _ (second : ℕ) (seconds : members second cs ≡ filter (λ c. not (nat_le 2 (rank (parameter place c)))) ds) (second_within : second ≤ set) where
-      second_is : members second cs ≡ upto place 1 ds
-      second_is = seconds ∙ (λ i. filter (λ c. up_to_one (rank_in place c) i) ds)
+    module _ (second : ℕ) (seconds : members second cs ≡ filter (λ c. not (nat_le 2 (rank (parameter index c)))) ds) (second_within : second ≤ set) where
+      second_is : members second cs ≡ upto index 1 ds
+      second_is = seconds ∙ (λ i. filter (λ c. up_to_one (rank_in index c) i) ds)
 
-      pub lowest_second : first ≡ 0 → (second ≡ 0 → ⊥) → members second cs ≡ lowest place ds
+      pub lowest_second : first ≡ 0 → (second ≡ 0 → ⊥) → members second cs ≡ lowest index ds
       lowest_second none some =
-          let above : 0 < least place ds = none_up_to place 0 ds (omega arith) (sym first_is ∙ empty first none) in
+          let above : 0 < least index ds = none_up_to index 0 ds (omega arith) (sym first_is ∙ empty first none) in
           lowest_at 1 second (omega (arith, second_within, within)) some second_is (omega (arith, above))
 
-      pub lowest_last : second ≡ 0 → ds ≡ lowest place ds
+      pub lowest_last : second ≡ 0 → ds ≡ lowest index ds
       lowest_last none =
-          let above : 1 < least place ds = none_up_to place 1 ds (omega arith) (sym second_is ∙ empty second none) in
-          let small : least place ds ≤ 2 = least_small place ds in
-          let at : 2 ≡ least place ds = omega (arith, above, small) in
-          sym (all_up_to place ds) ∙ ap (λ n. upto place n ds) at ∙ sym (lowest_is place ds)
+          let above : 1 < least index ds = none_up_to index 1 ds (omega arith) (sym second_is ∙ empty second none) in
+          let small : least index ds ≤ 2 = least_small index ds in
+          let at : 2 ≡ least index ds = omega (arith, above, small) in
+          sym (all_up_to index ds) ∙ ap (λ n. upto index n ds) at ∙ sym (lowest_is index ds)
 
 -- ---- argument by argument
 
--- those to whose parameters from a place on the arguments go
+-- those to whose parameters from an index on the arguments go
 abbrev pub going : ℕ → List ArgKind → List Candidate → List Candidate
-going place [] cs = cs
-going place (a ∷ others) cs = going (suc place) others (filter (λ c. goes_to a (parameter place c)) cs)
+going index [] cs = cs
+going index (a ∷ others) cs = going (suc index) others (filter (λ c. goes_to a (parameter index c)) cs)
 
-drop_at : (ks : List ArgKind) (place n : ℕ) → length (drop place ks) ≡ suc n → (drop place ks ≡ slice_index_or ks place Null ∷ drop (suc place) ks) × (length (drop (suc place) ks) ≡ n)
+drop_at : (ks : List ArgKind) (index n : ℕ) → length (drop index ks) ≡ suc n → (drop index ks ≡ slice_index_or ks index Null ∷ drop (suc index) ks) × (length (drop (suc index) ks) ≡ n)
 drop_at [] zero n e = absurd (omega (arith, e))
-drop_at [] (suc place) n e = absurd (omega (arith, e))
+drop_at [] (suc index) n e = absurd (omega (arith, e))
 drop_at (k ∷ ks) zero n e = (refl, omega (arith, e))
-drop_at (k ∷ ks) (suc place) n e = drop_at ks place n e
+drop_at (k ∷ ks) (suc index) n e = drop_at ks index n e
 
 none_left : (ks : List ArgKind) → length ks ≡ 0 → all_go [] ks ≡ true
 none_left [] e = refl
@@ -140,23 +140,23 @@ each_same : (P : Candidate → Type 0) (p q : Candidate → Bool) → ((c : Cand
 each_same P p q h [] e = tt
 each_same P p q h (c ∷ cs) e = (h c e.0, each_same P p q h cs e.1)
 
-each_left : (place n : ℕ) (cs : List Candidate) → Each (λ c. length (drop place c.1) ≡ suc n) cs → Each (λ c. length (drop (suc place) c.1) ≡ n) cs
-each_left place n [] e = tt
-each_left place n (c ∷ cs) e = ((drop_at c.1 place n e.0).1, each_left place n cs e.1)
+each_left : (index n : ℕ) (cs : List Candidate) → Each (λ c. length (drop index c.1) ≡ suc n) cs → Each (λ c. length (drop (suc index) c.1) ≡ n) cs
+each_left index n [] e = tt
+each_left index n (c ∷ cs) e = ((drop_at c.1 index n e.0).1, each_left index n cs e.1)
 
-going_from : (place : ℕ) (args : List ArgKind) (cs : List Candidate) → Each (λ c. length (drop place c.1) ≡ length args) cs → going place args cs ≡ filter (λ c. all_go args (drop place c.1)) cs
-going_from place [] cs e =
-    sym (filter_same (λ c. all_go [] (drop place c.1)) (λ c. true) cs
-    (each_same (λ c. length (drop place c.1) ≡ 0) (λ c. all_go [] (drop place c.1)) (λ c. true) (λ c l. none_left (drop place c.1) l) cs e)
+going_from : (index : ℕ) (args : List ArgKind) (cs : List Candidate) → Each (λ c. length (drop index c.1) ≡ length args) cs → going index args cs ≡ filter (λ c. all_go args (drop index c.1)) cs
+going_from index [] cs e =
+    sym (filter_same (λ c. all_go [] (drop index c.1)) (λ c. true) cs
+    (each_same (λ c. length (drop index c.1) ≡ 0) (λ c. all_go [] (drop index c.1)) (λ c. true) (λ c l. none_left (drop index c.1) l) cs e)
     ∙ kept cs)
-going_from place (a ∷ others) cs e =
-    going_from (suc place) others (filter (λ c. goes_to a (parameter place c)) cs)
-    (each_kept (λ c. length (drop (suc place) c.1) ≡ length others) (λ c. length (drop (suc place) c.1) ≡ length others) (λ c. goes_to a (parameter place c)) (λ c l is. l) cs
-    (each_left place (length others) cs e))
-    ∙ filter_filter (λ c. all_go others (drop (suc place) c.1)) (λ c. goes_to a (parameter place c)) cs
-    ∙ filter_same (λ c. goes_to a (parameter place c) && all_go others (drop (suc place) c.1)) (λ c. all_go (a ∷ others) (drop place c.1)) cs
-    (each_same (λ c. length (drop place c.1) ≡ suc (length others)) (λ c. goes_to a (parameter place c) && all_go others (drop (suc place) c.1)) (λ c. all_go (a ∷ others) (drop place c.1))
-    (λ c l. sym (ap (all_go (a ∷ others)) (drop_at c.1 place (length others) l).0)) cs e)
+going_from index (a ∷ others) cs e =
+    going_from (suc index) others (filter (λ c. goes_to a (parameter index c)) cs)
+    (each_kept (λ c. length (drop (suc index) c.1) ≡ length others) (λ c. length (drop (suc index) c.1) ≡ length others) (λ c. goes_to a (parameter index c)) (λ c l is. l) cs
+    (each_left index (length others) cs e))
+    ∙ filter_filter (λ c. all_go others (drop (suc index) c.1)) (λ c. goes_to a (parameter index c)) cs
+    ∙ filter_same (λ c. goes_to a (parameter index c) && all_go others (drop (suc index) c.1)) (λ c. all_go (a ∷ others) (drop index c.1)) cs
+    (each_same (λ c. length (drop index c.1) ≡ suc (length others)) (λ c. goes_to a (parameter index c) && all_go others (drop (suc index) c.1)) (λ c. all_go (a ∷ others) (drop index c.1))
+    (λ c l. sym (ap (all_go (a ∷ others)) (drop_at c.1 index (length others) l).0)) cs e)
 
 have_each : (n : ℕ) (cs : List Candidate) → HaveCount n cs → Each (λ c. length (drop 0 c.1) ≡ n) cs
 have_each n [] h = tt

@@ -2,7 +2,7 @@
 use Rattle.std.specs.Prelude.{◌≡◌, ◌<◌, ◌≤◌, ℕ, ◌+◌, ◌*◌, ◌/◌, ◌%◌, ◌++◌, Bool, true, false, nat_eq, nat_le, length, map, slice_index_or, List, [], ◌∷◌, Option, Some, None, if◌then◌else◌}
 use Rattle.psm_scope.specs.declared.blocks.Block.{Block}
 use Rattle.psm_scope.specs.declared.blocks.Group.{Group}
-use Rattle.psm_scope.specs.declared.blocks.PlaceSets.{PlaceSets}
+use Rattle.psm_scope.specs.declared.blocks.ParameterSets.{ParameterSets}
 use Rattle.psm_scope.specs.declared.kinds.ArgKind.{ArgKind}
 use Rattle.psm_scope.specs.declared.kinds.ArgKind.TheVariants.{Null}
 use Rattle.psm_scope.specs.Choice.{Candidate, is_number, is_text, rank}
@@ -25,35 +25,35 @@ members set (c ∷ cs) = if nat_eq (set % 2) 1 then c ∷ members (set / 2) cs e
 
 -- ---- blocks
 
--- the kind of the parameter in a place
+-- the kind of the parameter at an index
 abbrev pub parameter : ℕ → Candidate → ArgKind
-parameter place c = slice_index_or c.1 place Null
+parameter index c = slice_index_or c.1 index Null
 
--- the sets of one place
-pub record HasSets (place : ℕ) (cs : List Candidate) (s : PlaceSets) : Type 0 where
-  pub numbers : s.numbers ≡ set_of (λ c. is_number (parameter place c)) cs
-  pub texts : s.texts ≡ set_of (λ c. is_text (parameter place c)) cs
-  pub from_first : s.from_first ≡ set_of (λ c. nat_le 1 (rank (parameter place c))) cs
-  pub from_second : s.from_second ≡ set_of (λ c. nat_le 2 (rank (parameter place c))) cs
+-- the sets of one parameter
+pub record HasSets (index : ℕ) (cs : List Candidate) (s : ParameterSets) : Type 0 where
+  pub numbers : s.numbers ≡ set_of (λ c. is_number (parameter index c)) cs
+  pub texts : s.texts ≡ set_of (λ c. is_text (parameter index c)) cs
+  pub from_first : s.from_first ≡ set_of (λ c. nat_le 1 (rank (parameter index c))) cs
+  pub from_second : s.from_second ≡ set_of (λ c. nat_le 2 (rank (parameter index c))) cs
 
 -- the functions of a block, in order
 pub record IsBlock (cs : List Candidate) (b : Block) : Type 0 where
   pub few : length cs ≤ 64
   pub numbers : b.numbers.items ≡ map (λ c. c.0) cs
   pub all : b.all ≡ set_of (λ c. true) cs
-  pub sets : (place : ℕ) (d : PlaceSets) → place < length b.places.items → HasSets place cs (slice_index_or b.places.items place d)
+  pub sets : (index : ℕ) (d : ParameterSets) → index < length b.parameter_sets.items → HasSets index cs (slice_index_or b.parameter_sets.items index d)
 
--- blocks with so many places each, and their functions in order
+-- blocks of `count` parameters a function, and their functions in order
 abbrev pub AreBlocks : ℕ → List Candidate → List Block → Type 0
 AreBlocks count cs [] = cs ≡ []
-AreBlocks count cs (b ∷ bs) = (first : List Candidate) × (rest : List Candidate) × (first ++ rest ≡ cs) × (length b.places.items ≡ count) × IsBlock first b × AreBlocks count rest bs
+AreBlocks count cs (b ∷ bs) = (first : List Candidate) × (rest : List Candidate) × (first ++ rest ≡ cs) × (length b.parameter_sets.items ≡ count) × IsBlock first b × AreBlocks count rest bs
 
 -- no group stands for no functions
 abbrev pub IsGroup : ℕ → List Candidate → Option Group → Type 0
 IsGroup count cs None = cs ≡ []
 IsGroup count cs (Some g) = AreBlocks count cs g.blocks.items
 
--- each function has so many parameters
+-- each function has `count` parameters
 abbrev pub HaveCount : ℕ → List Candidate → Type 0
 HaveCount count [] = Unit {0}
 HaveCount count (c ∷ cs) = (length c.1 ≡ count) × HaveCount count cs

@@ -79,23 +79,23 @@ candidates n name args [] = []
 candidates n name args (s ∷ others) = let more = candidates (suc n) name args others in
     if is_candidate name args s then (n, s.kinds) ∷ more else more
 
--- the rank of the parameter in a place
+-- the rank of the parameter at an index
 abbrev pub rank_in : ℕ → Candidate → ℕ
-rank_in place c = rank (slice_index_or c.1 place Null)
+rank_in index c = rank (slice_index_or c.1 index Null)
 
--- those with the lowest kind in a place
+-- those with the lowest kind at an index
 abbrev pub lowest : ℕ → List Candidate → List Candidate
-lowest place cs = filter (λ c. list_all (λ d. nat_le (rank_in place c) (rank_in place d)) cs) cs
+lowest index cs = filter (λ c. list_all (λ d. nat_le (rank_in index c) (rank_in index d)) cs) cs
 
 -- NULL has no say
 abbrev pub narrowed_by : ArgKind → ℕ → List Candidate → List Candidate
-narrowed_by Null place cs = cs
-narrowed_by a place cs = lowest place cs
+narrowed_by Null index cs = cs
+narrowed_by a index cs = lowest index cs
 
--- for each argument from the left, those with the lowest kind in its place stay
+-- for each argument from the left, those with the lowest kind at its index stay
 abbrev pub narrowed : ℕ → List ArgKind → List Candidate → List Candidate
-narrowed place [] cs = cs
-narrowed place (a ∷ others) cs = narrowed (suc place) others (narrowed_by a place cs)
+narrowed index [] cs = cs
+narrowed index (a ∷ others) cs = narrowed (suc index) others (narrowed_by a index cs)
 
 -- ---- the choice
 

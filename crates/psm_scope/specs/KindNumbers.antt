@@ -1,4 +1,4 @@
--- Kinds by their numbers, by which two are told apart.
+-- Kinds by their numbers, by which two are distinguished.
 use Rattle.std.specs.Prelude.{ℕ, Bool, nat_eq}
 use Rattle.psm_scope.specs.declared.kinds.ArgKind.{ArgKind}
 use Rattle.psm_scope.specs.declared.kinds.ArgKind.TheVariants.{SmallInt, Integer, Numeric, Char, VarChar, Null}

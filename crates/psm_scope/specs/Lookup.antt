@@ -9,7 +9,7 @@ abbrev pub named : {A : Type 0} → Spelling → List (Spelling × A) → Option
 named n [] = None
 named n (p ∷ more) = if is_spelled n p.0 then Some p.1 else named n more
 
--- the place, counted from i, of the first of that name
+-- the index, counted from i, of the first of that name
 abbrev pub index_named : {A : Type 0} → ℕ → Spelling → List (Spelling × A) → Option (ℕ × A)
 index_named i n [] = None
 index_named i n (p ∷ more) = if is_spelled n p.0 then Some (i, p.1) else index_named (suc i) n more

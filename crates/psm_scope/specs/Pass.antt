@@ -14,10 +14,10 @@ abbrev pub order_in : ArgKind → ArgKind → ArgKind → Ordering
 order_in Null k l = Equal
 order_in a k l = nat_cmp (rank k) (rank l)
 
--- how the parameters of two functions compare from a place on: the first place in which they differ decides
+-- how the parameters of two functions compare from an index on: the first one at which they differ decides
 abbrev pub order : ℕ → List ArgKind → List ArgKind → List ArgKind → Ordering
-order place [] ks ls = Equal
-order place (a ∷ others) ks ls = ordering_then (order_in a (slice_index_or ks place Null) (slice_index_or ls place Null)) (order (suc place) others ks ls)
+order index [] ks ls = Equal
+order index (a ∷ others) ks ls = ordering_then (order_in a (slice_index_or ks index Null) (slice_index_or ls index Null)) (order (suc index) others ks ls)
 
 -- those before which no other one comes
 abbrev pub is_after : Ordering → Bool
@@ -26,7 +26,7 @@ is_after Equal = false
 is_after Greater = true
 
 abbrev pub least_in_order : ℕ → List ArgKind → List Candidate → List Candidate
-least_in_order place args cs = filter (λ c. list_all (λ d. not (is_after (order place args c.1 d.1))) cs) cs
+least_in_order index args cs = filter (λ c. list_all (λ d. not (is_after (order index args c.1 d.1))) cs) cs
 
 -- what stays of a candidate before others that are alike, by its order beside them
 abbrev pub joined : Ordering → Candidate → List Candidate → List Candidate
@@ -35,8 +35,8 @@ joined Equal c cs = c ∷ cs
 joined Greater c cs = cs
 
 abbrev pub added : ℕ → List ArgKind → Candidate → List Candidate → List Candidate
-added place args c [] = c ∷ []
-added place args c (b ∷ more) = joined (order place args c.1 b.1) c (b ∷ more)
+added index args c [] = c ∷ []
+added index args c (b ∷ more) = joined (order index args c.1 b.1) c (b ∷ more)
 
 -- what stays of two lists of candidates that are alike, by the order of the second beside the first
 abbrev pub stays : Ordering → List Candidate → List Candidate → List Candidate
@@ -46,9 +46,9 @@ stays Greater bs cs = bs
 
 -- what stays of candidates that are alike and of others that come after them
 abbrev pub merged : ℕ → List ArgKind → List Candidate → List Candidate → List Candidate
-merged place args [] cs = cs
-merged place args (b ∷ bs) [] = b ∷ bs
-merged place args (b ∷ bs) (c ∷ cs) = stays (order place args c.1 b.1) (b ∷ bs) (c ∷ cs)
+merged index args [] cs = cs
+merged index args (b ∷ bs) [] = b ∷ bs
+merged index args (b ∷ bs) (c ∷ cs) = stays (order index args c.1 b.1) (b ∷ bs) (c ∷ cs)
 
 -- ---- what the pass keeps of them: the first, and whether there is another one
 

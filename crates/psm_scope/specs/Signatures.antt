@@ -16,7 +16,7 @@ use Rattle.std.specs.Cow.{cow_slice_items}
 abbrev pub signature_of : Function → Signature
 signature_of f = record { name = f.name.now; kinds = f.kinds }
 
--- whether a function has the name and so many parameters
+-- whether a function has the name and n parameters
 abbrev pub is_called : List ℕ → ℕ → Signature → Bool
 is_called name count s = pointwise nat_eq name s.name && nat_eq count (length s.kinds)
 

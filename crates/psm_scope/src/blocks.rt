@@ -12,9 +12,9 @@ use std::alloc::{AllocError, Global};
 /// How many functions a block has at most.
 const FULL: usize = 64;
 
-/// The functions of a block by their parameters in one place. Bit k of a set is that of function k of the block.
+/// The functions of a block by their parameters at one index. Bit k of a set is that of function k of the block.
 #[derive(Clone, Copy, Debug)]
-struct PlaceSets {
+struct ParameterSets {
     /// Those with a number.
     numbers: u64,
     /// Those with a text.
@@ -25,8 +25,8 @@ struct PlaceSets {
     from_second: u64,
 }
 
-impl PlaceSets {
-    const NONE: PlaceSets = PlaceSets {
+impl ParameterSets {
+    const NONE: ParameterSets = ParameterSets {
         numbers: 0,
         texts: 0,
         from_first: 0,
@@ -34,10 +34,10 @@ impl PlaceSets {
     };
 
     // With one function more, whose bit is given.
-    fn with(self, kind: ArgKind, bit: u64) -> PlaceSets
-        ensures { (place : ℕ) (cs : Seq Candidate) (c : Candidate) → length cs < 64 → bit ≡ 2 ^ length cs → kind ≡ parameter place c → HasSets place cs self → HasSets place (cs ++ c ∷ []) result }
+    fn with(self, kind: ArgKind, bit: u64) -> ParameterSets
+        ensures { (index : ℕ) (cs : Seq Candidate) (c : Candidate) → length cs < 64 → bit ≡ 2 ^ length cs → kind ≡ parameter index c → HasSets index cs self → HasSets index (cs ++ c ∷ []) result }
     {
-        PlaceSets {
+        ParameterSets {
             numbers: with_bit(self.numbers, bit, is_number(kind)),
             texts: with_bit(self.texts, bit, is_text(kind)),
             from_first: with_bit(self.from_first, bit, kind.rank() >= 1),
@@ -47,7 +47,7 @@ impl PlaceSets {
 
     // Those of a set to whose parameters an argument goes.
     fn reached(self, arg: ArgKind, set: u64) -> u64
-        ensures members { (place : ℕ) (cs : Seq Candidate) → HasSets place cs self → members result cs ≡ filter (λ c. goes_to arg (parameter place c)) (members set cs) }
+        ensures members { (index : ℕ) (cs : Seq Candidate) → HasSets index cs self → members result cs ≡ filter (λ c. goes_to arg (parameter index c)) (members set cs) }
         ensures within { result ≤ set }
     {
         match arg {
@@ -62,7 +62,7 @@ impl PlaceSets {
 
     // Those of a set that stay beside an argument: those with the lowest kind, and all where it is NULL.
     fn narrowed(self, arg: ArgKind, set: u64) -> u64
-        ensures members { (place : ℕ) (cs : Seq Candidate) → HasSets place cs self → set ≤ set_of (λ c. true) cs → members result cs ≡ narrowed_by arg place (members set cs) }
+        ensures members { (index : ℕ) (cs : Seq Candidate) → HasSets index cs self → set ≤ set_of (λ c. true) cs → members result cs ≡ narrowed_by arg index (members set cs) }
         ensures within { result ≤ set }
     {
         match arg {
@@ -77,7 +77,7 @@ impl PlaceSets {
 
     // Those of a set with the lowest kind.
     fn lowest(self, set: u64) -> u64
-        ensures members { (place : ℕ) (cs : Seq Candidate) → HasSets place cs self → set ≤ set_of (λ c. true) cs → members result cs ≡ lowest place (members set cs) }
+        ensures members { (index : ℕ) (cs : Seq Candidate) → HasSets index cs self → set ≤ set_of (λ c. true) cs → members result cs ≡ lowest index (members set cs) }
         ensures within { result ≤ set }
     {
         let first = without(set, self.from_first);
@@ -130,21 +130,21 @@ pub(crate) struct Block {
     numbers: Vec<u32>,
     /// The set of all.
     all: u64,
-    places: Vec<PlaceSets>,
+    parameter_sets: Vec<ParameterSets>,
 }
 
 impl Block {
-    // No functions, which have so many parameters.
+    // No functions, of `count` parameters each.
     fn new(alloc: Global, count: usize) -> Result<Block, AllocError>
         ensures block { IfOk result (λ block. IsBlock [] block) }
-        ensures places { IfOk result (λ block. length block.places.items ≡ count) }
+        ensures parameter_sets { IfOk result (λ block. length block.parameter_sets.items ≡ count) }
     {
-        let mut places = Vec::with_capacity(alloc, count)?;
-        places.resize(count, PlaceSets::NONE)?;
+        let mut parameter_sets = Vec::with_capacity(alloc, count)?;
+        parameter_sets.resize(count, ParameterSets::NONE)?;
         Ok(Block {
             numbers: Vec::new(alloc),
             all: 0,
-            places,
+            parameter_sets,
         })
     }
 
@@ -157,23 +157,23 @@ impl Block {
     // Puts a function after the others. Without memory for it nothing changes.
     fn push(&mut self, number: u32, kinds: &[ArgKind]) -> Result<(), AllocError>
         requires room { length self.old.numbers.items < 64 }
-        requires count { length kinds.now ≡ length self.old.places.items }
+        requires count { length kinds.now ≡ length self.old.parameter_sets.items }
         ensures ok { OnOk result ((cs : Seq Candidate) → IsBlock cs self.old → IsBlock (cs ++ (number, kinds.now) ∷ []) self.new) }
         ensures err { OnErr result ((cs : Seq Candidate) → IsBlock cs self.old → IsBlock cs self.new) }
-        ensures places { length self.new.places.items ≡ length self.old.places.items }
+        ensures parameter_sets { length self.new.parameter_sets.items ≡ length self.old.parameter_sets.items }
     {
         let bit = 1 << self.numbers.len();
         self.numbers.push(number)?;
         self.all |= bit;
-        for (place, kind) in kinds.iter().enumerate() {
-            self.places[place] = self.places[place].with(*kind, bit);
+        for (index, kind) in kinds.iter().enumerate() {
+            self.parameter_sets[index] = self.parameter_sets[index].with(*kind, bit);
         }
         Ok(())
     }
 
     /// The candidates for arguments of these kinds that stay after narrowing: the first, and whether there are more.
     pub(crate) fn best(&self, args: &[ArgKind]) -> Option<Exact>
-        requires places { length args.now ≡ length self.now.places.items }
+        requires parameter_sets { length args.now ≡ length self.now.parameter_sets.items }
         requires block { (cs : Seq Candidate) × IsBlock cs self.now }
         ensures { (cs : Seq Candidate) → IsBlock cs self.now → HaveCount (length args.now) cs → result ≡ exact_of (narrowed 0 args.now (filter (λ c. all_go args.now c.1) cs)) }
     {
@@ -189,26 +189,26 @@ impl Block {
 
     // Those to whose parameters the arguments go.
     fn reached(&self, args: &[ArgKind]) -> u64
-        requires { length args.now ≡ length self.now.places.items }
+        requires { length args.now ≡ length self.now.parameter_sets.items }
         ensures members { (cs : Seq Candidate) → IsBlock cs self.now → HaveCount (length args.now) cs → members result cs ≡ filter (λ c. all_go args.now c.1) cs }
         ensures within { result ≤ self.now.all }
     {
         let mut set = self.all;
-        for (place, arg) in args.iter().enumerate() {
-            set = self.places[place].reached(*arg, set);
+        for (index, arg) in args.iter().enumerate() {
+            set = self.parameter_sets[index].reached(*arg, set);
         }
         set
     }
 
     // Those of a set that stay after narrowing.
     fn narrowed(&self, args: &[ArgKind], set: u64) -> u64
-        requires { length args.now ≡ length self.now.places.items }
+        requires { length args.now ≡ length self.now.parameter_sets.items }
         ensures members { (cs : Seq Candidate) → IsBlock cs self.now → set ≤ set_of (λ c. true) cs → members result cs ≡ narrowed 0 args.now (members set cs) }
         ensures within { result ≤ set }
     {
         let mut stay = set;
-        for (place, arg) in args.iter().enumerate() {
-            stay = self.places[place].narrowed(*arg, stay);
+        for (index, arg) in args.iter().enumerate() {
+            stay = self.parameter_sets[index].narrowed(*arg, stay);
         }
         stay
     }

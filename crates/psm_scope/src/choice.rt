@@ -25,8 +25,8 @@ struct Best<'a> {
 /// the parameter's: upwards in SMALLINT, INTEGER, NUMERIC; upwards in CHAR, VARCHAR; NULL goes to all. For each argument that isn't
 /// NULL, from the left, the candidates with the lowest kind of parameter stay. `NoRoutine` comes exactly where there is no candidate,
 /// and `Ambiguous` exactly where more than one stays. It takes no memory. Where no argument is NULL, a function with exactly the
-/// arguments' kinds is found at once. Else the functions of that name and number of parameters are looked at, 64 at a time: for each
-/// 64 of them the time is that of so many steps as there are arguments.
+/// arguments' kinds is found at once. Else the functions of that name and number of parameters are looked at, 64 at a time: for every
+/// 64 of them it takes as many steps as there are arguments.
 pub fn choose_routine(
     routines: &Signatures,
     name: &Name,
@@ -144,8 +144,8 @@ fn order(args: &[ArgKind], kinds: &[ArgKind], others: &[ArgKind]) -> Ordering
     requires others { length others.now ≡ length args.now }
     ensures { result ≡ order 0 args.now kinds.now others.now }
 {
-    for (place, arg) in args.iter().enumerate() {
-        match order_in(*arg, kinds[place], others[place]) {
+    for (index, arg) in args.iter().enumerate() {
+        match order_in(*arg, kinds[index], others[index]) {
             Ordering::Equal => {}
             decided => return decided,
         }

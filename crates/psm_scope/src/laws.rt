@@ -6,7 +6,7 @@ ghost use Rattle.psm_scope.specs.Choice.{Candidate, Signature, chosen, narrowed,
 ghost use Rattle.psm_scope.specs.Exact.{exact, is_typed};
 ghost use Rattle.psm_scope.specs.Pass.{added, least_in_order};
 
-/// Narrowing place by place keeps the least candidates in one order: that of their kinds, from the left, in the places whose argument
+/// Narrowing parameter by parameter keeps the least candidates in one order: that of their kinds, from the left, where the argument
 /// isn't NULL.
 pub fn narrowing_keeps_the_least()
     ensures { (args : List ArgKind) (cs : List Candidate) → narrowed 0 args cs ≡ least_in_order 0 args cs }

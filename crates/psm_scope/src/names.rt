@@ -44,33 +44,33 @@ impl<'a, T> Names<'a, T> {
         self.known.len() as u32
     }
 
-    /// The name in a place.
-    pub fn name(&self, place: u32) -> &'a Name
-        requires { place < length self.now }
-        ensures { option_map (λ p. p.0) (slice_get self.now place) ≡ Some result.now }
+    /// The name at an index.
+    pub fn name(&self, index: u32) -> &'a Name
+        requires { index < length self.now }
+        ensures { option_map (λ p. p.0) (slice_get self.now index) ≡ Some result.now }
     {
-        match self.known.get_index(place as usize) {
+        match self.known.get_index(index as usize) {
             None => unreachable!(),
             Some((key, _)) => key.name,
         }
     }
 
-    /// The place of a name, counted from 0.
-    pub fn place(&self, name: &Name) -> Option<u32>
+    /// The index of a name, counted from 0.
+    pub fn index(&self, name: &Name) -> Option<u32>
         ensures { result ≡ option_map (λ p. p.0) (index_named 0 name.now self.now) }
     {
         match self.known.get_index_of(&NameKey { name }) {
             None => None,
-            Some(place) => Some(place as u32),
+            Some(index) => Some(index as u32),
         }
     }
 
-    /// What is known of the name in a place.
-    pub fn at(&self, place: u32) -> &T
-        requires { place < length self.now }
-        ensures { option_map (λ p. p.1) (slice_get self.now place) ≡ Some result.now }
+    /// What is known of the name at an index.
+    pub fn at(&self, index: u32) -> &T
+        requires { index < length self.now }
+        ensures { option_map (λ p. p.1) (slice_get self.now index) ≡ Some result.now }
     {
-        match self.known.get_index(place as usize) {
+        match self.known.get_index(index as usize) {
             None => unreachable!(),
             Some((_, known)) => known,
         }
@@ -82,9 +82,9 @@ impl<'a, T> Names<'a, T> {
     pub fn lent(&self, name: &Name) -> Option<&T>
         ensures { option_copied result ≡ named name.now self.now }
     {
-        match self.place(name) {
+        match self.index(name) {
             None => None,
-            Some(place) => Some(self.at(place)),
+            Some(index) => Some(self.at(index)),
         }
     }
 }
@@ -97,13 +97,13 @@ impl<'a, T: Copy> Names<'a, T> {
         self.known.get(&NameKey { name }).copied()
     }
 
-    /// The place of a name, counted from 0, and what is known of it.
+    /// The index of a name, counted from 0, and what is known of it.
     pub fn find(&self, name: &Name) -> Option<(u32, T)>
         ensures { result ≡ index_named 0 name.now self.now }
     {
         match self.known.get_full(&NameKey { name }) {
             None => None,
-            Some((place, _, known)) => Some((place as u32, *known)),
+            Some((index, _, known)) => Some((index as u32, *known)),
         }
     }
 }

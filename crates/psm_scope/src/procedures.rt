@@ -88,7 +88,7 @@ impl<'a> Procedures<'a> {
         };
         match self.known.get_index_of(&key) {
             None => None,
-            Some(place) => match self.known.get_index(place) {
+            Some(index) => match self.known.get_index(index) {
                 None => None,
                 Some((_, known)) => Some(known),
             },

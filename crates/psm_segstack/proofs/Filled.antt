@@ -75,7 +75,7 @@ module _ {A : Type 0} where
   get_right (x ∷ xs) ys i zero e = let never : ⊥ = omega (arith, e) in absurd never
   get_right (x ∷ xs) ys i (suc k) e = get_right xs ys i k (omega (arith, e))
 
-  -- the item at a place of a segment
+  -- the item at an index of a segment
   pub get-joined : (segments : List (List A)) (n j i : ℕ) → AreFilled segments n → i < 1024 → 1024 * j + i < n →
       slice_get (joined segments) (1024 * j + i) ≡ slice_get (get_or segments j []) i
   get-joined [] n j i f h l = let never : ⊥ = omega (arith, l, f 0) in absurd never

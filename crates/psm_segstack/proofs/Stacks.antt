@@ -9,7 +9,7 @@ use Rattle.psm_segstack.specs.Segments.{AreFilled, joined}
 use Rattle.psm_segstack.specs.Stack.{Stack, stack_of}
 use Rattle.psm_segstack.proofs.Filled.{length-joined, filled_within, joined_pushed, filled_set, get-joined, no_items}
 
--- a place is in a segment, and there at a place below its room
+-- an index is in a segment, and there at an index below its room
 pub in_segment : (n : ℕ) → n % 1024 < 1024
 in_segment n = mod-lt n (omega arith)
 
@@ -55,7 +55,7 @@ module _ {A : Type 0} where
   pub item_within : (segments : List (List A)) (n at : ℕ) → AreFilled segments n → at < n → at / 1024 < length segments
   item_within segments n at f h = segment_within at (length segments) (omega (arith, h, filled_within segments n f))
 
-  -- the item at a place
+  -- the item at an index
   pub got : (segments : List (List A)) (n at : ℕ) (v : Stack A) (s : List A) → AreFilled segments n → stack_of segments n ≡ v → at < n → s ≡ get_or segments (at / 1024) s →
       slice_get s (at % 1024) ≡ slice_get v.items at
   got segments n at v s f is h e =

@@ -30,7 +30,7 @@ impl<T> Model for Segment<T> {
 }
 
 impl<T> Segment<T> {
-    /// Lends the item at a place.
+    /// Lends the item at an index.
     pub(crate) fn get(&self, at: usize) -> Option<&T>
         ensures { option_copied result ≡ slice_get self.now at }
     {

@@ -38,7 +38,7 @@ impl<T> SegStack<T> {
         self.len
     }
 
-    /// Lends the item at a place, the first at 0.
+    /// Lends the item at an index, the first at 0.
     pub fn get(&self, at: usize) -> Option<&T>
         ensures { option_copied result ≡ slice_get self.now.items at }
     {

@@ -60,20 +60,20 @@ module _ (code : RawCode) (k n : ℕ) (values : List Datum) (tables : List Conte
 
   ends : (e : End) (last : Machine) → Ran code n values tables turns e last → is_due e ≡ true
       → Ends (goes_after e) (First ++ end_lines r.parameters e) (following e tables last.tables) (turns_left (goes_after e) last.turns)
-  ends (Ended ds) last ran due =
+  ends (Ended ds) last ran expected =
       let now = standing last.tables last.turns committed in
       let piece = append_assoc First (given_lines (giving r.parameters) ds) ok_line ∙ ap (λ lines. First ++ (lines ++ ok_line)) (sym (given r.parameters ds)) in
       subst (λ p. CommandExecutes code k (standing tables turns committed) (commands.Call n values) (Went p now)) piece (goes (Ended ds) last ran)
-  ends (Raised c) last ran due = goes (Raised c) last ran
-  ends NoTurns last ran due = (goes NoTurns last ran, refl, refl)
-  ends Stuck last ran due = cc
+  ends (Raised c) last ran expected = goes (Raised c) last ran
+  ends NoTurns last ran expected = (goes NoTurns last ran, refl, refl)
+  ends Stuck last ran expected = cc
 
   pub call_makes : (f : Finished) (now : List Contents) (again : Bool) (piece : List ℕ) (left : ℕ) → RunsTo code n values tables turns f now → is_due (end_of f.ending) ≡ true
       → piece ≡ First ++ end_lines r.parameters (end_of f.ending) → again ≡ goes_after (end_of f.ending) → left ≡ turns_left again f.turns → Ends again piece now left
-  call_makes f now again piece left ran due p g l =
+  call_makes f now again piece left ran expected p g l =
       let e = end_of f.ending in
       let t : left ≡ turns_left again ran.last.turns = l ∙ ap (turns_left again) ran.left in
-      let made = ends e ran.last ran.ran due in
+      let made = ends e ran.last ran.ran expected in
       let going = subst (λ b. Ends b (First ++ end_lines r.parameters e) (following e tables ran.last.tables) (turns_left b ran.last.turns)) (sym g) made in
       let written = subst (λ x. Ends again x (following e tables ran.last.tables) (turns_left again ran.last.turns)) (sym p) going in
       let over = subst (λ x. Ends again piece x (turns_left again ran.last.turns)) (sym ran.tables) written in

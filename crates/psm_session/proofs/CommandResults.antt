@@ -14,7 +14,7 @@ use Rattle.psm_meaning.specs.Session.{Standing, Went}
 use Rattle.psm_session.specs.CommandSteps.{Executes, commit, rollback, select, selected}
 use Rattle.psm_session.specs.Pieces.{selected_lines}
 use Rattle.psm_session.specs.Put.{Sunk}
-use Rattle.psm_session.specs.Steps.{Closes, Comes, Does, EndsIn, GoesOn, IsPut, IsTorn, Makes, Puts, Settled, Settles, settled, standing, step_after, tables_after}
+use Rattle.psm_session.specs.Steps.{Closes, ResultsIn, Does, EndsIn, GoesOn, IsPut, IsTorn, Makes, Puts, Settled, Settles, settled, standing, step_after, tables_after}
 use Rattle.psm_session.specs.declared.command.ScriptCommand.{ScriptCommand}
 use Rattle.psm_session.specs.declared.command.ScriptCommand.TheVariants as commands
 use Rattle.psm_session.specs.declared.step.CommandEnd.{CommandEnd}
@@ -51,7 +51,7 @@ rollback_made code k s piece e = subst (λ x. Makes code k s commands.Rollback t
 pub does : (code : RawCode) (k : ℕ) (s : Standing) (c : ScriptCommand) (sunk : Sunk) (piece : List ℕ) (goes : Bool) (t : Standing) (step : Step) → Puts goes piece sunk step → Makes code k s c goes piece (settled c t) → Does code k s c sunk t step
 does code k s c sunk piece goes t steps.Next p h = record { piece = piece; makes = subst (λ b. Makes code k s c b piece (settled c t)) p.0 h; put = p.1 }
 does code k s c sunk piece goes t steps.TurnsUsed p h = record { piece = piece; makes = subst (λ b. Makes code k s c b piece (settled c t)) p.0 h; put = p.1 }
-does code k s c sunk piece goes t steps.WriteFault p h = record { goes = goes; piece = piece; due = settled c t; makes = h; put = p; same = refl }
+does code k s c sunk piece goes t steps.WriteFault p h = record { goes = goes; piece = piece; expected = settled c t; makes = h; put = p; same = refl }
 does code k s c sunk piece goes t steps.Memory p h = p
 
 closed : (code : RawCode) (k : ℕ) (s : Standing) (c : ScriptCommand) (sunk : Sunk) (made now : List Contents) (turns : ℕ) (committed : List Contents) (step : Step)
@@ -131,16 +131,16 @@ module _ (code : RawCode) (k : ℕ) (s : Standing) (c : ScriptCommand) (t u : St
     ends : (step : Step) → u.turns ≡ t.turns → Closes code k s c sunk t step → Settled step c t u → EndsIn code k s c sunk u step
     ends steps.Next turns h e = subst (IsPut code k s c sunk true) (sym e) h
     ends steps.TurnsUsed turns h e = record { piece = h.piece; makes = cut_as h.piece e turns h.makes; put = h.put }
-    ends steps.WriteFault turns h e = record { goes = h.goes; piece = h.piece; due = h.due; makes = h.makes; put = h.put; same = e ∙ h.same }
+    ends steps.WriteFault turns h e = record { goes = h.goes; piece = h.piece; expected = h.expected; makes = h.makes; put = h.put; same = e ∙ h.same }
     ends steps.Memory turns h e = record { put = h.put; same = e ∙ h.same }
 
-    pub settles_comes : (step : Step) (result : Result Step AllocError) → u.turns ≡ t.turns → Closes code k s c sunk t step → Settles step c t u result → Comes code k s c sunk u result
+    pub settles_comes : (step : Step) (result : Result Step AllocError) → u.turns ≡ t.turns → Closes code k s c sunk t step → Settles step c t u result → ResultsIn code k s c sunk u result
     settles_comes step (Ok x) turns h e = subst (EndsIn code k s c sunk u) (sym e.0) (ends step turns h e.1)
-    settles_comes step (Err x) turns h e = record { due = settled c t; is_put = subst (Closes code k s c sunk t) e.0 h; same = e.1 }
+    settles_comes step (Err x) turns h e = record { expected = settled c t; is_put = subst (Closes code k s c sunk t) e.0 h; same = e.1 }
 
 -- ---- SELECT
 
-selected_is : (first : List ℕ) (s : Standing) (due : Result Answer SqlState) → selected first s due ≡ Went (first ++ selected_lines due) s
+selected_is : (first : List ℕ) (s : Standing) (expected : Result Answer SqlState) → selected first s expected ≡ Went (first ++ selected_lines expected) s
 selected_is first s (Ok a) = refl
 selected_is first s (Err state) = refl
 

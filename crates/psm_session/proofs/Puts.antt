@@ -6,7 +6,7 @@ use Rattle.psm_io.specs.Count.{Rose}
 use Rattle.psm_io.specs.Sink.{Grew}
 use Rattle.psm_session.specs.Put.{joined, Sunk, PutAll, PutSome, PutUpTo}
 
--- what a sink tells and its count of faults, before and after
+-- what a sink holds, if it is known, and its count of faults, before and after
 abbrev pub sunk : Option (List ℕ) → ℕ → Option (List ℕ) → ℕ → Sunk
 sunk w f w' f' = record { before = w; after = w'; faults_before = f; faults_after = f' }
 

@@ -64,12 +64,12 @@ module _ (code : RawCode) (cs : List ScriptCommand) (i : ℕ) (c : ScriptCommand
   number = number_at cs i c lt
 
   -- what the command ends in
-  abbrev Comes : Step → Type 0
-  Comes step = EndsIn code (i + 1) t c (sunk w' f' w'' f'') u step
+  abbrev ResultsIn : Step → Type 0
+  ResultsIn step = EndsIn code (i + 1) t c (sunk w' f' w'' f'') u step
 
-  pub so_far_next : (step : Step) → step ≡ steps.Next → Comes step → SoFar code cs (i + 1) s (sunk w f w'' f'') u
+  pub so_far_next : (step : Step) → step ≡ steps.Next → ResultsIn step → SoFar code cs (i + 1) s (sunk w f w'' f'') u
   so_far_next step is comes =
-      let next = subst Comes is comes in
+      let next = subst ResultsIn is comes in
       record {
         pieces = so_far.pieces ++ next.piece ∷ [];
         ran = subst (λ ds. Runs code 1 s ds (so_far.pieces ++ next.piece ∷ []) u) (sym take_here) (runs_further code 1 (i + 1) s t u before c so_far.pieces next.piece number so_far.ran next.makes);
@@ -86,9 +86,9 @@ module _ (code : RawCode) (cs : List ScriptCommand) (i : ℕ) (c : ScriptCommand
     stops = (subst (λ n. Makes code n t c false piece v) number makes).0;
   }
 
-  pub ends_turns_used : (step : Step) → step ≡ steps.TurnsUsed → Comes step → Ends code cs s (sunk w f w'' f'') u.tables u.turns ends.TurnsUsed
+  pub ends_turns_used : (step : Step) → step ≡ steps.TurnsUsed → ResultsIn step → Ends code cs s (sunk w f w'' f'') u.tables u.turns ends.TurnsUsed
   ends_turns_used step is comes =
-      let last = subst Comes is comes in
+      let last = subst ResultsIn is comes in
       record {
         pieces = so_far.pieces;
         before = t;
@@ -99,32 +99,32 @@ module _ (code : RawCode) (cs : List ScriptCommand) (i : ℕ) (c : ScriptCommand
         left = last.makes.2;
       }
 
-  torn : (goes : Bool) (piece : List ℕ) (due : Standing) → Makes code (i + 1) t c goes piece due → PutSome (sunk w' f' w'' f'') (piece ∷ []) → u.tables ≡ due.tables
+  torn : (goes : Bool) (piece : List ℕ) (expected : Standing) → Makes code (i + 1) t c goes piece expected → PutSome (sunk w' f' w'' f'') (piece ∷ []) → u.tables ≡ expected.tables
       → IsBroken code cs s (sunk w f w'' f'') u.tables ⊎ IsBrokenCut code cs s (sunk w f w'' f'') u.tables
-  torn true piece due makes put same = inl (record {
+  torn true piece expected makes put same = inl (record {
     pieces = so_far.pieces;
     failed = piece;
-    end = due;
+    end = expected;
     ran = record {
       first = before ++ c ∷ [];
       later = later;
       are = split_after;
-      ran = runs_further code 1 (i + 1) s t due before c so_far.pieces piece number so_far.ran makes;
+      ran = runs_further code 1 (i + 1) s t expected before c so_far.pieces piece number so_far.ran makes;
     };
     put = PutUpTo-then w w' w'' f f' f'' so_far.pieces piece so_far.put put;
     tables_are = same;
   })
-  torn false piece due makes put same = inr (record {
+  torn false piece expected makes put same = inr (record {
     pieces = so_far.pieces;
     before = t;
     piece = piece;
-    runs_out = runs_out piece due makes;
+    runs_out = runs_out piece expected makes;
     put = PutUpTo-then w w' w'' f f' f'' so_far.pieces piece so_far.put put;
     tables_are = same ∙ makes.1;
   })
 
-  pub ends_write_fault : (step : Step) → step ≡ steps.WriteFault → Comes step → Ends code cs s (sunk w f w'' f'') u.tables u.turns ends.WriteFault
-  ends_write_fault step is comes = let last = subst Comes is comes in torn last.goes last.piece last.due last.makes last.put last.same
+  pub ends_write_fault : (step : Step) → step ≡ steps.WriteFault → ResultsIn step → Ends code cs s (sunk w f w'' f'') u.tables u.turns ends.WriteFault
+  ends_write_fault step is comes = let last = subst ResultsIn is comes in torn last.goes last.piece last.expected last.makes last.put last.same
 
   ends_idle : IsIdle t (sunk w' f' w'' f'') u → Ends code cs s (sunk w f w'' f'') u.tables u.turns ends.Memory
   ends_idle idle = record {
@@ -135,19 +135,19 @@ module _ (code : RawCode) (cs : List ScriptCommand) (i : ℕ) (c : ScriptCommand
     tables_are = idle.same;
   }
 
-  pub ends_memory : (step : Step) → step ≡ steps.Memory → Comes step → Ends code cs s (sunk w f w'' f'') u.tables u.turns ends.Memory
-  ends_memory step is comes = ends_idle (subst Comes is comes)
+  pub ends_memory : (step : Step) → step ≡ steps.Memory → ResultsIn step → Ends code cs s (sunk w f w'' f'') u.tables u.turns ends.Memory
+  ends_memory step is comes = ends_idle (subst ResultsIn is comes)
 
   -- the transaction has no mark after the command, which is a COMMIT
   pub ends_unmarked : IsUnmarked code (i + 1) t c (sunk w' f' w'' f'') u → Ends code cs s (sunk w f w'' f'') u.tables u.turns ends.Memory
   ends_unmarked last = record {
     pieces = so_far.pieces ++ last.is_put.piece ∷ [];
-    end = last.due;
+    end = last.expected;
     ran = record {
       first = before ++ c ∷ [];
       later = later;
       are = split_after;
-      ran = runs_further code 1 (i + 1) s t last.due before c so_far.pieces last.is_put.piece number so_far.ran last.is_put.makes;
+      ran = runs_further code 1 (i + 1) s t last.expected before c so_far.pieces last.is_put.piece number so_far.ran last.is_put.makes;
     };
     put = PutAll-then w w' w'' f f' f'' so_far.pieces (last.is_put.piece ∷ []) so_far.put last.is_put.put;
     tables_are = last.same;

@@ -8,7 +8,7 @@ abbrev pub joined : List (List ℕ) → List ℕ
 joined [] = []
 joined (p ∷ ps) = p ++ joined ps
 
--- what a sink tells, and its count of faults, before and after a call
+-- what a sink holds, if it is known, and its count of faults, before and after a call
 pub record Sunk : Type 0 where
   pub before : Option (List ℕ)
   pub after : Option (List ℕ)

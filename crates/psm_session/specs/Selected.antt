@@ -26,10 +26,10 @@ abbrev pub taken_line : Option (List Datum) → List ℕ
 taken_line None = []
 taken_line (Some row) = row_line row
 
--- what is written is what is due, or the condition is, unless memory runs out
+-- what is written is what is expected, or the condition is, unless memory runs out
 abbrev pub Writes : Result (List ℕ) SqlState → List ℕ → Result (Unit {0}) ValueFault → Type 0
-Writes due new (Ok u) = due ≡ Ok new
-Writes due new (Err fault) = Gives due (Err fault)
+Writes expected new (Ok u) = expected ≡ Ok new
+Writes expected new (Err fault) = Gives expected (Err fault)
 
 -- the piece of a query that raises a condition, after its first line
 abbrev pub Shows : List ℕ → ValueFault → List ℕ → Type 0

@@ -71,10 +71,10 @@ pub record IsPut (code : RawCode) (k : ℕ) (s : Standing) (c : ScriptCommand) (
 pub record IsTorn (code : RawCode) (k : ℕ) (s : Standing) (c : ScriptCommand) (sunk : Sunk) (t : Standing) : Type 0 where
   pub goes : Bool
   pub piece : List ℕ
-  pub due : Standing
-  pub makes : Makes code k s c goes piece due
+  pub expected : Standing
+  pub makes : Makes code k s c goes piece expected
   pub put : PutSome sunk (piece ∷ [])
-  pub same : t.tables ≡ due.tables
+  pub same : t.tables ≡ expected.tables
 
 -- what command k ends in, and what is left then
 abbrev pub EndsIn : RawCode → ℕ → Standing → ScriptCommand → Sunk → Standing → Step → Type 0
@@ -85,14 +85,14 @@ EndsIn code k s c sunk t steps.Memory = IsIdle s sunk t
 
 -- a COMMIT ends in a piece, which is put, and there was no memory for the mark of the next transaction
 pub record IsUnmarked (code : RawCode) (k : ℕ) (s : Standing) (c : ScriptCommand) (sunk : Sunk) (t : Standing) : Type 0 where
-  pub due : Standing
-  pub is_put : IsPut code k s c sunk true due
-  pub same : t.tables ≡ due.tables
+  pub expected : Standing
+  pub is_put : IsPut code k s c sunk true expected
+  pub same : t.tables ≡ expected.tables
 
 -- the same, where the transaction may lose its mark because memory ran out
-abbrev pub Comes : RawCode → ℕ → Standing → ScriptCommand → Sunk → Standing → Result Step AllocError → Type 0
-Comes code k s c sunk t (Ok step) = EndsIn code k s c sunk t step
-Comes code k s c sunk t (Err e) = IsUnmarked code k s c sunk t
+abbrev pub ResultsIn : RawCode → ℕ → Standing → ScriptCommand → Sunk → Standing → Result Step AllocError → Type 0
+ResultsIn code k s c sunk t (Ok step) = EndsIn code k s c sunk t step
+ResultsIn code k s c sunk t (Err e) = IsUnmarked code k s c sunk t
 
 -- ---- steps of which the transaction isn't settled yet
 

@@ -8,7 +8,7 @@ ghost use Rattle.psm_code.specs.MachineInvariant.{AreLawful};
 ghost use Rattle.psm_unwind.specs.Marks.{most_open};
 ghost use Rattle.psm_session.specs.Ends.{Ends, FitsCommand, beginning};
 ghost use Rattle.psm_session.specs.Put.{sunk_of};
-ghost use Rattle.psm_session.specs.Steps.{Closes, Comes, Does, IsOutsideOr, Marked, MarkedOr, marks_without, standing};
+ghost use Rattle.psm_session.specs.Steps.{Closes, ResultsIn, Does, IsOutsideOr, Marked, MarkedOr, marks_without, standing};
 
 use crate::command::{ScriptCode, ScriptCommand};
 use crate::step::{Step, close, put};
@@ -153,7 +153,7 @@ fn run_command<S: Store, K: Sink>(
     requires held { S.holds store.old mark.old }
     requires counted { S.marks store.old ≡ mark.old.depth + 1 }
     requires committed { AreLawful code.now (S.at store.old mark.old) }
-    ensures comes { Comes code.now number (standing (S.tables store.old) turns.old (S.at store.old mark.old)) command.now (sunk_of K.written K.faults out.old out.new) (standing (S.tables store.new) turns.new (S.at store.new mark.new)) result }
+    ensures comes { ResultsIn code.now number (standing (S.tables store.old) turns.old (S.at store.old mark.old)) command.now (sunk_of K.written K.faults out.old out.new) (standing (S.tables store.new) turns.new (S.at store.new mark.new)) result }
     ensures kept { AreLawful code.now (S.tables store.new) }
     ensures committed { IfOk result (λ step. AreLawful code.now (S.at store.new mark.new)) }
     ensures marked { Marked (S.holds store.old) mark.old (S.holds store.new) (S.marks store.new) mark.new result }

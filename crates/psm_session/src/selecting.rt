@@ -54,7 +54,7 @@ fn piece_of_fault(alloc: Global, number: u64, fault: &ValueFault) -> Result<Vec<
     }
 }
 
-// The last line, where rows stand behind the first `first` bytes or none does.
+// The last line, where rows stand after the first `first` bytes or none does.
 fn put_end(alloc: Global, out: &mut Vec<u8>, first: usize) -> Result<(), AllocError>
     ensures { OnOk result (out.new.items ≡ out.old.items ++ end_of_selected first (length out.old.items)) }
 {

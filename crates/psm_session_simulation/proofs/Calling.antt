@@ -77,7 +77,7 @@ module _ (code : RawCode) (n : ℕ) (args : List Datum) (s : Standing) (routine 
   given-called (Ends OutOfFuel) st none h high k = absurd high
   given-called (Ends Stuck) st none h high k = absurd h
 
--- ---- without as many arguments both lack something
+-- ---- without as many arguments both are stuck
 
 stuck-runs : (code : RawCode) (n : ℕ) (args : List Datum) (tables : List Contents) (turns : ℕ) (r : RawRoutine) (ps : List ResolvedParameter) → routine_at code n ≡ Some r → r.parameters ≡ map parameter_of ps → (m : Meaning) (st : State)
     → (entered ps args m st).given ≡ Ends Stuck → Ran code n args tables turns code_ends.Stuck (before_start turns tables)
@@ -125,12 +125,12 @@ module _ (file : ResolvedFile) (code : RawCode) (stands : FileStands file code) 
   named : command_result file m first s (Call procedure args) ≡ run first s (calling q.routine args) m
   named = ap (λ x. run first s (◌>>=◌ (present x) (λ r. calling r args)) m) q.named
 
-  does-lack : (entered q.routine.parameters args m (at_command s)).given ≡ Ends Stuck → Does file h turns first s (Call procedure args) (called first s q.coded end last)
-  does-lack lack =
+  does-no_value : (entered q.routine.parameters args m (at_command s)).given ≡ Ends Stuck → Does file h turns first s (Call procedure args) (called first s q.coded end last)
+  does-no_value no_value =
       let before = before_start s.turns s.tables in
-      let over = ends-as code n args s q.routine q.coded q.parameters first m end last ran code_ends.Stuck before (stuck-runs code n args s.tables s.turns q.coded q.routine.parameters q.at q.parameters m (at_command s) lack) in
-      let lacks = ap (λ g. run first s (◌>>=◌ (λ n st. go_on g (after_arguments q.routine) n (entered q.routine.parameters args n st).state) (λ e. call_lines q.routine e.returned e.variables)) m) lack in
-      record { same = named ∙ lacks ∙ over; kept = λ c. subst (IsCommandResult file turns) over tt }
+      let over = ends-as code n args s q.routine q.coded q.parameters first m end last ran code_ends.Stuck before (stuck-runs code n args s.tables s.turns q.coded q.routine.parameters q.at q.parameters m (at_command s) no_value) in
+      let is_stuck = ap (λ g. run first s (◌>>=◌ (λ n st. go_on g (after_arguments q.routine) n (entered q.routine.parameters args n st).state) (λ e. call_lines q.routine e.returned e.variables)) m) no_value in
+      record { same = named ∙ is_stuck ∙ over; kept = λ c. subst (IsCommandResult file turns) over tt }
 
   does-end : IsWell file q.routine act → Does file h turns first s (Call procedure args) (called first s q.coded end last)
   does-end w =
@@ -142,7 +142,7 @@ module _ (file : ResolvedFile) (code : RawCode) (stands : FileStands file code) 
       }
 
   does-either : ((entered q.routine.parameters args m (at_command s)).given ≡ Ends Stuck) ⊎ IsWell file q.routine act → Does file h turns first s (Call procedure args) (called first s q.coded end last)
-  does-either (inl lack) = does-lack lack
+  does-either (inl no_value) = does-no_value no_value
   does-either (inr w) = does-end w
 
   pub does-call : Does file h turns first s (Call procedure args) (called first s q.coded end last)

@@ -92,6 +92,6 @@ module _ (file : ResolvedFile) (well_typed : IsWellTyped file) (h n : ℕ) (r : 
   well-by (Ends OutOfFuel) q c = inr (subst (λ g. IsWell file r (go_on g (after_arguments r) (meaning file h) first.state)) (sym q) (record { over = tt; filled = filled-first }))
   well-by (Ends Stuck) q c = inl q
 
-  -- it lacks arguments, or ends well
+  -- it is stuck without arguments, or ends well
   pub activated-well : (first.given ≡ Ends Stuck) ⊎ IsWell file r (activated r args (meaning file h) st)
   activated-well = well-by first.given refl (entered-counted r.parameters args (meaning file h) st)

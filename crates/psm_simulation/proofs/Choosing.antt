@@ -6,7 +6,7 @@ use Rattle.psm_value.specs.declared.datum.Datum.TheVariants as data_of
 use Rattle.psm_value.specs.declared.truth.Truth.{Truth as Answer}
 use Rattle.psm_value.specs.Truth.{is_certain}
 use Rattle.psm_exprcode.specs.declared.op.Op.TheVariants as ops
-use Rattle.psm_exprcode.specs.declared.operand.Next.TheVariants.{Ahead, Jump}
+use Rattle.psm_exprcode.specs.declared.operand.Next.TheVariants.{FallThrough, Jump}
 use Rattle.psm_exprcode.specs.declared.operand.Operand.{Operand}
 use Rattle.psm_exprcode.specs.declared.operand.Operand.TheVariants.{Value, Truth}
 use Rattle.psm_exprcode.specs.Applied.{Went}
@@ -36,9 +36,9 @@ module _ (code : RawCode) (r : RawRoutine) (k following : ℕ) (spot : Spot) (m 
   forks : {A : Type 0} (b : Bool) (t : Answer) → is_certain t ≡ b → (first other : Act A) (pc target end : ℕ) (below : List Operand) (to : A → List Operand) → Raising r k following pc (instruction.Operation (ops.JumpUnlessTrue target))
       → Gives code r k following spot m first (suc pc) below end to → Gives code r k following spot m other target below end to → Gives code r k following spot m (if b then first else other) pc (Truth t ∷ below) end to
   forks true t e first other pc target end below to l p q =
-      evals-from (λ st. leads-operation code r spot at pc (ops.JumpUnlessTrue target) (Truth t ∷ below) below st l (ap (λ b. if b then Went Ahead below else Went (Jump target) below) e)) p
+      evals-from (λ st. leads-operation code r spot at pc (ops.JumpUnlessTrue target) (Truth t ∷ below) below st l (ap (λ b. if b then Went FallThrough below else Went (Jump target) below) e)) p
   forks false t e first other pc target end below to l p q =
-      evals-from (λ st. leads-jump code r spot at pc (ops.JumpUnlessTrue target) (Truth t ∷ below) below target st l (ap (λ b. if b then Went Ahead below else Went (Jump target) below) e)) q
+      evals-from (λ st. leads-jump code r spot at pc (ops.JumpUnlessTrue target) (Truth t ∷ below) below target st l (ap (λ b. if b then Went FallThrough below else Went (Jump target) below) e)) q
 
   -- ahead where a test is true, and else at the target
   pub gives-fork : {A : Type 0} (t : Answer) (first other : Act A) (pc target end : ℕ) (below : List Operand) (to : A → List Operand) → Raising r k following pc (instruction.Operation (ops.JumpUnlessTrue target))
@@ -58,9 +58,9 @@ module _ (code : RawCode) (r : RawRoutine) (k following : ℕ) (spot : Spot) (m 
   stays : (b : Bool) (d : Datum) → is_null d ≡ b → (next : Act Operand) (pc end : ℕ) (below : List Operand) → Raising r k following pc (instruction.Operation (ops.JumpUnlessNull end))
       → Gives code r k following spot m next (suc pc) below end (λ x. x ∷ below) → Gives code r k following spot m (if b then next else got (Value d)) pc (Value d ∷ below) end (λ x. x ∷ below)
   stays true d e next pc end below l p =
-      evals-from (λ st. leads-operation code r spot at pc (ops.JumpUnlessNull end) (Value d ∷ below) below st l (ap (λ b. if b then Went Ahead below else Went (Jump end) (Value d ∷ below)) e)) p
+      evals-from (λ st. leads-operation code r spot at pc (ops.JumpUnlessNull end) (Value d ∷ below) below st l (ap (λ b. if b then Went FallThrough below else Went (Jump end) (Value d ∷ below)) e)) p
   stays false d e next pc end below l p =
-      evals-from (λ st. leads-jump code r spot at pc (ops.JumpUnlessNull end) (Value d ∷ below) (Value d ∷ below) end st l (ap (λ b. if b then Went Ahead below else Went (Jump end) (Value d ∷ below)) e)) evals-got
+      evals-from (λ st. leads-jump code r spot at pc (ops.JumpUnlessNull end) (Value d ∷ below) (Value d ∷ below) end st l (ap (λ b. if b then Went FallThrough below else Went (Jump end) (Value d ∷ below)) e)) evals-got
 
   -- a value that isn't null stays and goes to the line end
   pub gives-set : (d : Datum) (next : Act Operand) (pc end : ℕ) (below : List Operand) → Raising r k following pc (instruction.Operation (ops.JumpUnlessNull end)) → Gives code r k following spot m next (suc pc) below end (λ x. x ∷ below)

@@ -18,7 +18,7 @@ use Rattle.psm_code.specs.Parts.{routine_at}
 use Rattle.psm_code.specs.Run as code_rows
 use Rattle.psm_code.specs.Run.{fall_through, applied_as}
 use Rattle.psm_exprcode.specs.Applied.{Went}
-use Rattle.psm_exprcode.specs.declared.operand.Next.TheVariants.{Ahead, Jump}
+use Rattle.psm_exprcode.specs.declared.operand.Next.TheVariants.{FallThrough, Jump}
 use Rattle.psm_code.specs.State.{Stepped, More}
 use Rattle.psm_code.specs.Steps as steps
 use Rattle.psm_simulation.specs.Agreement.{Evaluates, Fits, IsReady, Leads, Meets, Spot, areas, machine}
@@ -134,7 +134,7 @@ tested file code routine r m env spot end next target below holds fails h k st d
 tested file code routine r m env spot end next target below holds fails h k st d false from l = meets-from file code routine r env spot end l (fails m st).outcome (fails m st).state (k.by st d)
 
 applied-test : (code : RawCode) (spot : Spot) (pc target : ℕ) (below os : List Operand) (st : State) (b : Bool)
-    → code_rows.settled code (applied_as (if b then Went Ahead below else Went (Jump target) below) (machine spot pc os st)).given (applied_as (if b then Went Ahead below else Went (Jump target) below) (machine spot pc os st)).machine ≡ (if b then at_line spot (suc pc) below st else at_line spot target below st)
+    → code_rows.settled code (applied_as (if b then Went FallThrough below else Went (Jump target) below) (machine spot pc os st)).given (applied_as (if b then Went FallThrough below else Went (Jump target) below) (machine spot pc os st)).machine ≡ (if b then at_line spot (suc pc) below st else at_line spot target below st)
 applied-test code spot pc target below os st true = refl
 applied-test code spot pc target below os st false = refl
 

@@ -2,7 +2,7 @@
 use Rattle.std.proofs.Common.{◌≡◌, ℕ, suc, List, [], refl, subst, Some, None}
 use Rattle.psm_cond.specs.Condition.{Entries}
 use Rattle.psm_exprcode.specs.declared.op.Op.{Op}
-use Rattle.psm_exprcode.specs.declared.operand.Next.TheVariants.{Ahead, Jump}
+use Rattle.psm_exprcode.specs.declared.operand.Next.TheVariants.{FallThrough, Jump}
 use Rattle.psm_exprcode.specs.declared.operand.Operand.{Operand}
 use Rattle.psm_exprcode.specs.Applied.{Applied, Went, applied}
 use Rattle.psm_exprcode.specs.Applied as op
@@ -61,14 +61,14 @@ evals-from {code = code} {r = r} {k = k} {following = following} {spot = spot} {
 
 -- what an operation ends in, as an evaluation
 abbrev pub given_of : Applied → Given (List Operand)
-given_of (Went Ahead os) = Got os
+given_of (Went FallThrough os) = Got os
 given_of (Went (Jump p) os) = Ends Stuck
 given_of (op.Raised s) = Raises (of_state s)
 given_of op.Stuck = Ends Stuck
 
 came-applied : (code : RawCode) (r : RawRoutine) (k following : ℕ) (spot : Spot) (pc : ℕ) (o : Op) (os : List Operand) (st : State) → Raising r k following pc (instruction.Operation o) → IsReady code spot st → (a : Applied)
     → Evaluates code r k following spot (settled code (applied_as a (machine spot pc os st)).given (applied_as a (machine spot pc os st)).machine) (λ ps st. More (machine spot (suc pc) ps st)) (given_of a) st
-came-applied code r k following spot pc o os st l d (Went Ahead ps) = (leads-here, d)
+came-applied code r k following spot pc o os st l d (Went FallThrough ps) = (leads-here, d)
 came-applied code r k following spot pc o os st l d (Went (Jump p) ps) = tt
 came-applied code r k following spot pc o os st l d (op.Raised s) = (record { pc = pc; operands = os; pending = None; line = _; there = l.there; context = refl; resume = refl; leads = leads-here }, d)
 came-applied code r k following spot pc o os st l d op.Stuck = tt
@@ -81,7 +81,7 @@ evaluates-operation code r k following spot p pc o os st l d =
 
 -- where it is known how the run goes on
 pub leads-operation : (code : RawCode) (r : RawRoutine) (spot : Spot) → routine_at code spot.number ≡ Some r → (pc : ℕ) {k following : ℕ} (o : Op) (os ps : List Operand) (st : State) → Raising r k following pc (instruction.Operation o)
-    → applied o os [] st.variables ≡ Went Ahead ps → Leads code (More (machine spot pc os st)) (More (machine spot (suc pc) ps st))
+    → applied o os [] st.variables ≡ Went FallThrough ps → Leads code (More (machine spot pc os st)) (More (machine spot (suc pc) ps st))
 leads-operation code r spot p pc o os ps st l e = subst (λ a. Leads code (More (machine spot pc os st)) (settled code (applied_as a (machine spot pc os st)).given (applied_as a (machine spot pc os st)).machine)) e (leads-line p l.there)
 
 pub leads-jump : (code : RawCode) (r : RawRoutine) (spot : Spot) → routine_at code spot.number ≡ Some r → (pc : ℕ) {k following : ℕ} (o : Op) (os ps : List Operand) (target : ℕ) (st : State) → Raising r k following pc (instruction.Operation o)

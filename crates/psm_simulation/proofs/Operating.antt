@@ -4,7 +4,7 @@ use Rattle.psm_value.specs.declared.datum.Datum.{Datum}
 use Rattle.psm_value.specs.Truth.{opposite}
 use Rattle.psm_exprcode.specs.declared.op.Op.{Op}
 use Rattle.psm_exprcode.specs.declared.op.Op.TheVariants as ops
-use Rattle.psm_exprcode.specs.declared.operand.Next.TheVariants.{Ahead, Jump}
+use Rattle.psm_exprcode.specs.declared.operand.Next.TheVariants.{FallThrough, Jump}
 use Rattle.psm_exprcode.specs.declared.operand.Operand.{Operand}
 use Rattle.psm_exprcode.specs.Applied.{Applied, Went, applied, with_value}
 use Rattle.psm_exprcode.specs.Applied as op
@@ -30,22 +30,22 @@ use Rattle.psm_simulation.proofs.Runs.{leads-here}
 -- ---- what operations end in, one after another
 
 abbrev pub then_applied : Applied → (List Operand → Applied) → Applied
-then_applied (Went Ahead os) go = go os
+then_applied (Went FallThrough os) go = go os
 then_applied (Went (Jump p) os) go = op.Stuck
 then_applied (op.Raised s) go = op.Raised s
 then_applied op.Stuck go = op.Stuck
 
 abbrev pub performed : List Op → List Operand → List Datum → Applied
-performed [] os vars = Went Ahead os
+performed [] os vars = Went FallThrough os
 performed (o ∷ rest) os vars = then_applied (applied o os [] vars) (λ ps. performed rest ps vars)
 
-performed-after : (m : Moved) → then_applied (fall_through m) (λ os. Went Ahead os) ≡ fall_through m
+performed-after : (m : Moved) → then_applied (fall_through m) (λ os. Went FallThrough os) ≡ fall_through m
 performed-after None = refl
 performed-after (Some (Err s)) = refl
 performed-after (Some (Ok os)) = refl
 
 pub performed-one : (o : Op) (os : List Operand) (vars : List Datum) (m : Moved) → applied o os [] vars ≡ fall_through m → performed (o ∷ []) os vars ≡ fall_through m
-performed-one o os vars m e = ap (λ a. then_applied a (λ ps. Went Ahead ps)) e ∙ performed-after m
+performed-one o os vars m e = ap (λ a. then_applied a (λ ps. Went FallThrough ps)) e ∙ performed-after m
 
 negated-after : (out : Outcome) (below : List Operand) (vars : List Datum) → then_applied (fall_through (put out below)) (λ ps. performed (ops.Not ∷ []) ps vars) ≡ fall_through (put (perhaps_not true out) below)
 negated-after None below vars = refl
@@ -69,7 +69,7 @@ performed-scaling (Some s) x below vars =
 evaluates-then : (code : RawCode) (r : RawRoutine) (k following : ℕ) (spot : Spot) (from : Stepped) (mid to : List Operand → State → Stepped) (go : List Operand → Applied) (st : State)
     → ((ps : List Operand) → IsReady code spot st → Evaluates code r k following spot (mid ps st) to (given_of (go ps)) st)
     → (a : Applied) → Evaluates code r k following spot from mid (given_of a) st → Evaluates code r k following spot from to (given_of (then_applied a go)) st
-evaluates-then code r k following spot from mid to go st h (Went Ahead ps) c = evaluates-from code r k following spot to c.0 (given_of (go ps)) st (h ps c.1)
+evaluates-then code r k following spot from mid to go st h (Went FallThrough ps) c = evaluates-from code r k following spot to c.0 (given_of (go ps)) st (h ps c.1)
 evaluates-then code r k following spot from mid to go st h (Went (Jump p) ps) c = tt
 evaluates-then code r k following spot from mid to go st h (op.Raised s) c = c
 evaluates-then code r k following spot from mid to go st h op.Stuck c = tt

@@ -29,7 +29,7 @@ abbrev pub is_closing : Token → Bool
 is_closing (Sign s) = is_closing_sign s
 is_closing _ = false
 
--- whether a blank is written before a token; it is told whether the tokens before want none
+-- whether a blank is written before a token; it is given whether the tokens before want none
 abbrev pub has_blank : Gaps → Bool → Token → Bool
 has_blank After tight t = false
 has_blank Between tight t = not tight && not (is_closing t)

@@ -23,7 +23,7 @@ kept_cut s new n h e f =
 pub keeps_cut : (s new : Kept) (n : ℕ) → new.marks ≡ take n s.marks → (m : Mark) → IsOpen s m → m.depth < n → IsOpen new m × (stands_for new m ≡ stands_for s m)
 keeps_cut s new n e m o h =
     let depth : m.depth < length new.marks = omega (arith, h, o.depth, ap length e, length-take n s.marks) in (
-      record { depth = depth; place = o.place },
+      record { depth = depth; position = o.position },
       ap (λ l. get_or l m.depth new.tables) e ∙ get_or-take n s.marks m.depth new.tables h ∙ get_or_default s.marks m.depth new.tables s.tables o.depth,
     )
 

@@ -30,7 +30,7 @@ pub record IsKept (s : Kept) : Type 0 where
 -- an open mark: its depth says which
 pub record IsOpen (s : Kept) (m : Mark) : Type 0 where
   pub depth : m.depth < length s.marks
-  pub place : m.place ≡ 0
+  pub position : m.position ≡ 0
 
 -- the tables that a mark stands for
 abbrev pub stands_for : Kept → Mark → List Contents

@@ -19,12 +19,12 @@ marks_after count (Ok mark) = count + 1
 marks_after count (Err error) = count
 
 -- A mark that is given where n marks are open and the tables are these: it is the deepest, it is
--- held, it stands for the tables, and the place of no mark that was held is above its own.
+-- held, it stands for the tables, and the position of no mark that was held is above its own.
 pub record IsNewMark (count : ℕ) (tables : List Contents) (holds_old holds_new : Mark → Type 0) (at_new : Mark → List Contents) (mark : Mark) : Type 0 where
   pub deepest : mark.depth ≡ count
   pub held : holds_new mark
   pub stands : at_new mark ≡ tables
-  pub last : (other : Mark) → holds_old other → other.place ≤ mark.place
+  pub last : (other : Mark) → holds_old other → other.position ≤ mark.position
 
 -- each of these marks that was held stays held, and stands for the same tables
 abbrev pub Keeps : (Mark → Type 0) → (Mark → Type 0) → (Mark → List Contents) → (Mark → Type 0) → (Mark → List Contents) → Type 0
@@ -34,6 +34,6 @@ Keeps These holds_old at_old holds_new at_new = (m : Mark) → holds_old m → T
 abbrev pub AnyMark : Mark → Type 0
 AnyMark mark = Unit {0}
 
--- a mark of less depth whose place isn't above
+-- a mark of less depth whose position isn't above
 abbrev pub IsOutside : Mark → Mark → Type 0
-IsOutside mark outer = (outer.depth < mark.depth) × (outer.place ≤ mark.place)
+IsOutside mark outer = (outer.depth < mark.depth) × (outer.position ≤ mark.position)

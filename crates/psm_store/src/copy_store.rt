@@ -72,7 +72,7 @@ impl Store for CopyStore {
     fn mark(&mut self, _alloc: Global) -> Result<Mark, AllocError> {
         let depth = self.copies.len() + self.uncopied;
         self.uncopied += 1;
-        Ok(Mark { depth, place: 0 })
+        Ok(Mark { depth, position: 0 })
     }
 
     fn rollback<L: Ledger>(&mut self, mark: Mark, _steps: &mut Steps<L>) {

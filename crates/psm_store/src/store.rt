@@ -11,11 +11,11 @@ use std::sync::ledger::Ledger;
 
 /// A state of a store's tables that they can be put back to.
 ///
-/// `depth` is how many marks were open before it, and `place` is for the store's own use.
+/// `depth` is how many marks were open before it, and `position` is for the store's own use.
 #[derive(Clone, Copy, Debug, PartialEq, Eq)]
 pub struct Mark {
     pub depth: u128,
-    pub place: u64,
+    pub position: u64,
 }
 
 /// Tables that can be put back to marks. No call changes the definitions of the tables, nor their number.

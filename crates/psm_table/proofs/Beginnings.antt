@@ -34,7 +34,7 @@ neither Equal = refl
 neither Greater = refl
 
 module _ (def : TableDef) (columns : List ℕ) (values : List Datum) (begin : take (length columns) def.key ≡ columns) (long : length values ≡ length columns) (filled : has_null values ≡ false) where
-  -- a key stands between the cuts before and behind the values
+  -- a key stands between the cuts before and after the values
   abbrev pub Begins : List Datum → Bool
   Begins key = is_past values false key && not (is_past values true key)
 

@@ -4,7 +4,7 @@ use Rattle.std.specs.Prelude.{All}
 use Rattle.std.proofs.lemmas.List.Elements.{All-cons, All-head, All-nil, All-tail}
 use Rattle.psm_sqlstate.specs.declared.state.SqlState.{SqlState}
 use Rattle.psm_value.specs.declared.datum.Datum.{Datum}
-use Rattle.psm_table.specs.Changing.{in_order, is_before, placed_in, row_passes, rows_pass}
+use Rattle.psm_table.specs.Changing.{in_order, is_before, inserted_in, row_passes, rows_pass}
 use Rattle.psm_table.specs.Evaluator.{Evaluator, and_then, mapped}
 
 mapped_true : (r : Result Bool SqlState) → mapped (λ more. true && more) r ≡ r
@@ -47,11 +47,11 @@ module _ {E : Type 0} (ev : Evaluator E) (checks : List E) where
 
   module _ (key : List ℕ) where
     passing_step : (row y : List Datum) (ys : List (List Datum)) (b : Bool) → is_before key row y ≡ b → Passes row
-        → rows_pass ev checks (placed_in key row ys) ≡ rows_pass ev checks ys → rows_pass ev checks (placed_in key row (y ∷ ys)) ≡ rows_pass ev checks (y ∷ ys)
+        → rows_pass ev checks (inserted_in key row ys) ≡ rows_pass ev checks ys → rows_pass ev checks (inserted_in key row (y ∷ ys)) ≡ rows_pass ev checks (y ∷ ys)
     passing_step row y ys true e p h = rw e (passing-first row (y ∷ ys) p)
     passing_step row y ys false e p h = rw e (ap (further (row_passes ev checks y)) h)
 
-    passing_placed : (row : List Datum) (rows : List (List Datum)) → Passes row → rows_pass ev checks (placed_in key row rows) ≡ rows_pass ev checks rows
+    passing_placed : (row : List Datum) (rows : List (List Datum)) → Passes row → rows_pass ev checks (inserted_in key row rows) ≡ rows_pass ev checks rows
     passing_placed row [] p = passing-first row [] p
     passing_placed row (y ∷ ys) p = passing_step row y ys (is_before key row y) refl p (passing_placed row ys p)
 

@@ -1,4 +1,4 @@
--- How many places and entries a table keeps.
+-- How many slots and entries a table keeps.
 use Rattle.std.proofs.Common.{◌≡◌, ℕ, zero, suc, ◌+◌, ◌*◌, ◌<◌, ◌≤◌, List, [], ◌∷◌, ◌++◌, length, get_or, set, drop, Bool, true, false, not, ◌||◌, refl, ap, sym, subst, ◌∙◌, arith, Some, None}
 use Rattle.std.specs.Prelude.{All, cond, filter, find, is_some, map, Option}
 use Rattle.std.specs.List.{cons_option}
@@ -112,7 +112,7 @@ module _ (def : TableDef) (columns : List ℕ) (pairs : List Slot) (up : AreAsce
       (λ p c. current_found p.key (row_of (drop (length columns) p.key) pairs) refl c) old) in
       omega (arith, ascending-within new (map (entry_of def columns) (live_rows pairs)) ascend among, length-map (live_rows pairs) (entry_of def columns))
 
--- where the sets before a place have few entries, and the one that is put there
+-- where the sets before an index have few entries, and the one that is put there
 pub few-set : (n : ℕ) (sets : Sets) (i : ℕ) (m : Mapped (Unit {0})) → i < length sets → length m.pairs ≤ n
     → ((k : ℕ) (d : List Key) → k < i → length (get_or (entries_of sets) k d) ≤ n) → (k : ℕ) (d : List Key) → k < i + 1 → length (get_or (entries_of (set sets i m)) k d) ≤ n
 few-set n [] i m l few h k d b = absurd (omega arith)
@@ -133,29 +133,29 @@ empty-pushed sets m e h = few-pushed 0 sets m e h
 
 pub counted-new : (def : TableDef) (lists : List (List ℕ)) (rows : Mapped (Option (List Datum))) (sets : Sets) → rows.pairs ≡ [] → All (λ es. length es ≤ 0) (entries_of sets) → AreCounted (state_of def lists rows sets) 0
 counted-new def lists rows sets e none l = record {
-  places = omega (arith, ap (λ (ps : List Slot). length (keys_of ps)) e);
+  slots = omega (arith, ap (λ (ps : List Slot). length (keys_of ps)) e);
   entries = λ k d m. omega (arith, none k d m);
 }
 
--- a state that has the same places and entries
-pub counted-kept : (old new : State) (left now : ℕ) → (now < full_count → (left < full_count) × (length old.contents.rows + left ≤ length new.contents.rows + now)) → new.places ≡ old.places → new.entries ≡ old.entries
+-- a state that has the same slots and entries
+pub counted-kept : (old new : State) (left now : ℕ) → (now < full_count → (left < full_count) × (length old.contents.rows + left ≤ length new.contents.rows + now)) → new.slots ≡ old.slots → new.entries ≡ old.entries
     → AreCounted old left → AreCounted new now
 counted-kept old new left now f p e h l =
     let total = f l in
     let kept = h total.0 in
     record {
-      places = omega (arith, kept.places, total.1, ap length p);
+      slots = omega (arith, kept.slots, total.1, ap length p);
       entries = subst (All (λ (es : List Key). length es ≤ length new.contents.rows + now)) (sym e) (λ k d m. omega (arith, kept.entries k d m, total.1));
     }
 
--- a state that has at most one place more, and one entry more in each set
-pub counted-grown : (old new : State) (left now : ℕ) → (now < full_count → (left < full_count) × (length old.contents.rows + left < length new.contents.rows + now)) → length new.places ≤ length old.places + 1
+-- a state that has at most one slot more, and one entry more in each set
+pub counted-grown : (old new : State) (left now : ℕ) → (now < full_count → (left < full_count) × (length old.contents.rows + left < length new.contents.rows + now)) → length new.slots ≤ length old.slots + 1
     → length new.entries ≡ length old.entries → GrowByOne old.entries new.entries → AreCounted old left → AreCounted new now
 counted-grown old new left now f p long grow h l =
     let total = f l in
     let kept = h total.0 in
     record {
-      places = omega (arith, kept.places, total.1, p);
+      slots = omega (arith, kept.slots, total.1, p);
       entries = λ k d m. omega (arith, kept.entries k d (omega (arith, m, long)), grow k d (omega (arith, m, long)), total.1);
     }
 
@@ -171,21 +171,21 @@ settled-count (p ∷ ps) = settled-count_step p p.value ps (filter (λ q. is_som
 pub settled-within : (def : TableDef) (lists : List (List ℕ)) (rows new : Mapped (Option (List Datum))) (sets : Sets) → new.pairs ≡ filter (λ p. is_some p.value) rows.pairs → All (λ es. length es ≤ length (live_rows rows.pairs)) (entries_of sets)
     → KeepsAtMost (length (live_rows rows.pairs)) (state_of def lists new sets)
 settled-within def lists rows new sets e few = record {
-  places = omega (arith, length-map new.pairs (λ (p : Slot). p.key), ap length e, settled-count rows.pairs);
+  slots = omega (arith, length-map new.pairs (λ (p : Slot). p.key), ap length e, settled-count rows.pairs);
   entries = few;
 }
 
 pub keeps-more : (s : State) (a b : ℕ) → a ≤ b → KeepsAtMost a s → KeepsAtMost b s
-keeps-more s a b l h = record { places = omega (arith, l, h.places); entries = λ k d m. omega (arith, l, h.entries k d m) }
+keeps-more s a b l h = record { slots = omega (arith, l, h.slots); entries = λ k d m. omega (arith, l, h.entries k d m) }
 
 -- a table with few rows left is tidy
 pub tidy-few : (s : State) (left : ℕ) → left < full_count → left ≤ length s.contents.rows + few_left → AreCounted s left → IsTidy s
 tidy-few s left l few h = keeps-more s (length s.contents.rows + left) (2 * length s.contents.rows + few_left) (omega (arith, few)) (h l)
 
-pub tidy-grown : (old new : State) → length old.contents.rows < length new.contents.rows → length new.places ≤ length old.places + 1 → length new.entries ≡ length old.entries → GrowByOne old.entries new.entries
+pub tidy-grown : (old new : State) → length old.contents.rows < length new.contents.rows → length new.slots ≤ length old.slots + 1 → length new.entries ≡ length old.entries → GrowByOne old.entries new.entries
     → IsTidy old → IsTidy new
 tidy-grown old new more p long grow h = record {
-  places = omega (arith, h.places, more, p);
+  slots = omega (arith, h.slots, more, p);
   entries = λ k d m. omega (arith, h.entries k d (omega (arith, m, long)), grow k d (omega (arith, m, long)), more);
 }
 
@@ -194,6 +194,6 @@ tidy-same old new e h = subst IsTidy (sym e) h
 
 pub tidy-new : (def : TableDef) (lists : List (List ℕ)) (rows : Mapped (Option (List Datum))) (sets : Sets) → rows.pairs ≡ [] → All (λ es. length es ≤ 0) (entries_of sets) → IsTidy (state_of def lists rows sets)
 tidy-new def lists rows sets e none = record {
-  places = omega (arith, ap (λ (ps : List Slot). length (keys_of ps)) e);
+  slots = omega (arith, ap (λ (ps : List Slot). length (keys_of ps)) e);
   entries = λ k d m. omega (arith, none k d m);
 }

@@ -20,7 +20,7 @@ Sets = List (Mapped (Unit {0}))
 abbrev no_set : Mapped (Unit {0})
 no_set = record { runs = []; pairs = []; ready = false }
 
--- the entries of the set at place k
+-- the entries of the set at index k
 pub get-entries : (sets : Sets) (k : ℕ) (d : Mapped (Unit {0})) (e : List (List Datum)) → k < length sets → get_or (entries_of sets) k e ≡ keys_of (get_or sets k d).pairs
 get-entries sets k d e l = get_or-map (λ (m : Mapped (Unit {0})). keys_of m.pairs) sets k d e l
 
@@ -65,7 +65,7 @@ take-less (x ∷ xs) (y ∷ ys) (suc i) e =
 pub take-get : {X : Type 0} (xs ys : List X) (i : ℕ) (d : X) → take (suc i) xs ≡ take (suc i) ys → get_or xs i d ≡ get_or ys i d
 take-get xs ys i d e = sym (get_or-take (suc i) xs i d (omega arith)) ∙ ap (λ l. get_or l i d) e ∙ get_or-take (suc i) ys i d (omega arith)
 
--- what holds at each place of two lists
+-- what holds at each index of two lists
 pub all_zip-from : {A B : Type 0} (R : A → B → Type 0) (xs : List A) (ys : List B) → length xs ≡ length ys → ((k : ℕ) (d : A) (e : B) → k < length ys → R (get_or xs k d) (get_or ys k e)) → AllZip R xs ys
 all_zip-from R [] [] l h = tt
 all_zip-from R [] (y ∷ ys) l h = absurd (omega (arith, l))
@@ -124,12 +124,12 @@ entered-grow def lists row old new long g h =
     all_zip-from (HasEntry def row) lists new (omega (arith, count, long))
     (λ k d e l n. g k e e (entry_of def (get_or lists k d) row) (omega (arith, l, long)) (all_zip-at (HasEntry def row) lists old k d e h (omega (arith, l, long)) n))
 
--- what holds at a place of three lists
+-- what holds at an index of three lists
 module _ {A B C : Type 0} (R : A → B → C → Type 0) where
   abbrev pub At : List A → List B → List C → ℕ → Type 0
   At xs ys zs k = (a : A) (b : B) (c : C) → R (get_or xs k a) (get_or ys k b) (get_or zs k c)
 
-  -- the first n places and one more, at which another element is set in the second list
+  -- the first n indexes and one more, at which another element is set in the second list
   pub at_set : (xs : List A) (ys : List B) (zs : List C) (i : ℕ) (a : A) (b : B) (c : C) → i < length xs → i < length ys → i < length zs → a ≡ get_or xs i a → c ≡ get_or zs i c → R a b c
       → ((k : ℕ) → k < i → At xs ys zs k) → (k : ℕ) → k < i + 1 → At xs (set ys i b) zs k
   at_set xs ys zs i a b c l m n ea ec r h = below_more (At xs (set ys i b) zs) i

@@ -48,7 +48,7 @@ filter-empty p (x ∷ xs) h =
     let t = filter-empty p xs (All-tail (λ y. p y ≡ false) x xs h) in
     rw e t
 
--- where the elements from place i on pass, and no others
+-- where the elements from index i on pass, and no others
 pub filter-drop : {X : Type 0} (p : X → Bool) (xs : List X) (i : ℕ) → i ≤ length xs → ((k : ℕ) (d : X) → k < i → p (get_or xs k d) ≡ false)
     → ((k : ℕ) (d : X) → i ≤ k → k < length xs → p (get_or xs k d) ≡ true) → filter p xs ≡ drop i xs
 filter-drop p [] zero l f g = refl
@@ -62,7 +62,7 @@ filter-drop p (x ∷ xs) (suc i) l f g =
     let t = filter-drop p xs i (omega arith) (λ k d b. f (suc k) d (omega arith)) (λ k d b m. g (suc k) d (omega arith) (omega arith)) in
     rw e t
 
--- and where those before place i don't pass
+-- and where those before index i don't pass
 pub filter-take : {X : Type 0} (p : X → Bool) (xs : List X) (i : ℕ) → i ≤ length xs → ((k : ℕ) (d : X) → k < i → p (get_or xs k d) ≡ false)
     → ((k : ℕ) (d : X) → i ≤ k → k < length xs → p (get_or xs k d) ≡ true) → filter (λ x. not (p x)) xs ≡ take i xs
 filter-take p [] zero l f g = refl

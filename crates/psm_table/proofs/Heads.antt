@@ -16,7 +16,7 @@ use Rattle.psm_table.specs.Leading.{both_lead, known_order, leading_of, leading_
 use Rattle.psm_table.specs.Map.{prefix_order}
 use Rattle.psm_table.specs.Runs.{begins, head_of}
 
--- a key has no number behind its end
+-- a key has no number after its end
 pub number_past : (key : List Datum) (i : ℕ) → length key ≤ i → None ≡ number_at key i
 number_past [] i l = refl
 number_past (v ∷ vs) zero l = absurd (omega arith)
@@ -92,15 +92,15 @@ leading_alone (Num a ∷ vs) (Null ∷ []) n t e = cc
 leading_alone (Num a ∷ vs) (Text s ∷ []) n t e = cc
 leading_alone (Num a ∷ vs) (Num b ∷ []) n t e = e ∙ sym (ap (ordering_then (order a b)) (known_nothing (number_at vs 0)))
 
-past_less : (k : List Datum) (is_behind : Bool) (key : List Datum) → Less ≡ prefix_order k key → false ≡ is_past k is_behind key
+past_less : (k : List Datum) (is_after : Bool) (key : List Datum) → Less ≡ prefix_order k key → false ≡ is_past k is_after key
 past_less k true key e = ap is_gt e
 past_less k false key e = ap (λ o. not (is_lt o)) e
 
-past_greater : (k : List Datum) (is_behind : Bool) (key : List Datum) → Greater ≡ prefix_order k key → true ≡ is_past k is_behind key
+past_greater : (k : List Datum) (is_after : Bool) (key : List Datum) → Greater ≡ prefix_order k key → true ≡ is_past k is_after key
 past_greater k true key e = ap is_gt e
 past_greater k false key e = ap (λ o. not (is_lt o)) e
 
-past_equal : (k : List Datum) (is_behind : Bool) (key : List Datum) → Equal ≡ prefix_order k key → not is_behind ≡ is_past k is_behind key
+past_equal : (k : List Datum) (is_after : Bool) (key : List Datum) → Equal ≡ prefix_order k key → not is_after ≡ is_past k is_after key
 past_equal k true key e = ap is_gt e
 past_equal k false key e = ap (λ o. not (is_lt o)) e
 
@@ -115,19 +115,19 @@ module _ {V : Type 0} where
   head_greater (p ∷ ps) k l = ap is_gt ((leading_decides p.key k).1 l)
 
   -- the same of a cut, and equal numbers decide where there is no other value
-  pub head_short : (pairs : List (Pair V)) (k : List Datum) (is_behind : Bool) → Less ≡ leading_order (head_of pairs) (leading_of k) → false ≡ begins (λ p. is_past k is_behind p.key) pairs
-  head_short [] k is_behind l = refl
-  head_short (p ∷ ps) k is_behind l = past_less k is_behind p.key ((leading_prefix p.key k).0 l)
+  pub head_short : (pairs : List (Pair V)) (k : List Datum) (is_after : Bool) → Less ≡ leading_order (head_of pairs) (leading_of k) → false ≡ begins (λ p. is_past k is_after p.key) pairs
+  head_short [] k is_after l = refl
+  head_short (p ∷ ps) k is_after l = past_less k is_after p.key ((leading_prefix p.key k).0 l)
 
-  pub head_past : (pairs : List (Pair V)) (k : List Datum) (is_behind : Bool) → Greater ≡ leading_order (head_of pairs) (leading_of k) → true ≡ begins (λ p. is_past k is_behind p.key) pairs
-  head_past [] k is_behind l = cc
-  head_past (p ∷ ps) k is_behind l = past_greater k is_behind p.key ((leading_prefix p.key k).1 l)
+  pub head_past : (pairs : List (Pair V)) (k : List Datum) (is_after : Bool) → Greater ≡ leading_order (head_of pairs) (leading_of k) → true ≡ begins (λ p. is_past k is_after p.key) pairs
+  head_past [] k is_after l = cc
+  head_past (p ∷ ps) k is_after l = past_greater k is_after p.key ((leading_prefix p.key k).1 l)
 
-  pub head_alone : (pairs : List (Pair V)) (k : List Datum) (is_behind : Bool) → Equal ≡ leading_order (head_of pairs) (leading_of k) → both_lead (head_of pairs) (leading_of k) ≡ true → length k ≡ 1 → not is_behind ≡ begins (λ p. is_past k is_behind p.key) pairs
-  head_alone [] k is_behind l t n = cc
-  head_alone (p ∷ ps) k is_behind l t n = past_equal k is_behind p.key (leading_alone p.key k n t l)
+  pub head_alone : (pairs : List (Pair V)) (k : List Datum) (is_after : Bool) → Equal ≡ leading_order (head_of pairs) (leading_of k) → both_lead (head_of pairs) (leading_of k) ≡ true → length k ≡ 1 → not is_after ≡ begins (λ p. is_past k is_after p.key) pairs
+  head_alone [] k is_after l t n = cc
+  head_alone (p ∷ ps) k is_after l t n = past_equal k is_after p.key (leading_alone p.key k n t l)
 
-  -- a pair is put in at a place
+  -- a pair is put in at an index
   pub head-insert : (pairs : List (Pair V)) (i : ℕ) (p : Pair V) → i ≤ length pairs → head_of (insert pairs i p) ≡ (if nat_eq i 0 then leading_of p.key else head_of pairs)
   head-insert pairs zero p l = refl
   head-insert [] (suc i) p l = absurd (omega arith)

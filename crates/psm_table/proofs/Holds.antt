@@ -26,19 +26,19 @@ use Rattle.psm_table.proofs.Filters.{AllPairs-rest}
 use Rattle.psm_table.proofs.Keys.{has-grown, keys-longer}
 use Rattle.psm_table.proofs.Lives.{keyed-with_pair, keyed-with_value, live-hidden, live-inserted, live-replaced}
 use Rattle.psm_table.proofs.Pairs.{Rises, after_equal, keys-with_value, with_value-greater}
-use Rattle.psm_table.proofs.Tables.{found-all, have_places, held-find, held-put, held-without, keeps-grow, length-around, length-hidden, length-over, length-put, row_kept, Sets, Slot, Slots}
+use Rattle.psm_table.proofs.Tables.{found-all, have_slots, held-find, held-put, held-without, keeps-grow, length-around, length-hidden, length-over, length-put, row_kept, Sets, Slot, Slots}
 
 some_row : (o : Option (Option (List Datum))) (row : List Datum) → the_row o ≡ Some row → o ≡ Some (Some row)
 some_row None row e = cc
 some_row (Some None) row e = cc
 some_row (Some (Some r)) row e = ap (λ (x : Option (List Datum)). Some x) e
 
-some_place : (o : Option (Option (List Datum))) (row : List Datum) → o ≡ Some (Some row) → the_row o ≡ Some row
-some_place o row e = ap the_row e
+some_slot : (o : Option (Option (List Datum))) (row : List Datum) → o ≡ Some (Some row) → the_row o ≡ Some row
+some_slot o row e = ap the_row e
 
-pub has_place : (o : Option (Option (List Datum))) (row : List Datum) → the_row o ≡ Some row → IsSome o
-has_place None row e = cc
-has_place (Some x) row e = refl
+pub has_slot : (o : Option (Option (List Datum))) (row : List Datum) → the_row o ≡ Some row → IsSome o
+has_slot None row e = cc
+has_slot (Some x) row e = refl
 
 some_back : (o : Option Slot) → IsSome (option_map (λ (p : Slot). p.value) o) → IsSome o
 some_back None s = s
@@ -86,8 +86,8 @@ held-same def lists rows new live sets more e f long h = record {
 
 pub state-same : (def : TableDef) (lists : List (List ℕ)) (rows new : Slots) (sets more : Sets) → new.pairs ≡ rows.pairs → entries_of more ≡ entries_of sets → state_of def lists new more ≡ state_of def lists rows sets
 state-same def lists rows new sets more e f =
-    ap (λ (ps : List Slot). record { contents = record { def = def; rows = live_rows ps }; places = keys_of ps; lists = lists; entries = entries_of more }) e
-    ∙ ap (λ es. record { contents = contents_of def rows; places = keys_of rows.pairs; lists = lists; entries = es }) f
+    ap (λ (ps : List Slot). record { contents = record { def = def; rows = live_rows ps }; slots = keys_of ps; lists = lists; entries = entries_of more }) e
+    ∙ ap (λ es. record { contents = contents_of def rows; slots = keys_of rows.pairs; lists = lists; entries = es }) f
 
 length-with_pair : (key row : List Datum) (pairs : List Slot) → value_of key pairs ≡ None → length (live_rows (with_pair (record { key = key; value = Some row }) pairs)) ≡ suc (length (live_rows pairs))
 length-with_pair key row pairs absent =
@@ -102,10 +102,10 @@ module _ (def : TableDef) (lists : List (List ℕ)) (rows : Slots) (live : ℕ) 
   pub its_row : (key row : List Datum) → row_of key rows.pairs ≡ Some row → IsRow def row
   its_row key row s = found-all (λ r. is_eq (row_order def.key key r)) (IsRow def) (live_rows rows.pairs) row (sym (held-find def lists rows live sets h key) ∙ s) h.table.fit
 
-  its_place : (key row : List Datum) → row_of key rows.pairs ≡ Some row → has_key (keys_of rows.pairs) (values_at def.key row) ≡ true
-  its_place key row s =
+  its_slot : (key row : List Datum) → row_of key rows.pairs ≡ Some row → has_key (keys_of rows.pairs) (values_at def.key row) ≡ true
+  its_slot key row s =
       found-all (λ r. is_eq (row_order def.key key r)) (λ r. has_key (keys_of rows.pairs) (values_at def.key r) ≡ true) (live_rows rows.pairs) row
-      (sym (held-find def lists rows live sets h key) ∙ s) (have_places def.key rows.pairs h.keyed)
+      (sym (held-find def lists rows live sets h key) ∙ s) (have_slots def.key rows.pairs h.keyed)
 
   its_entries : (key row : List Datum) → row_of key rows.pairs ≡ Some row → IsEntered def lists (entries_of sets) row
   its_entries key row s =
@@ -133,7 +133,7 @@ module _ (def : TableDef) (lists : List (List ℕ)) (rows : Slots) (live : ℕ) 
     same_keys = ap keys_of e ∙ keys-with_value key None rows.pairs
 
     pub kept-hidden : KeepsRow (state_of def lists new sets) row
-    kept-hidden = row_kept def lists new sets row (ap (λ ks. has_key ks (values_at def.key row)) same_keys ∙ its_place key row s) (its_entries key row s)
+    kept-hidden = row_kept def lists new sets row (ap (λ ks. has_key ks (values_at def.key row)) same_keys ∙ its_slot key row s) (its_entries key row s)
 
     pub keeps-hidden : StillKeeps (state_of def lists rows sets) (state_of def lists new sets)
     keeps-hidden = keeps-grow def lists rows new sets sets (λ k f. ap (λ ks. has_key ks k) same_keys ∙ f) refl (λ k d e key l f. ap (λ (x : List (List Datum)). has_key x key) (get_or_default (entries_of sets) k e d l) ∙ f)
@@ -142,20 +142,20 @@ module _ (def : TableDef) (lists : List (List ℕ)) (rows : Slots) (live : ℕ) 
     counted-hidden left now step h =
         counted-kept (state_of def lists rows sets) (state_of def lists new sets) left now (λ l. (omega (arith, l, step l), omega (arith, step l, fewer))) same_keys refl h
 
-  -- a row is put where its key has a place
-  module _ (row : List Datum) (new : Slots) (more : Sets) (fits : IsRow def row) (place : IsSome (value_of (values_at def.key row) rows.pairs))
+  -- a row is put where its key has a slot
+  module _ (row : List Datum) (new : Slots) (more : Sets) (fits : IsRow def row) (slot : IsSome (value_of (values_at def.key row) rows.pairs))
       (e : new.pairs ≡ with_value (values_at def.key row) (Some row) rows.pairs) (long : length more ≡ length sets) (grow : Grow (entries_of sets) (entries_of more)) (entered : IsEntered def lists (entries_of more) row) (order : AreAscending new.pairs) where
     rows_put : live_rows new.pairs ≡ put def.key row (live_rows rows.pairs)
-    rows_put = ap live_rows e ∙ live-replaced def.key row rows.pairs up h.keyed (pair_some (values_at def.key row) rows.pairs place)
+    rows_put = ap live_rows e ∙ live-replaced def.key row rows.pairs up h.keyed (pair_some (values_at def.key row) rows.pairs slot)
 
     pub contents-put : contents_of def new ≡ with_row (contents_of def rows) row
     contents-put = ap (λ r. record { def = def; rows = r }) rows_put
 
-    same_places : keys_of new.pairs ≡ keys_of rows.pairs
-    same_places = ap keys_of e ∙ keys-with_value (values_at def.key row) (Some row) rows.pairs
+    same_slots : keys_of new.pairs ≡ keys_of rows.pairs
+    same_slots = ap keys_of e ∙ keys-with_value (values_at def.key row) (Some row) rows.pairs
 
     pub keeps-put : StillKeeps (state_of def lists rows sets) (state_of def lists new more)
-    keeps-put = keeps-grow def lists rows new sets more (λ k f. ap (λ ks. has_key ks k) same_places ∙ f) long grow
+    keeps-put = keeps-grow def lists rows new sets more (λ k f. ap (λ ks. has_key ks k) same_slots ∙ f) long grow
 
     keyed_put : All (HasItsKey def.key) new.pairs
     keyed_put = subst (All (HasItsKey def.key)) (sym e) (keyed-with_value def.key (values_at def.key row) (Some row) rows.pairs refl h.keyed)
@@ -169,7 +169,7 @@ module _ (def : TableDef) (lists : List (List ℕ)) (rows : Slots) (live : ℕ) 
 
     pub kept-over : (was : List Datum) → row_of (values_at def.key row) rows.pairs ≡ Some was → KeepsRow (state_of def lists new more) was
     kept-over was s =
-        row_kept def lists new more was (ap (λ ks. has_key ks (values_at def.key was)) same_places ∙ its_place (values_at def.key row) was s)
+        row_kept def lists new more was (ap (λ ks. has_key ks (values_at def.key was)) same_slots ∙ its_slot (values_at def.key row) was s)
         (entered-grow def lists was (entries_of sets) (entries_of more) (omega (arith, long, length-entries sets, length-entries more)) grow (its_entries (values_at def.key row) was s))
 
     same_count : (was : List Datum) → row_of (values_at def.key row) rows.pairs ≡ Some was → length (live_rows new.pairs) ≡ length (live_rows rows.pairs)
@@ -180,39 +180,39 @@ module _ (def : TableDef) (lists : List (List ℕ)) (rows : Slots) (live : ℕ) 
         → AreCounted (state_of def lists rows sets) left → AreCounted (state_of def lists new more) now
     counted-over was s one left now step h =
         counted-grown (state_of def lists rows sets) (state_of def lists new more) left now (λ l. (omega (arith, l, step l), omega (arith, step l, same_count was s)))
-        (omega (arith, ap length same_places)) (omega (arith, long, length-entries sets, length-entries more)) one h
+        (omega (arith, ap length same_slots)) (omega (arith, long, length-entries sets, length-entries more)) one h
 
     -- a row that was kept
     pub counted-back : (was : List Datum) → row_of (values_at def.key row) rows.pairs ≡ Some was → entries_of more ≡ entries_of sets → (left : ℕ) → AreCounted (state_of def lists rows sets) left → AreCounted (state_of def lists new more) left
     counted-back was s same left h =
-        counted-kept (state_of def lists rows sets) (state_of def lists new more) left left (λ l. (l, omega (arith, same_count was s))) same_places same h
+        counted-kept (state_of def lists rows sets) (state_of def lists new more) left left (λ l. (l, omega (arith, same_count was s))) same_slots same h
 
     -- where there was none
     pub counted-again : row_of (values_at def.key row) rows.pairs ≡ None → GrowByOne (entries_of sets) (entries_of more) → (left : ℕ) → AreCounted (state_of def lists rows sets) left → AreCounted (state_of def lists new more) left
     counted-again none growth left h =
-        let flagged : value_of (values_at def.key row) rows.pairs ≡ Some None = no_row_there (value_of (values_at def.key row) rows.pairs) place none in
+        let flagged : value_of (values_at def.key row) rows.pairs ≡ Some None = no_row_there (value_of (values_at def.key row) rows.pairs) slot none in
         let one : length (live_rows new.pairs) ≡ suc (length (live_rows rows.pairs)) = ap (λ ps. length (live_rows ps)) e ∙ length-put (values_at def.key row) rows.pairs row up flagged in
-        counted-grown (state_of def lists rows sets) (state_of def lists new more) left left (λ l. (l, omega (arith, one))) (omega (arith, ap length same_places)) (omega (arith, long, length-entries sets, length-entries more)) growth h
+        counted-grown (state_of def lists rows sets) (state_of def lists new more) left left (λ l. (l, omega (arith, one))) (omega (arith, ap length same_slots)) (omega (arith, long, length-entries sets, length-entries more)) growth h
 
     pub tidy-again : row_of (values_at def.key row) rows.pairs ≡ None → GrowByOne (entries_of sets) (entries_of more) → IsTidy (state_of def lists rows sets) → IsTidy (state_of def lists new more)
     tidy-again none growth h =
-        let flagged : value_of (values_at def.key row) rows.pairs ≡ Some None = no_row_there (value_of (values_at def.key row) rows.pairs) place none in
+        let flagged : value_of (values_at def.key row) rows.pairs ≡ Some None = no_row_there (value_of (values_at def.key row) rows.pairs) slot none in
         let one : length (live_rows new.pairs) ≡ suc (length (live_rows rows.pairs)) = ap (λ ps. length (live_rows ps)) e ∙ length-put (values_at def.key row) rows.pairs row up flagged in
-        tidy-grown (state_of def lists rows sets) (state_of def lists new more) (omega (arith, one)) (omega (arith, ap length same_places)) (omega (arith, long, length-entries sets, length-entries more)) growth h
+        tidy-grown (state_of def lists rows sets) (state_of def lists new more) (omega (arith, one)) (omega (arith, ap length same_slots)) (omega (arith, long, length-entries sets, length-entries more)) growth h
 
     pub held-again : row_of (values_at def.key row) rows.pairs ≡ None → length (put def.key row (live_rows rows.pairs)) ≤ most_rows → IsHeld def lists new (live + 1) more
     held-again none bound =
-        let flagged : value_of (values_at def.key row) rows.pairs ≡ Some None = no_row_there (value_of (values_at def.key row) rows.pairs) place none in
+        let flagged : value_of (values_at def.key row) rows.pairs ≡ Some None = no_row_there (value_of (values_at def.key row) rows.pairs) slot none in
         let one : length (live_rows new.pairs) ≡ suc (length (live_rows rows.pairs)) = ap (λ ps. length (live_rows ps)) e ∙ length-put (values_at def.key row) rows.pairs row up flagged in
         held-put def lists rows live sets h row new (live + 1) more fits rows_put keyed_put (omega (arith, h.count, one)) (subst (λ r. length r ≤ most_rows) (sym rows_put) bound) long grow entered order
 
     pub room-again : row_of (values_at def.key row) rows.pairs ≡ None → length (live_rows rows.pairs) < most_rows → length (put def.key row (live_rows rows.pairs)) ≤ most_rows
     room-again none room =
-        let flagged : value_of (values_at def.key row) rows.pairs ≡ Some None = no_row_there (value_of (values_at def.key row) rows.pairs) place none in
+        let flagged : value_of (values_at def.key row) rows.pairs ≡ Some None = no_row_there (value_of (values_at def.key row) rows.pairs) slot none in
         let one : length (live_rows new.pairs) ≡ suc (length (live_rows rows.pairs)) = ap (λ ps. length (live_rows ps)) e ∙ length-put (values_at def.key row) rows.pairs row up flagged in
         omega (arith, room, one, ap length rows_put)
 
-  -- a row is put in whose key has no place
+  -- a row is put in whose key has no slot
   module _ (row : List Datum) (new : Slots) (more : Sets) (fits : IsRow def row) (absent : value_of (values_at def.key row) rows.pairs ≡ None)
       (e : new.pairs ≡ with_pair (record { key = values_at def.key row; value = Some row }) rows.pairs) (long : length more ≡ length sets) (grow : Grow (entries_of sets) (entries_of more)) (entered : IsEntered def lists (entries_of more) row) (order : AreAscending new.pairs) where
     rows_first : live_rows new.pairs ≡ put def.key row (live_rows rows.pairs)
@@ -335,7 +335,7 @@ inserted_last : {X : Type 0} (xs : List X) (x : X) → insert xs (length xs) x �
 inserted_last [] x = refl
 inserted_last (y ∷ ys) x = ap (λ zs. y ∷ zs) (inserted_last ys x)
 
--- what is put in behind all others
+-- what is put in after all others
 pub inserted-last : {X : Type 0} (xs ys : List X) (n : ℕ) (x : X) → xs ≡ ys → n ≡ length xs → insert xs n x ≡ ys ++ x ∷ []
 inserted-last xs ys n x e l = ap (λ k. insert xs k x) l ∙ inserted_last xs x ∙ ap (λ zs. zs ++ x ∷ []) e
 
@@ -359,7 +359,7 @@ module _ (def : TableDef) (lists : List (List ℕ)) (rows : Slots) (live : ℕ) 
   }
 
   pub keeps-indexed : set.pairs ≡ [] → (most : ℕ) → KeepsAtMost most (state_of def lists rows sets) → KeepsAtMost most (state_of def one_list rows one_set)
-  keeps-indexed empty most k = record { places = k.places; entries = few-pushed most sets set empty k.entries }
+  keeps-indexed empty most k = record { slots = k.slots; entries = few-pushed most sets set empty k.entries }
 
   pub counted-indexed : set.pairs ≡ [] → (left : ℕ) → AreCounted (state_of def lists rows sets) left → AreCounted (state_of def one_list rows one_set) left
   counted-indexed empty left k l = keeps-indexed empty (length (live_rows rows.pairs) + left) (k l)

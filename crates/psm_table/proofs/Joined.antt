@@ -10,7 +10,7 @@ use Rattle.std.specs.Ordering.{is_lt, is_gt, is_eq}
 use Rattle.psm_value.specs.declared.datum.Datum.{Datum}
 use Rattle.psm_table.specs.declared.map.Pair.{Pair}
 use Rattle.psm_table.specs.declared.map.Position.{Position}
-use Rattle.psm_table.specs.Place.{IsAt, StandsAt}
+use Rattle.psm_table.specs.PairPosition.{IsAt, StandsAt}
 use Rattle.psm_table.specs.Runs.{joined, AreRunsBut, IsIn, IsRun, IsTurn}
 use Rattle.psm_table.specs.Key.{key_order}
 use Rattle.psm_table.specs.Map.{AreAscending, exchanged, pair_with, pairs_above, pairs_below, value_of, with_pair, with_value}
@@ -166,13 +166,13 @@ module _ {V : Type 0} where
       ∙ sym (with_pair-lift p (joined (take i cs)) (get_or cs i d) (joined (drop (suc i) cs)) h.low (rw add-one at h.high))
       ∙ ap (with_pair p) (sym (joined-split cs i d h.inside))
 
-  -- the run at place i and those after it
+  -- the run at index i and those after it
   pub joined-drop : (cs : List (List (Pair V))) (i : ℕ) (d : List (Pair V)) → i < length cs → joined (drop i cs) ≡ get_or cs i d ++ joined (drop (suc i) cs)
   joined-drop [] i d l = absurd (omega arith)
   joined-drop (c ∷ cs) zero d l = refl
   joined-drop (c ∷ cs) (suc i) d l = joined-drop cs i d (omega arith)
 
-  -- the runs up to that at place i
+  -- the runs up to that at index i
   pub joined-take : (cs : List (List (Pair V))) (i : ℕ) (d : List (Pair V)) → i < length cs → joined (take (suc i) cs) ≡ joined (take i cs) ++ get_or cs i d
   joined-take [] i d l = absurd (omega arith)
   joined-take (c ∷ cs) zero d l = append-nil c
@@ -272,7 +272,7 @@ module _ {V : Type 0} (t : Pair V → Bool) (runs : List (List (Pair V))) (i : �
   pub from_past : None ≡ slice_get (filter t (get_or runs i d)) 0 → slice_get (joined (drop (i + 1) runs)) 0 ≡ slice_get (filter t (joined runs)) 0
   from_past e = rw add-one (first_past (filter t (get_or runs i d)) (joined (drop (suc i) runs)) e ∙ ap (λ l. slice_get l 0) (sym passed))
 
--- the place in its run of a pair that stands there
+-- the index in its run of a pair that stands there
 pub stands_in : {V : Type 0} (key : List Datum) (runs : List (List (Pair V))) (p : Position) (r : List (Pair V)) → StandsAt key runs p → r ≡ get_or runs p.run r → IsAt key r p.at
 stands_in key runs p r h e = subst (λ l. IsAt key l p.at) (get_or_default runs p.run [] r h.run.inside ∙ sym e) h.at
 

@@ -7,7 +7,7 @@ use Rattle.std.proofs.lemmas.List.{get_or-set_other, get_or-set_same}
 use Rattle.std.proofs.lemmas.List.Folds.{list_all-append, list_any-append}
 use Rattle.psm_value.specs.declared.datum.Datum.{Datum}
 use Rattle.psm_table.specs.declared.definition.ForeignKey.{ForeignKey}
-use Rattle.psm_table.specs.Changing.{in_order, is_before, placed_in}
+use Rattle.psm_table.specs.Changing.{in_order, is_before, inserted_in}
 use Rattle.psm_table.specs.Key.{values_at}
 use Rattle.psm_table.specs.Keyed.{has_values, is_keyed, is_referred, new_are_referred, rows_at}
 use Rattle.psm_table.specs.Unique.{equal_values, has_null}
@@ -36,17 +36,17 @@ and_first false b e = cc
 
 module _ (columns : List ℕ) (p : Row → Bool) where
   any_step : (row y : Row) (ys : List Row) (b : Bool) → is_before columns row y ≡ b
-      → list_any p (placed_in columns row ys) ≡ (p row || list_any p ys) → list_any p (placed_in columns row (y ∷ ys)) ≡ (p row || list_any p (y ∷ ys))
+      → list_any p (inserted_in columns row ys) ≡ (p row || list_any p ys) → list_any p (inserted_in columns row (y ∷ ys)) ≡ (p row || list_any p (y ∷ ys))
   any_step row y ys true e h = rw e refl
   any_step row y ys false e h = rw e (ap (λ x. p y || x) h ∙ or_crossed (p y) (p row) (list_any p ys))
 
-  any-placed : (row : Row) (rows : List Row) → list_any p (placed_in columns row rows) ≡ (p row || list_any p rows)
-  any-placed row [] = refl
-  any-placed row (y ∷ ys) = any_step row y ys (is_before columns row y) refl (any-placed row ys)
+  any-put_in : (row : Row) (rows : List Row) → list_any p (inserted_in columns row rows) ≡ (p row || list_any p rows)
+  any-put_in row [] = refl
+  any-put_in row (y ∷ ys) = any_step row y ys (is_before columns row y) refl (any-put_in row ys)
 
   pub any-in_order : (rows : List Row) → list_any p (in_order columns rows) ≡ list_any p rows
   any-in_order [] = refl
-  any-in_order (row ∷ rows) = any-placed row (in_order columns rows) ∙ ap (λ x. p row || x) (any-in_order rows)
+  any-in_order (row ∷ rows) = any-put_in row (in_order columns rows) ∙ ap (λ x. p row || x) (any-in_order rows)
 
 -- what one of the rows passes, one of them and of others passes
 any-more : (p : Row → Bool) (columns : List ℕ) (rows new : List Row) → list_any p rows ≡ true → list_any p (in_order columns (rows ++ new)) ≡ true

@@ -8,7 +8,7 @@ use Rattle.std.proofs.lemmas.List.{append-nil, append_assoc, length-drop, map-ap
 use Rattle.std.proofs.lemmas.List.Elements.{All-head, All-tail, filter-append, filter_map-append}
 use Rattle.std.proofs.lemmas.List.Kept.{AllPairs-filter}
 use Rattle.psm_value.specs.declared.datum.Datum.{Datum}
-use Rattle.psm_table.specs.Cuts.{between, is_from, is_past, is_up_to, lies_behind, rows_between}
+use Rattle.psm_table.specs.Cuts.{between, is_from, is_past, is_up_to, lies_after, rows_between}
 use Rattle.psm_table.specs.declared.cut.Cut.{Cut}
 use Rattle.psm_table.specs.Held.{live_rows, HasItsKey}
 use Rattle.psm_table.specs.Key.{key_order, row_order, values_at}
@@ -127,7 +127,7 @@ module _ (columns : List ℕ) (t : List Datum → Bool) (same : (a b : List Datu
   kept_pairs p xs true = refl
   kept_pairs p xs false = refl
 
-  -- a test that tells equal keys not apart keeps the rows of the pairs that it keeps
+  -- a test that doesn't distinguish equal keys keeps the rows of the pairs that it keeps
   pub rows-kept : (pairs : List Slot) → All (HasItsKey columns) pairs → filter (λ row. t (values_at columns row)) (live_rows pairs) ≡ live_rows (filter (λ p. t p.key) pairs)
   rows-kept [] h = refl
   rows-kept (p ∷ ps) h =
@@ -135,16 +135,16 @@ module _ (columns : List ℕ) (t : List Datum → Bool) (same : (a b : List Datu
       ∙ ap (λ l. cond (t p.key) (cons_option p.value l) l) (rows-kept ps (All-tail (HasItsKey columns) p ps h))
       ∙ kept_pairs p (filter (λ q. t q.key) ps) (t p.key)
 
-past_same : (values : List Datum) (is_behind : Bool) (a b : List Datum) → key_order a b ≡ Equal → is_past values is_behind a ≡ is_past values is_behind b
-past_same values is_behind a b e = ap (λ o. if is_behind then is_gt o else not (is_lt o)) (prefix-equal values a b e)
+past_same : (values : List Datum) (is_after : Bool) (a b : List Datum) → key_order a b ≡ Equal → is_past values is_after a ≡ is_past values is_after b
+past_same values is_after a b e = ap (λ o. if is_after then is_gt o else not (is_lt o)) (prefix-equal values a b e)
 
 from_same : (low : Option Cut) (a b : List Datum) → key_order a b ≡ Equal → is_from low a ≡ is_from low b
 from_same None a b e = refl
-from_same (Some c) a b e = past_same c.values.now c.is_behind a b e
+from_same (Some c) a b e = past_same c.values.now c.is_after a b e
 
 up_to_same : (high : Option Cut) (a b : List Datum) → key_order a b ≡ Equal → is_up_to high a ≡ is_up_to high b
 up_to_same None a b e = refl
-up_to_same (Some c) a b e = ap not (past_same c.values.now c.is_behind a b e)
+up_to_same (Some c) a b e = ap not (past_same c.values.now c.is_after a b e)
 
 between_same : (low high : Option Cut) (a b : List Datum) → key_order a b ≡ Equal → between low high a ≡ between low high b
 between_same low high a b e = ap (λ x. x && is_up_to high a) (from_same low a b e) ∙ ap (λ x. is_from low b && x) (up_to_same high a b e)
@@ -190,22 +190,22 @@ up_to_none (Some c) xs e = cc
 rest_of : {X : Type 0} (xs : List X) (k : ℕ) → take (length xs - k) (drop k xs) ≡ drop k xs
 rest_of xs k = take-all (drop k xs) (length xs - k) (omega (arith, length-drop k xs))
 
-module _ (cut : Option Cut) (c : Cut) (runs : List (List Slot)) (i : ℕ) (d r : List Slot) (k : ℕ) (is : cut ≡ Some c) (h : IsTurn (λ (p : Slot). lies_behind c p.key) runs i) (e : r ≡ get_or runs i d) where
-  abbrev Behind : Slot → Bool
-  Behind p = lies_behind c p.key
+module _ (cut : Option Cut) (c : Cut) (runs : List (List Slot)) (i : ℕ) (d r : List Slot) (k : ℕ) (is : cut ≡ Some c) (h : IsTurn (λ (p : Slot). lies_after c p.key) runs i) (e : r ≡ get_or runs i d) where
+  abbrev IsPastCut : Slot → Bool
+  IsPastCut p = lies_after c p.key
 
   -- what is left of runs from a cut on, and up to one
-  pub parts_from : drop k r ≡ filter (λ p. lies_behind c p.key) r
+  pub parts_from : drop k r ≡ filter (λ p. lies_after c p.key) r
       → take (length r - k) (drop k r) ++ joined (take (length runs - (i + 1)) (drop (i + 1) runs)) ≡ filter (λ p. is_from cut p.key) (joined runs)
   parts_from f =
       let one : i + 1 ≡ suc i = omega arith in
-      ap (λ l. l ++ joined (take (length runs - (i + 1)) (drop (i + 1) runs))) (rest_of r k ∙ f ∙ ap (filter Behind) e)
-      ∙ ap (λ l. filter Behind (get_or runs i d) ++ joined l) (rest_of runs (i + 1) ∙ ap (λ j. drop j runs) one)
-      ∙ sym (passed Behind runs i d h)
+      ap (λ l. l ++ joined (take (length runs - (i + 1)) (drop (i + 1) runs))) (rest_of r k ∙ f ∙ ap (filter IsPastCut) e)
+      ∙ ap (λ l. filter IsPastCut (get_or runs i d) ++ joined l) (rest_of runs (i + 1) ∙ ap (λ j. drop j runs) one)
+      ∙ sym (passed IsPastCut runs i d h)
       ∙ ap (λ o. filter (λ (p : Slot). is_from o p.key) (joined runs)) (sym is)
 
-  pub parts_up_to : take k r ≡ filter (λ p. not (lies_behind c p.key)) r → joined (take i runs) ++ take k r ≡ filter (λ p. is_up_to cut p.key) (joined runs)
+  pub parts_up_to : take k r ≡ filter (λ p. not (lies_after c p.key)) r → joined (take i runs) ++ take k r ≡ filter (λ p. is_up_to cut p.key) (joined runs)
   parts_up_to f =
-      ap (λ l. joined (take i runs) ++ l) (f ∙ ap (filter (λ p. not (Behind p))) e)
-      ∙ sym (unpassed Behind runs i d h)
+      ap (λ l. joined (take i runs) ++ l) (f ∙ ap (filter (λ p. not (IsPastCut p))) e)
+      ∙ sym (unpassed IsPastCut runs i d h)
       ∙ ap (λ o. filter (λ (p : Slot). is_up_to o p.key) (joined runs)) (sym is)

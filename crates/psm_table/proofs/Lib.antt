@@ -21,7 +21,7 @@ pub mod Named
 pub mod Ordered
 pub mod Orders
 pub mod Pairs
-pub mod Places
+pub mod PairPositions
 pub mod Prefixes
 pub mod PrefixWalks
 pub mod Rivals

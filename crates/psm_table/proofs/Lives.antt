@@ -11,7 +11,7 @@ use Rattle.psm_table.specs.declared.map.Pair.{Pair}
 use Rattle.psm_table.specs.Held.{live_rows, row_of, the_row, HasItsKey}
 use Rattle.psm_table.specs.Key.{key_order, row_order, values_at}
 use Rattle.psm_table.specs.Map.{AreAscending, exchanged, pair_with, pairs_above, pairs_below, with_pair, with_value}
-use Rattle.psm_table.specs.Place.{ahead}
+use Rattle.psm_table.specs.PairPosition.{ahead}
 use Rattle.psm_table.specs.Rows.{put, row_with, rows_above, rows_below, without}
 use Rattle.psm_table.proofs.KeyLaws.{key_order-refl, key_order-total}
 use Rattle.psm_table.proofs.Filters.{equal_is, none_some, filter-whole, filter-empty, AllPairs-rest}
@@ -142,7 +142,7 @@ module _ (columns : List ℕ) (key : List Datum) where
   around-greater between ps hs g =
       ap (λ low. low ++ (between ++ rows_above columns key (live_rows ps))) (below-greater ps hs g) ∙ ap (λ high. between ++ high) (above-greater ps hs g)
 
-  -- a row is put in where the key has a place, or taken out
+  -- a row is put in where the key has a slot, or taken out
   exchange-step : (v : Option Row) (p : Slot) (ps : List Slot) (c : Ordering) → AreAscending (p ∷ ps) → All (HasItsKey columns) (p ∷ ps) → key_order p.key key ≡ c
       → (IsSome (pair_with key ps) ⊎ (v ≡ None) → live_rows (with_value key v ps) ≡ around (cons_option v []) (live_rows ps))
       → IsSome (cond (is_eq c) (Some p) (pair_with key ps)) ⊎ (v ≡ None)
@@ -180,12 +180,12 @@ module _ (columns : List ℕ) (key : List Datum) where
   pub live-hidden : (pairs : List Slot) → AreAscending pairs → All (HasItsKey columns) pairs → live_rows (with_value key None pairs) ≡ without columns key (live_rows pairs)
   live-hidden pairs up h = live-with_value None pairs up h (inr refl)
 
--- with a row at its key, which has a place
+-- with a row at its key, which has a slot
 pub live-replaced : (columns : List ℕ) (row : Row) (pairs : List Slot) → AreAscending pairs → All (HasItsKey columns) pairs → IsSome (pair_with (values_at columns row) pairs)
     → live_rows (with_value (values_at columns row) (Some row) pairs) ≡ put columns row (live_rows pairs)
 live-replaced columns row pairs up h s = live-with_value columns (values_at columns row) (Some row) pairs up h (inl s)
 
--- with a row at its key, which has no place
+-- with a row at its key, which has no slot
 pub live-inserted : (columns : List ℕ) (row : Row) (pairs : List Slot) → All (HasItsKey columns) pairs
     → live_rows (with_pair (record { key = values_at columns row; value = Some row }) pairs) ≡ put columns row (live_rows pairs)
 live-inserted columns row pairs h =

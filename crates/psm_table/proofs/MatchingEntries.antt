@@ -20,7 +20,7 @@ use Rattle.psm_table.specs.declared.unique.Found.{Found}
 use Rattle.psm_table.specs.Keyed.{has_values}
 use Rattle.psm_table.specs.Map.{keys_of, pairs_above, pairs_from, prefix_order, AreAscending}
 use Rattle.psm_table.specs.Matching.{at_most_one, rows_with}
-use Rattle.psm_table.specs.Place.{ahead}
+use Rattle.psm_table.specs.PairPosition.{ahead}
 use Rattle.psm_table.specs.Rows.{row_with, IsAscending}
 use Rattle.psm_table.specs.State.{entry_of, HasEntry}
 use Rattle.psm_table.specs.MatchingEntries.{row_having, is_matching, matching_entries, IsFirst}
@@ -378,12 +378,12 @@ own_columns (c ∷ cs) row e =
     let t = null_or (is_null (get_or row c Null)) (has_null (values_at cs row)) e in
     All-cons (λ (c : ℕ). c < length row) c cs (own_column row c Null t.0) (own_columns cs row t.1)
 
--- the place of a UNIQUE list among all lists
+-- the index of a UNIQUE list among all lists
 get-take : (n : ℕ) (lists : List (List ℕ)) (i : ℕ) (columns : List ℕ) → slice_get (take n lists) i ≡ Some columns → slice_get lists i ≡ Some columns
 get-take zero lists i columns e = cc
 get-take (suc n) [] i columns e = e
 get-take (suc n) (y ∷ lists) zero columns e = e
 get-take (suc n) (y ∷ lists) (suc i) columns e = get-take n lists i columns e
 
-pub list-place : (unique lists : List (List ℕ)) (i : ℕ) (columns : List ℕ) → take (length unique) lists ≡ unique → i < length unique → columns ≡ get_or unique i columns → slice_get lists i ≡ Some columns
-list-place unique lists i columns first l e = get-take (length unique) lists i columns (ap (λ ls. slice_get ls i) first ∙ slice_get-get_or unique i columns l ∙ ap Some (sym e))
+pub list-slot : (unique lists : List (List ℕ)) (i : ℕ) (columns : List ℕ) → take (length unique) lists ≡ unique → i < length unique → columns ≡ get_or unique i columns → slice_get lists i ≡ Some columns
+list-slot unique lists i columns first l e = get-take (length unique) lists i columns (ap (λ ls. slice_get ls i) first ∙ slice_get-get_or unique i columns l ∙ ap Some (sym e))

@@ -27,7 +27,7 @@ found_next old new keys n key lt at before kept t =
 pub found_all : (kept : ByTable) (keys : List ForeignKey) (n : ℕ) → length keys ≤ n → AreFound kept (take n keys) → AreFound kept keys
 found_all kept keys n le found t = found t ∙ ap (filter (names_table t)) (take_all n keys le)
 
--- ---- tests that only constraints which name the table can tell
+-- ---- tests whose result depends on constraints that name the table alone
 
 -- a test that all others pass
 pub all_named : (t : ℕ) (test : ForeignKey → Bool) → ((key : ForeignKey) → names_table t key ≡ false → test key ≡ true) → (keys : List ForeignKey)

@@ -7,7 +7,7 @@ use Rattle.std.specs.declared.cmp.Ordering.TheVariants.{Less, Equal, Greater}
 use Rattle.std.proofs.lemmas.List.Elements.{All-cons, All-head, All-nil, All-tail}
 use Rattle.std.proofs.lemmas.List.Kept.{AllPairs-cons}
 use Rattle.psm_value.specs.declared.datum.Datum.{Datum}
-use Rattle.psm_table.specs.Changing.{in_order, is_before, placed_in}
+use Rattle.psm_table.specs.Changing.{in_order, is_before, inserted_in}
 use Rattle.psm_table.specs.Key.{key_order, row_order, values_at}
 use Rattle.psm_table.specs.Rows.{put, row_with, rows_above, IsAscending}
 use Rattle.psm_table.proofs.Filters.{AllPairs-first, AllPairs-rest}
@@ -51,8 +51,8 @@ module _ (key : List ℕ) where
   placed_after row (r ∷ rows) = if is_before key r row then r ∷ placed_after row rows else row ∷ r ∷ rows
 
   both_step : (x r y : Row) (ys : List Row) (a b c : Bool) → is_before key x y ≡ a → is_before key y r ≡ b → is_before key x r ≡ c
-      → placed_in key x (placed_after r ys) ≡ placed_after r (placed_in key x ys)
-      → placed_in key x (placed_after r (y ∷ ys)) ≡ placed_after r (placed_in key x (y ∷ ys))
+      → inserted_in key x (placed_after r ys) ≡ placed_after r (inserted_in key x ys)
+      → inserted_in key x (placed_after r (y ∷ ys)) ≡ placed_after r (inserted_in key x (y ∷ ys))
   both_step x r y ys true true c e f g h = let k : is_before key x r ≡ true = before_chained x y r e f in rw (e, f, k, e) refl
   both_step x r y ys true false true e f g h = rw (e, f, g) refl
   both_step x r y ys true false false e f g h = rw (e, f, g, e) refl
@@ -60,14 +60,14 @@ module _ (key : List ℕ) where
   both_step x r y ys false false c e f g h = let k : is_before key x r ≡ false = after_chained x y r c e f g in rw (e, f, k, e) refl
 
   -- it is the same which of two rows is placed first, one before those with the same key and one after them
-  placed_both : (x r : Row) (ys : List Row) → placed_in key x (placed_after r ys) ≡ placed_after r (placed_in key x ys)
+  placed_both : (x r : Row) (ys : List Row) → inserted_in key x (placed_after r ys) ≡ placed_after r (inserted_in key x ys)
   placed_both x r [] = refl
   placed_both x r (y ∷ ys) = both_step x r y ys (is_before key x y) (is_before key y r) (is_before key x r) refl refl refl (placed_both x r ys)
 
   -- the last row goes after those with the same key
   pub in_order-last : (rows : List Row) (row : Row) → in_order key (rows ++ row ∷ []) ≡ placed_after row (in_order key rows)
   in_order-last [] row = refl
-  in_order-last (r ∷ rows) row = ap (placed_in key r) (in_order-last rows row) ∙ placed_both r row (in_order key rows)
+  in_order-last (r ∷ rows) row = ap (inserted_in key r) (in_order-last rows row) ∙ placed_both r row (in_order key rows)
 
   -- a row is put into a table where it is placed
   abbrev Rises : Row → Row → Type 0
@@ -82,26 +82,26 @@ module _ (key : List ℕ) where
       let g = after_greater key (values_at key row) y ys up e in
       rw e (ap (λ l. l ++ row ∷ y ∷ rows_above key (values_at key row) ys) (none-below key (values_at key row) ys g) ∙ ap (λ l. row ∷ y ∷ l) (all-above key (values_at key row) ys g))
 
-  pub put-placed : (row : Row) (rows : List Row) → IsAscending key rows → row_with key (values_at key row) rows ≡ None → put key row rows ≡ placed_after row rows
-  put-placed row [] up n = refl
-  put-placed row (y ∷ ys) up n = put_step row y ys (row_order key (values_at key row) y) up refl (put-placed row ys (AllPairs-rest Rises y ys up)) n
+  pub put-put_in : (row : Row) (rows : List Row) → IsAscending key rows → row_with key (values_at key row) rows ≡ None → put key row rows ≡ placed_after row rows
+  put-put_in row [] up n = refl
+  put-put_in row (y ∷ ys) up n = put_step row y ys (row_order key (values_at key row) y) up refl (put-put_in row ys (AllPairs-rest Rises y ys up)) n
 
   -- rows that ascend are in order
-  first_placed : (row : Row) (rows : List Row) → All (Rises row) rows → placed_in key row rows ≡ row ∷ rows
+  first_placed : (row : Row) (rows : List Row) → All (Rises row) rows → inserted_in key row rows ≡ row ∷ rows
   first_placed row [] h = refl
   first_placed row (r ∷ rows) h = let e : is_before key row r ≡ true = ap is_le (All-head (Rises row) r rows h) in rw e refl
 
   pub in_order-ascending : (rows : List Row) → IsAscending key rows → in_order key rows ≡ rows
   in_order-ascending [] up = refl
   in_order-ascending (r ∷ rows) up =
-      ap (placed_in key r) (in_order-ascending rows (AllPairs-rest Rises r rows up)) ∙ first_placed r rows (AllPairs-first Rises r rows up)
+      ap (inserted_in key r) (in_order-ascending rows (AllPairs-rest Rises r rows up)) ∙ first_placed r rows (AllPairs-first Rises r rows up)
 
   -- what holds of each row holds of each in order
-  all_placed_step : (P : Row → Type 0) (row y : Row) (ys : List Row) (b : Bool) → is_before key row y ≡ b → P row → All P (y ∷ ys) → All P (placed_in key row ys) → All P (placed_in key row (y ∷ ys))
+  all_placed_step : (P : Row → Type 0) (row y : Row) (ys : List Row) (b : Bool) → is_before key row y ≡ b → P row → All P (y ∷ ys) → All P (inserted_in key row ys) → All P (inserted_in key row (y ∷ ys))
   all_placed_step P row y ys true e p h t = rw e (All-cons P row (y ∷ ys) p h)
-  all_placed_step P row y ys false e p h t = rw e (All-cons P y (placed_in key row ys) (All-head P y ys h) t)
+  all_placed_step P row y ys false e p h t = rw e (All-cons P y (inserted_in key row ys) (All-head P y ys h) t)
 
-  pub all_placed : (P : Row → Type 0) (row : Row) (rows : List Row) → P row → All P rows → All P (placed_in key row rows)
+  pub all_placed : (P : Row → Type 0) (row : Row) (rows : List Row) → P row → All P rows → All P (inserted_in key row rows)
   all_placed P row [] p h = All-cons P row [] p h
   all_placed P row (y ∷ ys) p h = all_placed_step P row y ys (is_before key row y) refl p h (all_placed P row ys p (All-tail P y ys h))
 
@@ -116,12 +116,12 @@ module _ (key : List ℕ) where
   abbrev Before : Row → Row → Type 0
   Before a b = is_before key a b ≡ true
 
-  placed_step : (row y : Row) (ys : List Row) (b : Bool) → is_before key row y ≡ b → AreOrdered (y ∷ ys) → AreOrdered (placed_in key row ys) → AreOrdered (placed_in key row (y ∷ ys))
+  placed_step : (row y : Row) (ys : List Row) (b : Bool) → is_before key row y ≡ b → AreOrdered (y ∷ ys) → AreOrdered (inserted_in key row ys) → AreOrdered (inserted_in key row (y ∷ ys))
   placed_step row y ys true e h t =
       rw e (AllPairs-cons Before row (y ∷ ys) (All-cons (Before row) y ys e (λ k d l. before_chained row y (get_or ys k d) e (AllPairs-first Before y ys h k d l))) h)
-  placed_step row y ys false e h t = rw e (AllPairs-cons Before y (placed_in key row ys) (all_placed (Before y) row ys (before_or_after row y e) (AllPairs-first Before y ys h)) t)
+  placed_step row y ys false e h t = rw e (AllPairs-cons Before y (inserted_in key row ys) (all_placed (Before y) row ys (before_or_after row y e) (AllPairs-first Before y ys h)) t)
 
-  placed_ordered : (row : Row) (rows : List Row) → AreOrdered rows → AreOrdered (placed_in key row rows)
+  placed_ordered : (row : Row) (rows : List Row) → AreOrdered rows → AreOrdered (inserted_in key row rows)
   placed_ordered row [] h = AllPairs-cons Before row [] (All-nil (Before row)) h
   placed_ordered row (y ∷ ys) h = placed_step row y ys (is_before key row y) refl h (placed_ordered row ys (AllPairs-rest Before y ys h))
 

@@ -21,7 +21,7 @@ key_order-drop_suc (x ∷ a) [] i d l m = absurd (omega arith)
 key_order-drop_suc (x ∷ a) (y ∷ b) zero d l m = refl
 key_order-drop_suc (x ∷ a) (y ∷ b) (suc i) d l m = key_order-drop_suc a b i d (omega arith) (omega arith)
 
--- the values at place i decide, and else what follows them does
+-- the values at index i decide, and else what follows them does
 pub key_order-drop : (a b : List Datum) (i : ℕ) (d : Datum) → i < length a → i < length b
     → key_order (drop i a) (drop i b) ≡ ordering_then (data_order (get_or a i d) (get_or b i d)) (key_order (drop (i + 1) a) (drop (i + 1) b))
 key_order-drop a b i d l m = rw add-one (key_order-drop_suc a b i d l m)

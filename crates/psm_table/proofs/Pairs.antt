@@ -11,7 +11,7 @@ use Rattle.psm_value.specs.declared.datum.Datum.{Datum}
 use Rattle.psm_table.specs.declared.map.Pair.{Pair}
 use Rattle.psm_table.specs.Key.{key_order}
 use Rattle.psm_table.specs.Map.{AreAscending, exchanged, keys_of, pair_with, pairs_above, pairs_below, value_of, with_pair, with_value}
-use Rattle.psm_table.specs.Place.{IsAt, IsGap}
+use Rattle.psm_table.specs.PairPosition.{IsAt, IsGap}
 use Rattle.psm_table.proofs.KeyLaws.{key_order-total}
 use Rattle.psm_table.proofs.Filters.{filtered, find_passes, AllPairs-first, AllPairs-rest, AllPairs-append, less_is, equal_is, greater_is}
 use Rattle.psm_table.proofs.Searches.{less_before_equal, greater_after_equal, greater_after_greater}

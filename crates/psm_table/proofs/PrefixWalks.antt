@@ -9,7 +9,7 @@ use Rattle.psm_value.specs.declared.datum.Datum.{Datum}
 use Rattle.psm_table.specs.declared.map.Pair.{Pair}
 use Rattle.psm_table.specs.Key.{key_order}
 use Rattle.psm_table.specs.Map.{AreAscending, pairs_above, pairs_from, prefix_order}
-use Rattle.psm_table.specs.Place.{ahead}
+use Rattle.psm_table.specs.PairPosition.{ahead}
 use Rattle.psm_table.proofs.Filters.{filtered, unfiltered, greater_is}
 use Rattle.psm_table.proofs.Pairs.{Rises}
 use Rattle.psm_table.proofs.Prefixes.{prefix-greater}

@@ -62,7 +62,7 @@ equal_trans a b c e f = key_order-total.congr a b c e ∙ f
 pub equal_sym : (a b : List Datum) → key_order a b ≡ Equal → key_order b a ≡ Equal
 equal_sym a b e = key_order-total.antisymm b a ∙ ap ordering_reverse e
 
--- the row at a place is the one that has its key
+-- the row at an index is the one that has its key
 pub row_with-at : (columns : List ℕ) (key : List Datum) (rows : List Row) (i : ℕ) (d : Row) → IsAscending columns rows → i < length rows → row_order columns key (get_or rows i d) ≡ Equal
     → row_with columns key rows ≡ Some (get_or rows i d)
 row_with-at columns key [] i d up l e = absurd (omega arith)
@@ -151,7 +151,7 @@ module _ (def : TableDef) (row : Row) where
   abbrev pub Harmless : List ℕ → List Slot → Entry → Type 0
   Harmless columns pairs p = Silent (values_at columns row) (rival_by columns pairs) p
 
-  -- the row at a place of the rows: the entry of it that the sets have leads back to it
+  -- the row at an index of the rows: the entry of it that the sets have leads back to it
   module _ (pairs : List Slot) (up : AreAscending pairs) (keyed : All (HasItsKey def.key) pairs) (ascend : IsAscending def.key (live_rows pairs)) (i : ℕ) (d : Row) (l : i < length (live_rows pairs)) where
     abbrev it : Row
     it = get_or (live_rows pairs) i d

@@ -8,7 +8,7 @@ use Rattle.psm_table.specs.Key.{values_at, AreColumnsOf}
 pub length-values_at : (columns : List ℕ) (row : List Datum) → length (values_at columns row) ≡ length columns
 length-values_at columns row = length-map columns (λ c. get_or row c Null)
 
--- the row's value in the column at place i of the key
+-- the row's value in the column at index i of the key
 pub get_or-values_at : (columns : List ℕ) (row : List Datum) (i : ℕ) (x : Datum) → i < length columns → AreColumnsOf row columns
     → x ≡ get_or row (get_or columns i 0) x → get_or (values_at columns row) i Null ≡ x
 get_or-values_at columns row i x l exist e =

@@ -9,7 +9,7 @@ use Rattle.std.specs.declared.cmp.Ordering.TheVariants.{Less, Equal, Greater}
 use Rattle.std.proofs.lemmas.List.Folds.{list_all-append}
 use Rattle.psm_value.specs.declared.datum.Datum.{Datum}
 use Rattle.psm_table.specs.declared.definition.TableDef.{TableDef}
-use Rattle.psm_table.specs.Changing.{all_apart, are_apart, in_order, is_before, is_filled, keep_rules, placed_in}
+use Rattle.psm_table.specs.Changing.{all_apart, are_apart, in_order, is_before, is_filled, keep_rules, inserted_in}
 use Rattle.psm_table.specs.Key.{key_order, values_at}
 use Rattle.psm_table.specs.Unique.{agree, conflict}
 use Rattle.psm_table.proofs.KeyLaws.{key_order-total}
@@ -75,18 +75,18 @@ apart-turned def a b =
 
 module _ (key : List ℕ) where
   all_step : (p : Row → Bool) (row y : Row) (ys : List Row) (b : Bool) → is_before key row y ≡ b
-      → list_all p (placed_in key row ys) ≡ (p row && list_all p ys) → list_all p (placed_in key row (y ∷ ys)) ≡ (p row && list_all p (y ∷ ys))
+      → list_all p (inserted_in key row ys) ≡ (p row && list_all p ys) → list_all p (inserted_in key row (y ∷ ys)) ≡ (p row && list_all p (y ∷ ys))
   all_step p row y ys true e h = rw e refl
   all_step p row y ys false e h =
       rw e (ap (λ x. p y && x) h ∙ sym (and_assoc (p y) (p row) (list_all p ys)) ∙ ap (λ x. x && list_all p ys) (and_turned (p y) (p row)) ∙ and_assoc (p row) (p y) (list_all p ys))
 
-  pub all-placed : (p : Row → Bool) (row : Row) (rows : List Row) → list_all p (placed_in key row rows) ≡ (p row && list_all p rows)
-  all-placed p row [] = refl
-  all-placed p row (y ∷ ys) = all_step p row y ys (is_before key row y) refl (all-placed p row ys)
+  pub all-put_in : (p : Row → Bool) (row : Row) (rows : List Row) → list_all p (inserted_in key row rows) ≡ (p row && list_all p rows)
+  all-put_in p row [] = refl
+  all-put_in p row (y ∷ ys) = all_step p row y ys (is_before key row y) refl (all-put_in p row ys)
 
   pub all-in_order : (p : Row → Bool) (rows : List Row) → list_all p (in_order key rows) ≡ list_all p rows
   all-in_order p [] = refl
-  all-in_order p (row ∷ rows) = all-placed p row (in_order key rows) ∙ ap (λ x. p row && x) (all-in_order p rows)
+  all-in_order p (row ∷ rows) = all-put_in p row (in_order key rows) ∙ ap (λ x. p row && x) (all-in_order p rows)
 
 -- ---- one row more
 
@@ -123,23 +123,23 @@ module _ (def : TableDef) where
 
   module _ (key : List ℕ) where
     apart_step : (row y : Row) (ys : List Row) (b : Bool) → is_before key row y ≡ b
-        → all_apart def (placed_in key row ys) ≡ (list_all (are_apart def row) ys && all_apart def ys)
-        → all_apart def (placed_in key row (y ∷ ys)) ≡ (list_all (are_apart def row) (y ∷ ys) && all_apart def (y ∷ ys))
+        → all_apart def (inserted_in key row ys) ≡ (list_all (are_apart def row) ys && all_apart def ys)
+        → all_apart def (inserted_in key row (y ∷ ys)) ≡ (list_all (are_apart def row) (y ∷ ys) && all_apart def (y ∷ ys))
     apart_step row y ys true e h = rw e refl
     apart_step row y ys false e h =
-        rw e (ap (λ x. x && all_apart def (placed_in key row ys)) (all-placed key (are_apart def y) row ys)
+        rw e (ap (λ x. x && all_apart def (inserted_in key row ys)) (all-put_in key (are_apart def y) row ys)
         ∙ ap (λ x. (are_apart def y row && list_all (are_apart def y) ys) && x) h
         ∙ and_crossed (are_apart def y row) (list_all (are_apart def y) ys) (list_all (are_apart def row) ys) (all_apart def ys)
         ∙ ap (λ x. (x && list_all (are_apart def row) ys) && (list_all (are_apart def y) ys && all_apart def ys)) (apart-turned def y row))
 
-    apart-placed : (row : Row) (rows : List Row) → all_apart def (placed_in key row rows) ≡ (list_all (are_apart def row) rows && all_apart def rows)
-    apart-placed row [] = refl
-    apart-placed row (y ∷ ys) = apart_step row y ys (is_before key row y) refl (apart-placed row ys)
+    apart-put_in : (row : Row) (rows : List Row) → all_apart def (inserted_in key row rows) ≡ (list_all (are_apart def row) rows && all_apart def rows)
+    apart-put_in row [] = refl
+    apart-put_in row (y ∷ ys) = apart_step row y ys (is_before key row y) refl (apart-put_in row ys)
 
     apart-in_order : (rows : List Row) → all_apart def (in_order key rows) ≡ all_apart def rows
     apart-in_order [] = refl
     apart-in_order (row ∷ rows) =
-        apart-placed row (in_order key rows) ∙ ap (λ x. x && all_apart def (in_order key rows)) (all-in_order key (are_apart def row) rows)
+        apart-put_in row (in_order key rows) ∙ ap (λ x. x && all_apart def (in_order key rows)) (all-in_order key (are_apart def row) rows)
         ∙ ap (λ x. list_all (are_apart def row) rows && x) (apart-in_order rows)
 
     -- rows keep the rules in any order of keys

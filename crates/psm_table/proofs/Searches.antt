@@ -10,9 +10,9 @@ use Rattle.psm_value.specs.declared.datum.Datum.{Datum}
 use Rattle.psm_table.specs.declared.map.Pair.{Pair}
 use Rattle.psm_table.specs.Key.{key_order}
 use Rattle.psm_table.specs.Map.{AreAscending}
-use Rattle.psm_table.specs.Place.{IsAt, IsGap}
+use Rattle.psm_table.specs.PairPosition.{IsAt, IsGap}
 use Rattle.psm_table.proofs.KeyLaws.{key_order-total}
-use Rattle.psm_table.proofs.Places.{Between, at_place, at_gap}
+use Rattle.psm_table.proofs.PairPositions.{Between, at_index, at_gap}
 
 -- a smaller key than one that is less or equal
 pub less_before_less : (a b k : List Datum) → key_order a b ≡ Less → key_order b k ≡ Less → key_order a k ≡ Less
@@ -72,7 +72,7 @@ module _ {V : Type 0} (key : List Datum) (pairs : List (Pair V)) (up : AreAscend
   pub is_at : (m : ℕ) (x : Pair V) → m < length pairs → x ≡ get_or pairs m x → order_at x ≡ Equal → IsAt key pairs m
   is_at m x l e r =
       let here : order_at (get_or pairs m x) ≡ Equal = sym (read m x x l e) ∙ r in
-      let t = at_place order_at pairs m x l
+      let t = at_index order_at pairs m x l
       (λ k d b. less_before_equal (get_or pairs k d).key (get_or pairs m d).key key (up k m d b l) (sym (read m x d l e) ∙ r)) here
       (λ k d b n. greater_after_equal (get_or pairs m d).key (get_or pairs k d).key key (up m k d b n) (sym (read m x d l e) ∙ r)) in
       record { inside = l; has = t.0; before = t.1; after = rw add-one t.2 }

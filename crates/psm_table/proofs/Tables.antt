@@ -163,7 +163,7 @@ module _ (key : List Datum) where
   length-over [] row was up s = cc
   length-over (p ∷ ps) row was up s = over-step p ps row was (key_order p.key key) up refl (length-over ps row was (AllPairs-rest Rises p ps up)) s
 
-  -- the rows around a key that has no place are all rows
+  -- the rows around a key that has no slot are all rows
   around-step : (p : Slot) (low high ps : List Slot) (c : Ordering) → length (live_rows low) + length (live_rows high) ≡ length (live_rows ps) → is_eq c ≡ false
       → length (live_rows (cond (is_lt c) (p ∷ low) low)) + length (live_rows (cond (is_gt c) (p ∷ high) high)) ≡ length (cons_option p.value (live_rows ps))
   around-step p low high ps Less e f = left p.value (live_rows low) (live_rows high) (live_rows ps) e
@@ -190,39 +190,39 @@ or-same : (a b c d : Bool) → (a ≡ true → b ≡ true) → (c ≡ true → d
 or-same true b c d f g e = rw (f refl) refl
 or-same false b c d f g e = or_right b d (g e)
 
-pub same-place : (keys : List (List Datum)) (a b : List Datum) → key_order a b ≡ Equal → has_key keys b ≡ true → has_key keys a ≡ true
-same-place [] a b e h = h
-same-place (k ∷ ks) a b e h =
+pub same-slot : (keys : List (List Datum)) (a b : List Datum) → key_order a b ≡ Equal → has_key keys b ≡ true → has_key keys a ≡ true
+same-slot [] a b e h = h
+same-slot (k ∷ ks) a b e h =
     or-same (is_eq (key_order k b)) (is_eq (key_order k a)) (has_key ks b) (has_key ks a)
     (λ f. let g : key_order b a ≡ Equal = key_order-total.antisymm b a ∙ ap ordering_reverse e in ap is_eq (equal_trans k b a (equal_is (key_order k b) f) g))
-    (same-place ks a b e) h
+    (same-slot ks a b e) h
 
--- each row's key has a place
-place-first : (columns : List ℕ) (keys : List (List Datum)) (key : List Datum) (o : Option (List Datum)) (rows : List (List Datum)) → IfSome o (λ row. row_order columns key row ≡ Equal)
+-- each row's key has a slot
+slot-first : (columns : List ℕ) (keys : List (List Datum)) (key : List Datum) (o : Option (List Datum)) (rows : List (List Datum)) → IfSome o (λ row. row_order columns key row ≡ Equal)
     → has_key keys key ≡ true → All (λ row. has_key keys (values_at columns row) ≡ true) rows → All (λ row. has_key keys (values_at columns row) ≡ true) (cons_option o rows)
-place-first columns keys key None rows h e a = a
-place-first columns keys key (Some row) rows h e a =
-    All-cons (λ row. has_key keys (values_at columns row) ≡ true) row rows (same-place keys (values_at columns row) key h e) a
+slot-first columns keys key None rows h e a = a
+slot-first columns keys key (Some row) rows h e a =
+    All-cons (λ row. has_key keys (values_at columns row) ≡ true) row rows (same-slot keys (values_at columns row) key h e) a
 
-places-more : (columns : List ℕ) (keys : List (List Datum)) (all : List (List Datum)) (pairs : List Slot) → ((k : List Datum) → has_key keys k ≡ true → has_key all k ≡ true)
+slots-more : (columns : List ℕ) (keys : List (List Datum)) (all : List (List Datum)) (pairs : List Slot) → ((k : List Datum) → has_key keys k ≡ true → has_key all k ≡ true)
     → keys ≡ keys_of pairs → All (HasItsKey columns) pairs → All (λ row. has_key all (values_at columns row) ≡ true) (live_rows pairs)
-places-more columns keys all [] f e h = All-nil (λ row. has_key all (values_at columns row) ≡ true)
-places-more columns keys all (p ∷ ps) f e h =
+slots-more columns keys all [] f e h = All-nil (λ row. has_key all (values_at columns row) ≡ true)
+slots-more columns keys all (p ∷ ps) f e h =
     let own : has_key all p.key ≡ true = f p.key (ap (λ l. has_key l p.key) e ∙ ap (λ o. is_eq o || has_key (keys_of ps) p.key) (key_order-refl p.key)) in
-    place-first columns all p.key p.value (live_rows ps) (All-head (HasItsKey columns) p ps h) own
-    (places-more columns (keys_of ps) all ps (λ k g. f k (ap (λ l. has_key l k) e ∙ or_right (is_eq (key_order p.key k)) (has_key (keys_of ps) k) g)) refl (All-tail (HasItsKey columns) p ps h))
+    slot-first columns all p.key p.value (live_rows ps) (All-head (HasItsKey columns) p ps h) own
+    (slots-more columns (keys_of ps) all ps (λ k g. f k (ap (λ l. has_key l k) e ∙ or_right (is_eq (key_order p.key k)) (has_key (keys_of ps) k) g)) refl (All-tail (HasItsKey columns) p ps h))
 
-pub have_places : (columns : List ℕ) (pairs : List Slot) → All (HasItsKey columns) pairs → All (λ row. has_key (keys_of pairs) (values_at columns row) ≡ true) (live_rows pairs)
-have_places columns pairs h = places-more columns (keys_of pairs) (keys_of pairs) pairs (λ k g. g) refl h
+pub have_slots : (columns : List ℕ) (pairs : List Slot) → All (HasItsKey columns) pairs → All (λ row. has_key (keys_of pairs) (values_at columns row) ≡ true) (live_rows pairs)
+have_slots columns pairs h = slots-more columns (keys_of pairs) (keys_of pairs) pairs (λ k g. g) refl h
 
 -- a row of the table is kept
 pub row_kept : (def : TableDef) (lists : List (List ℕ)) (rows : Slots) (sets : Sets) (row : List Datum) → has_key (keys_of rows.pairs) (values_at def.key row) ≡ true → IsEntered def lists (entries_of sets) row → KeepsRow (state_of def lists rows sets) row
-row_kept def lists rows sets row place entered = record { place = place; entries = entered }
+row_kept def lists rows sets row slot entered = record { slot = slot; entries = entered }
 
 pub keeps-grow : (def : TableDef) (lists : List (List ℕ)) (rows new : Slots) (sets more : Sets) → ((key : List Datum) → has_key (keys_of rows.pairs) key ≡ true → has_key (keys_of new.pairs) key ≡ true)
     → length more ≡ length sets → Grow (entries_of sets) (entries_of more) → StillKeeps (state_of def lists rows sets) (state_of def lists new more)
-keeps-grow def lists rows new sets more places long grow row kept = record {
-  place = places (values_at def.key row) kept.place;
+keeps-grow def lists rows new sets more slots long grow row kept = record {
+  slot = slots (values_at def.key row) kept.slot;
   entries = entered-grow def lists row (entries_of sets) (entries_of more) (omega (arith, long, length-entries sets, length-entries more)) grow kept.entries;
 }
 

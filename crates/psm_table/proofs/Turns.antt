@@ -38,7 +38,7 @@ module _ {V : Type 0} (t : Pair V → Bool) where
   all_fail closed (y ∷ ys) l e xs h k d n = fails closed (get_or xs k d) y (h k d n 0 y (omega arith)) e (t (get_or xs k d)) refl
 
   module _ (runs : List (List (Pair V))) (up : AreAscending (joined runs)) (fit : All IsRun runs) where
-    -- the run at place i begins what follows
+    -- the run at index i begins what follows
     begins-drop : (i : ℕ) → i < length runs → begins t (joined (drop i runs)) ≡ begins t (get_or runs i [])
     begins-drop i l = ap (begins t) (joined-drop runs i [] l) ∙ begins-append (get_or runs i []) (joined (drop (suc i) runs)) (fit i [] l).some
 

@@ -34,13 +34,13 @@ agree_each a b (c ∷ columns) =
     (data_order (get_or a c Null) (get_or b c Null)) (key_order (values_at columns a) (values_at columns b))
     ∙ ap (λ rest. equal_value (get_or a c Null) (get_or b c Null) && rest) (agree_each a b columns)
 
--- values at a place of the columns that aren't equal, or one of which is null
+-- values at an index of the columns that aren't equal, or one of which is null
 pub agree_false : (a b : List Datum) (columns : List ℕ) (i : ℕ) → i < length columns
     → equal_value (get_or a (get_or columns i 0) Null) (get_or b (get_or columns i 0) Null) ≡ false → false ≡ agree a b columns
 agree_false a b columns i l e =
     sym (agree_each a b columns ∙ list_all_at (λ c. equal_value (get_or a c Null) (get_or b c Null)) columns i 0 l e)
 
--- equal values at each place of the columns
+-- equal values at each index of the columns
 pub agree_true : (a b : List Datum) (columns : List ℕ) (i : ℕ) → length columns ≤ i
     → list_all (λ c. equal_value (get_or a c Null) (get_or b c Null)) (take i columns) ≡ true → true ≡ agree a b columns
 agree_true a b columns i l e =

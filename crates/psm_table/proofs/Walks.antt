@@ -10,7 +10,7 @@ use Rattle.psm_table.specs.declared.map.Pair.{Pair}
 use Rattle.psm_table.specs.Cuts.{is_past}
 use Rattle.psm_table.specs.Key.{key_order}
 use Rattle.psm_table.specs.Map.{AreAscending, pairs_above, prefix_order}
-use Rattle.psm_table.specs.Place.{ahead}
+use Rattle.psm_table.specs.PairPosition.{ahead}
 use Rattle.psm_table.specs.Rows.{last_of}
 use Rattle.psm_table.proofs.KeyLaws.{key_order-refl}
 use Rattle.psm_table.proofs.Filters.{filter-whole, greater_is, AllPairs-first, AllPairs-rest}
@@ -80,7 +80,7 @@ module _ {V : Type 0} where
   pub up-from : (values : List Datum) → Up (λ p. not (is_lt (prefix_order values p.key)))
   up-from values p q r e = not_less_from (prefix_order values q.key) (prefix_order values p.key) (λ l. prefix-less values p.key q.key r l) e
 
-  pub up-past : (values : List Datum) (is_behind : Bool) → Up (λ p. is_past values is_behind p.key)
+  pub up-past : (values : List Datum) (is_after : Bool) → Up (λ p. is_past values is_after p.key)
   up-past values true p q r e = ap is_gt (prefix-greater values p.key q.key r (greater_is (prefix_order values p.key) e))
   up-past values false p q r e = up-from values p q r e
 

@@ -51,13 +51,13 @@ stored_rows ts (row ∷ rows) = and_then (stored_row ts row) (λ r. mapped (λ r
 abbrev pub is_before : List ℕ → List Datum → List Datum → Bool
 is_before key a b = is_le (key_order (values_at key a) (values_at key b))
 
-abbrev pub placed_in : List ℕ → List Datum → List (List Datum) → List (List Datum)
-placed_in key row [] = row ∷ []
-placed_in key row (r ∷ rows) = if is_before key row r then row ∷ r ∷ rows else r ∷ placed_in key row rows
+abbrev pub inserted_in : List ℕ → List Datum → List (List Datum) → List (List Datum)
+inserted_in key row [] = row ∷ []
+inserted_in key row (r ∷ rows) = if is_before key row r then row ∷ r ∷ rows else r ∷ inserted_in key row rows
 
 abbrev pub in_order : List ℕ → List (List Datum) → List (List Datum)
 in_order key [] = []
-in_order key (row ∷ rows) = placed_in key row (in_order key rows)
+in_order key (row ∷ rows) = inserted_in key row (in_order key rows)
 
 -- ---- the rules of a table
 

@@ -20,6 +20,6 @@ found_at kept t = some_or_none (get nat_eq kept.lists t)
 abbrev pub AreFound : ByTable → List ForeignKey → Type 0
 AreFound kept keys = (t : ℕ) → found_at kept t ≡ filter (names_table t) keys
 
--- a constraint is kept behind the others by the numbers that pass a test
+-- a constraint is kept after the others by the numbers that pass a test
 abbrev pub KeepsAlso : (ℕ → Bool) → ForeignKey → ByTable → ByTable → Type 0
 KeepsAlso test key old new = (t : ℕ) → found_at new t ≡ found_at old t ++ (if test t then key ∷ [] else [])

@@ -8,21 +8,21 @@ use Rattle.psm_table.specs.Map.{prefix_order}
 
 -- whether a key is past the keys that begin with these values, or, if these keys count too, from them on
 abbrev pub is_past : List Datum → Bool → List Datum → Bool
-is_past values is_behind key = if is_behind then is_gt (prefix_order values key) else not (is_lt (prefix_order values key))
+is_past values is_after key = if is_after then is_gt (prefix_order values key) else not (is_lt (prefix_order values key))
 
--- whether a key lies behind a cut
-abbrev pub lies_behind : Cut → List Datum → Bool
-lies_behind c key = is_past c.values.now c.is_behind key
+-- whether a key lies after a cut
+abbrev pub lies_after : Cut → List Datum → Bool
+lies_after c key = is_past c.values.now c.is_after key
 
--- whether a key lies behind the cut where keys begin; without one each does
+-- whether a key lies after the cut where keys begin; without one each does
 abbrev pub is_from : Option Cut → List Datum → Bool
 is_from None key = true
-is_from (Some c) key = lies_behind c key
+is_from (Some c) key = lies_after c key
 
--- whether a key doesn't lie behind the cut where keys end; without one none does
+-- whether a key doesn't lie after the cut where keys end; without one none does
 abbrev pub is_up_to : Option Cut → List Datum → Bool
 is_up_to None key = true
-is_up_to (Some c) key = not (lies_behind c key)
+is_up_to (Some c) key = not (lies_after c key)
 
 -- whether a key lies between two cuts
 abbrev pub between : Option Cut → Option Cut → List Datum → Bool

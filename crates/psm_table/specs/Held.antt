@@ -34,7 +34,7 @@ contents_of def rows = record { def = def; rows = live_rows rows.pairs }
 
 -- the table as its callers see it
 abbrev pub state_of : TableDef → List (List ℕ) → Mapped (Option (List Datum)) → List (Mapped (Unit {0})) → State
-state_of def lists rows indexes = record { contents = contents_of def rows; places = keys_of rows.pairs; lists = lists; entries = entries_of indexes }
+state_of def lists rows indexes = record { contents = contents_of def rows; slots = keys_of rows.pairs; lists = lists; entries = entries_of indexes }
 
 -- the row of a pair has the pair's key
 abbrev pub HasItsKey : List ℕ → Pair (Option (List Datum)) → Type 0
@@ -44,7 +44,7 @@ HasItsKey columns p = IfSome p.value (λ row. row_order columns p.key row ≡ Eq
 abbrev pub IsEntered : TableDef → List (List ℕ) → List (List (List Datum)) → List Datum → Type 0
 IsEntered def lists entries row = AllZip (HasEntry def row) lists entries
 
--- the keys ascend, and the rows are a table, so many as are counted, each at its key, and each with its entries in the
+-- the keys ascend, and the rows are a table, as many as are counted, each at its key, and each with its entries in the
 -- lists, of which the first are the UNIQUE ones
 pub record IsHeld (def : TableDef) (lists : List (List ℕ)) (rows : Mapped (Option (List Datum))) (live : ℕ) (indexes : List (Mapped (Unit {0}))) : Type 0 where
   pub order : AreAscending rows.pairs

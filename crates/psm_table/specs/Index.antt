@@ -24,7 +24,7 @@ abbrev pub IsPrepared : List ℕ → List ℕ → List Datum → Mapped (Unit {0
 IsPrepared columns key row index None = has_null (values_at columns row) ≡ true
 IsPrepared columns key row index (Some entry) = (entry ≡ values_at columns row ++ values_at key row) × (index.ready ≡ true)
 
--- at the place of each set stands the entry of a row, unless it needs none
+-- at the index of each set stands the entry of a row, unless it needs none
 pub record ArePrepared (def : TableDef) (columns : List (List ℕ)) (row : List Datum) (indexes : List (Mapped (Unit {0}))) (entries : List (Option (List Datum))) : Type 0 where
   pub lists : length entries ≡ length indexes
   pub each : (k : ℕ) (c : List ℕ) (m : Mapped (Unit {0})) (o : Option (List Datum)) → k < length indexes →
@@ -34,7 +34,7 @@ pub record ArePrepared (def : TableDef) (columns : List (List ℕ)) (row : List 
 abbrev pub HasRoom : Mapped (Unit {0}) → Option (List Datum) → Type 0
 HasRoom index entry = IfSome entry (λ e. index.ready ≡ true)
 
--- each set has memory for the entry at its place
+-- each set has memory for the entry at its index
 abbrev pub HaveRoom : List (Mapped (Unit {0})) → List (Option (List Datum)) → Type 0
 HaveRoom indexes entries = (k : ℕ) (m : Mapped (Unit {0})) (o : Option (List Datum)) → k < length indexes → HasRoom (slice_index_or indexes k m) (slice_index_or entries k o)
 
@@ -44,7 +44,7 @@ pub record IsPut (old new : Mapped (Unit {0})) (entry : Option (List Datum)) : T
   pub one : length (keys_of new.pairs) ≤ length (keys_of old.pairs) + 1
   pub there : IfSome entry (λ e. has_key (keys_of new.pairs) e ≡ true)
 
--- into each set the entry at its place was put
+-- into each set the entry at its index was put
 abbrev pub ArePut : List (Mapped (Unit {0})) → List (Mapped (Unit {0})) → List (Option (List Datum)) → Type 0
 ArePut old new entries = (k : ℕ) (m : Mapped (Unit {0})) (o : Option (List Datum)) → k < length old → IsPut (slice_index_or old k m) (slice_index_or new k m) (slice_index_or entries k o)
 

@@ -15,7 +15,7 @@ number_of Null = None
 number_of (Num n) = Some n
 number_of (Text t) = None
 
--- the number at a place of a key, if there is one
+-- the number at an index of a key, if there is one
 abbrev pub number_at : List Datum → ℕ → Option Number
 number_at key i = number_of (slice_index_or key i Null)
 

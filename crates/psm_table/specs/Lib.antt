@@ -14,7 +14,7 @@ pub mod Map
 pub mod Mapped
 pub mod Matching
 pub mod Parts
-pub mod Place
+pub mod PairPosition
 pub mod Queries
 pub mod Rows
 pub mod Runs

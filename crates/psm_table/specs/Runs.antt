@@ -27,11 +27,11 @@ module _ {V : Type 0} where
     pub some : 0 < length run
     pub room : length run < most_pairs
 
-  -- each run but that at place i has a pair, and room for one more
+  -- each run but that at index i has a pair, and room for one more
   abbrev pub AreRunsBut : ℕ → List (List (Pair V)) → Type 0
   AreRunsBut i runs = (k : ℕ) (d : List (Pair V)) → k < length runs → (k ≡ i → ⊥) → IsRun (slice_index_or runs k d)
 
-  -- the pairs of the runs before place i have smaller keys than a key, and those of the runs after it greater ones
+  -- the pairs of the runs before index i have smaller keys than a key, and those of the runs after it greater ones
   pub record IsIn (key : List Datum) (runs : List (List (Pair V))) (i : ℕ) : Type 0 where
     pub inside : i < length runs
     pub low : All (λ p. key_order p.key key ≡ Less) (joined (take i runs))
@@ -42,13 +42,13 @@ module _ {V : Type 0} where
   begins t [] = false
   begins t (p ∷ ps) = t p
 
-  -- no pair of the runs before place i passes a test, and each of those after it does
+  -- no pair of the runs before index i passes a test, and each of those after it does
   pub record IsTurn (t : Pair V → Bool) (runs : List (List (Pair V))) (i : ℕ) : Type 0 where
     pub inside : i < length runs
     pub fail : All (λ p. t p ≡ false) (joined (take i runs))
     pub pass : All (λ p. t p ≡ true) (joined (drop (i + 1) runs))
 
-  -- the first pair of the run before place low doesn't pass a test, and that of the run at place high does
+  -- the first pair of the run before index low doesn't pass a test, and that of the run at index high does
   pub record IsCut (t : Pair V → Bool) (runs : List (List (Pair V))) (low high : ℕ) : Type 0 where
     pub order : low ≤ high
     pub bound : high ≤ length runs

@@ -10,12 +10,12 @@ use Rattle.psm_table.specs.Key.{values_at, key_order}
 use Rattle.psm_table.specs.Table.{Contents, most_rows, namesake, with_row}
 use Rattle.psm_table.specs.Unique.{has_null}
 
--- The contents; the keys that have a place, be their rows there or taken out; the lists of columns in which entries are
+-- The contents; the keys that have a slot, be their rows there or taken out; the lists of columns in which entries are
 -- kept, the UNIQUE ones and those of indexes; and the entries of each, each the values of a row in the columns of the
 -- list, followed by the row's key.
 pub record State : Type 0 where
   pub contents : Contents
-  pub places : List (List Datum)
+  pub slots : List (List Datum)
   pub lists : List (List ℕ)
   pub entries : List (List (List Datum))
 
@@ -31,18 +31,18 @@ entry_of def columns row = values_at columns row ++ values_at def.key row
 abbrev pub HasEntry : TableDef → List Datum → List ℕ → List (List Datum) → Type 0
 HasEntry def row columns entries = has_null (values_at columns row) ≡ false → has_key entries (entry_of def columns row) ≡ true
 
--- the table keeps the row: its key has a place, and its entries in all lists are there
+-- the table keeps the row: its key has a slot, and its entries in all lists are there
 pub record KeepsRow (s : State) (row : List Datum) : Type 0 where
-  pub place : has_key s.places (values_at s.contents.def.key row) ≡ true
+  pub slot : has_key s.slots (values_at s.contents.def.key row) ≡ true
   pub entries : AllZip (HasEntry s.contents.def row) s.lists s.entries
 
 -- each row that was kept is kept
 abbrev pub StillKeeps : State → State → Type 0
 StillKeeps old new = (row : List Datum) → KeepsRow old row → KeepsRow new row
 
--- no more keys have a place, and no list has more entries
+-- no more keys have a slot, and no list has more entries
 pub record KeepsAtMost (most : ℕ) (s : State) : Type 0 where
-  pub places : length s.places ≤ most
+  pub slots : length s.slots ≤ most
   pub entries : All (λ es. length es ≤ most) s.entries
 
 -- n rows that are not in the table may be kept at any size of it

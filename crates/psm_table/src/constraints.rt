@@ -80,7 +80,7 @@ impl ByTable {
         }
     }
 
-    /// Keeps a constraint behind the others of the tables that it names.
+    /// Keeps a constraint after the others of the tables that it names.
     fn add(&mut self, alloc: Global, key: &ForeignKey) -> Result<(), AllocError>
         ensures { OnOk result (KeepsAlso (λ t. names_table t key.now) key.now self.old self.new) }
     {
@@ -91,7 +91,7 @@ impl ByTable {
         Ok(())
     }
 
-    /// Keeps a constraint behind the others of one table.
+    /// Keeps a constraint after the others of one table.
     fn add_at(&mut self, alloc: Global, table: u32, key: &ForeignKey) -> Result<(), AllocError>
         ensures { OnOk result (KeepsAlso (nat_eq table) key.now self.old self.new) }
     {

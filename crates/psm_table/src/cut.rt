@@ -2,9 +2,9 @@
 
 use psm_value::Datum;
 
-/// A cut of the keys in their order: before those that begin with the values, or behind them.
+/// A cut of the keys in their order: before those that begin with the values, or after them.
 #[derive(Clone, Copy)]
 pub struct Cut<'a> {
     pub values: &'a [Datum],
-    pub is_behind: bool,
+    pub is_after: bool,
 }

@@ -14,8 +14,8 @@ pub struct Column {
     pub default: Datum,
 }
 
-/// The definition of a table (ISO/IEC 9075:1992, 11.3): its columns, the places of those in its primary
-/// key, and the places of those in each UNIQUE list.
+/// The definition of a table (ISO/IEC 9075:1992, 11.3): its columns, the indexes of those in its primary
+/// key, and the indexes of those in each UNIQUE list.
 #[derive(Debug, Drop)]
 pub struct TableDef {
     pub name: Name,
@@ -24,8 +24,8 @@ pub struct TableDef {
     pub unique: List<List<u32>>,
 }
 
-/// A FOREIGN KEY constraint (ISO/IEC 9075:1992, 11.8) with NO ACTION: the number of the referencing table and the places of its
-/// columns, and the number of the referenced table and the places of the columns there, each with the one that refers to it.
+/// A FOREIGN KEY constraint (ISO/IEC 9075:1992, 11.8) with NO ACTION: the number of the referencing table and the indexes of its
+/// columns, and the number of the referenced table and the indexes of the columns there, each with the one that refers to it.
 #[derive(Debug, Drop)]
 pub struct ForeignKey {
     pub from: u32,

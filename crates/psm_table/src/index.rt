@@ -7,7 +7,7 @@ ghost use Rattle.psm_table.specs.Held.{entries_of, live_rows, row_of, HasItsKey,
 ghost use Rattle.psm_table.specs.Index.{is_current, is_entry, rival_at, AreEntered, AreHarmless, ArePrepared, ArePut, Grow, GrowByOne, HasRoom, HaveKeys, HaveRoom, IsPrepared, IsPut};
 ghost use Rattle.psm_table.specs.Key.{values_at, AreColumnsOf};
 ghost use Rattle.psm_table.specs.Map.{AreAscending};
-ghost use Rattle.psm_table.specs.Place.{probe_key, FitsProbe};
+ghost use Rattle.psm_table.specs.PairPosition.{probe_key, FitsProbe};
 ghost use Rattle.psm_table.specs.Rows.{IsAscending};
 ghost use Rattle.psm_table.specs.Unique.{agree, clashes, conflict, equal_value, has_null, is_null, is_rival};
 
@@ -41,7 +41,7 @@ pub(crate) fn enter(
     Ok(())
 }
 
-/// The entries of a row, each at the place of its set, which then has memory for it.
+/// The entries of a row, each at the index of its set, which then has memory for it.
 fn prepare_all(
     alloc: Global,
     indexes: &mut Vec<OrderedMap<()>>,
@@ -84,7 +84,7 @@ fn prepare(
     Ok(Some(entry))
 }
 
-/// Puts each entry into the set at its place. It takes no memory.
+/// Puts each entry into the set at its index. It takes no memory.
 fn put_all(indexes: &mut Vec<OrderedMap<()>>, mut entries: Vec<Option<StoredKey>>)
     requires lists { length entries.items ≡ length indexes.old.items }
     requires room { HaveRoom indexes.old.items entries.items }

@@ -4,7 +4,7 @@ ghost use Rattle.std.specs.Option.{option_copied, ForSome};
 ghost use Rattle.psm_table.specs.Held.{live_rows, row_of};
 ghost use Rattle.psm_table.specs.Key.{values_at, AreColumnsOf};
 ghost use Rattle.psm_table.specs.Map.{value_of, AreAscending, pairs_from, pairs_above, with_pair, with_value};
-ghost use Rattle.psm_table.specs.Place.{ahead, pairs_past, probe_key, FitsProbe, StandsAt};
+ghost use Rattle.psm_table.specs.PairPosition.{ahead, pairs_past, probe_key, FitsProbe, StandsAt};
 ghost use Rattle.psm_value.specs.declared.datum.Datum.{Datum};
 ghost use Rattle.psm_table.specs.declared.map.Pair.{Pair};
 ghost use Rattle.psm_table.specs.Runs.{joined, IsRun};
@@ -24,7 +24,7 @@ pub(crate) struct Pair<V> {
     pub value: V,
 }
 
-/// Where a pair stands: its run, and its place in that.
+/// Where a pair stands: its run, and its index in that.
 #[derive(Clone, Copy)]
 pub(crate) struct Position {
     run: usize,
@@ -261,7 +261,7 @@ impl OrderedMap<Option<Row>> {
         }
     }
 
-    /// Takes the row of the key out, if it has one, and keeps its place.
+    /// Takes the row of the key out, if it has one, and keeps its slot.
     pub(crate) fn take_row(&mut self, probe: Probe<'_>) -> Option<Row>
         requires { FitsProbe probe }
         ensures row { result ≡ row_of (probe_key probe.entry) self.old.pairs }
@@ -275,10 +275,10 @@ impl OrderedMap<Option<Row>> {
         self.runs[at].take_row(probe)
     }
 
-    /// Puts a row in whose key has a place, and gives the row that was there.
+    /// Puts a row in whose key has a slot, and gives the row that was there.
     pub(crate) fn replace_row(&mut self, columns: &[u32], row: Row) -> Option<Row>
         requires columns { AreColumnsOf row columns.now }
-        requires place { IsSome (value_of (values_at columns.now row) self.old.pairs) }
+        requires slot { IsSome (value_of (values_at columns.now row) self.old.pairs) }
         ensures row { result ≡ row_of (values_at columns.now row) self.old.pairs }
         ensures pairs { self.new.pairs ≡ with_value (values_at columns.now row) (Some row) self.old.pairs }
         ensures ordered { AreAscending self.new.pairs }

@@ -5,7 +5,7 @@ ghost use Rattle.psm_num.specs.Order.{order};
 ghost use Rattle.psm_value.specs.Order.{data_order};
 ghost use Rattle.psm_table.specs.Key.{key_order};
 ghost use Rattle.psm_table.specs.Leading.{leading_of, number_at, number_of};
-ghost use Rattle.psm_table.specs.Place.{probe_key, FitsProbe};
+ghost use Rattle.psm_table.specs.PairPosition.{probe_key, FitsProbe};
 ghost use Rattle.psm_table.specs.Side.{side_value};
 
 use crate::leading::Leading;
@@ -154,7 +154,7 @@ impl<'a> Probe<'a> {
         }
     }
 
-    /// The value at a place.
+    /// The value at an index.
     fn value(self, i: usize) -> Side<'a>
         requires inside { i < length (probe_key self) }
         requires fits { FitsProbe self }
@@ -177,7 +177,7 @@ impl<'a> Probe<'a> {
         }
     }
 
-    /// The number at a place, if there is one.
+    /// The number at an index, if there is one.
     #[tactic(auto, using(crate::proofs::Heads::number_past))]
     fn number(self, i: usize) -> Option<Dec>
         requires { FitsProbe self }

@@ -18,7 +18,7 @@ pub(crate) fn begins(key: &[u32], columns: &[u32]) -> bool
     columns.len() <= key.len() && &key[..columns.len()] == columns
 }
 
-/// The place of a list that has just these columns, in order.
+/// The index of a list that has just these columns, in order.
 pub(crate) fn list_of(lists: &[List<u32>], columns: &[u32]) -> Option<usize>
     ensures { IfSome result (λ i. slice_get lists.now i ≡ Some columns.now) }
 {

@@ -9,7 +9,7 @@ ghost use Rattle.psm_table.specs.Held.{row_of};
 ghost use Rattle.psm_table.specs.Key.{key_order, values_at, AreColumnsOf};
 ghost use Rattle.psm_table.specs.Leading.{leading_of};
 ghost use Rattle.psm_table.specs.Map.{value_of, pairs_from, pairs_above, with_pair, with_value, AreAscending};
-ghost use Rattle.psm_table.specs.Place.{probe_key, FitsProbe, IsAt, IsGap};
+ghost use Rattle.psm_table.specs.PairPosition.{probe_key, FitsProbe, IsAt, IsGap};
 ghost use Rattle.psm_value.specs.declared.datum.Datum.{Datum};
 ghost use Rattle.psm_table.specs.declared.map.Pair.{Pair};
 ghost use Rattle.psm_table.specs.Runs.{begins, head_of, most_pairs, IsRun};
@@ -158,25 +158,25 @@ impl<V: Drop> Run<V> {
 
     /// Whether the first pair's key is past a cut. Where the numbers differ with which both begin, these decide.
     #[tactic(auto, using(crate::proofs::Heads::head_alone))]
-    pub(crate) fn begins_past(&self, probe: Probe<'_>, leading: &Leading, is_behind: bool) -> bool
+    pub(crate) fn begins_past(&self, probe: Probe<'_>, leading: &Leading, is_after: bool) -> bool
         requires fits { FitsProbe probe }
         requires leading { leading.now ≡ leading_of (probe_key probe) }
-        ensures { result ≡ begins (λ p. is_past (probe_key probe.entry) is_behind p.key) self.now }
+        ensures { result ≡ begins (λ p. is_past (probe_key probe.entry) is_after p.key) self.now }
     {
         match self.head.order(leading) {
             Ordering::Less => false,
             Ordering::Greater => true,
-            Ordering::Equal if probe.len() == 1 && self.head.leads_with(leading) => !is_behind,
-            Ordering::Equal => self.first_is_past(probe, is_behind),
+            Ordering::Equal if probe.len() == 1 && self.head.leads_with(leading) => !is_after,
+            Ordering::Equal => self.first_is_past(probe, is_after),
         }
     }
 
-    fn first_is_past(&self, probe: Probe<'_>, is_behind: bool) -> bool
+    fn first_is_past(&self, probe: Probe<'_>, is_after: bool) -> bool
         requires { FitsProbe probe }
-        ensures { result ≡ begins (λ p. is_past (probe_key probe.entry) is_behind p.key) self.now }
+        ensures { result ≡ begins (λ p. is_past (probe_key probe.entry) is_after p.key) self.now }
     {
         match self.pairs.as_slice() {
-            [first, ..] => is_past(&first.key, probe, is_behind),
+            [first, ..] => is_past(&first.key, probe, is_after),
             [] => false,
         }
     }
@@ -266,7 +266,7 @@ impl<V: Copied + Drop> Run<V> {
 }
 
 impl Run<Option<Row>> {
-    /// Takes the row of the key out, if it has one, and keeps its place.
+    /// Takes the row of the key out, if it has one, and keeps its slot.
     pub(crate) fn take_row(&mut self, probe: Probe<'_>) -> Option<Row>
         requires { FitsProbe probe }
         ensures row { result ≡ row_of (probe_key probe.entry) self.old }
@@ -299,18 +299,18 @@ impl Run<Option<Row>> {
         mem::replace(&mut self.pairs[at].value, Some(row))
     }
 
-    /// Puts a row in whose key has a place, and gives the row that was there.
+    /// Puts a row in whose key has a slot, and gives the row that was there.
     pub(crate) fn replace_row(&mut self, columns: &[u32], row: Row) -> Option<Row>
         requires columns { AreColumnsOf row columns.now }
-        requires place { IsSome (value_of (values_at columns.now row) self.old) }
+        requires slot { IsSome (value_of (values_at columns.now row) self.old) }
         ensures row { result ≡ row_of (values_at columns.now row) self.old }
         ensures pairs { self.new ≡ with_value (values_at columns.now row) (Some row) self.old }
     {
-        let place = self.find(Probe::In {
+        let slot = self.find(Probe::In {
             columns,
             row: row.values(),
         });
-        match place {
+        match slot {
             Ok(at) => mem::replace(&mut self.pairs[at].value, Some(row)),
             Err(_) => None,
         }
@@ -318,29 +318,29 @@ impl Run<Option<Row>> {
 }
 
 /// How many of the pairs, in ascending order of their keys, aren't past a cut.
-pub(crate) fn turn<V: Drop>(pairs: &[Pair<V>], probe: Probe<'_>, is_behind: bool) -> usize
+pub(crate) fn turn<V: Drop>(pairs: &[Pair<V>], probe: Probe<'_>, is_after: bool) -> usize
     requires fits { FitsProbe probe }
     requires order { AreAscending pairs.now }
     ensures inside { result ≤ length pairs.now }
-    ensures past { drop result pairs.now ≡ filter (λ p. is_past (probe_key probe.entry) is_behind p.key) pairs.now }
-    ensures others { take result pairs.now ≡ filter (λ p. not (is_past (probe_key probe.entry) is_behind p.key)) pairs.now }
+    ensures past { drop result pairs.now ≡ filter (λ p. is_past (probe_key probe.entry) is_after p.key) pairs.now }
+    ensures others { take result pairs.now ≡ filter (λ p. not (is_past (probe_key probe.entry) is_after p.key)) pairs.now }
 {
-    turn_at(pairs, probe.narrowed(), is_behind)
+    turn_at(pairs, probe.narrowed(), is_after)
 }
 
 /// The same, by a probe that is compared as it is.
-fn turn_at<V: Drop>(pairs: &[Pair<V>], probe: Probe<'_>, is_behind: bool) -> usize
+fn turn_at<V: Drop>(pairs: &[Pair<V>], probe: Probe<'_>, is_after: bool) -> usize
     requires fits { FitsProbe probe }
     requires order { AreAscending pairs.now }
     ensures inside { result ≤ length pairs.now }
-    ensures past { drop result pairs.now ≡ filter (λ p. is_past (probe_key probe.entry) is_behind p.key) pairs.now }
-    ensures others { take result pairs.now ≡ filter (λ p. not (is_past (probe_key probe.entry) is_behind p.key)) pairs.now }
+    ensures past { drop result pairs.now ≡ filter (λ p. is_past (probe_key probe.entry) is_after p.key) pairs.now }
+    ensures others { take result pairs.now ≡ filter (λ p. not (is_past (probe_key probe.entry) is_after p.key)) pairs.now }
 {
     let mut low = 0;
     let mut high = pairs.len();
     while low < high {
         let middle = low + (high - low) / 2;
-        if is_past(&pairs[middle].key, probe, is_behind) {
+        if is_past(&pairs[middle].key, probe, is_after) {
             high = middle;
         } else {
             low = middle + 1;
@@ -359,16 +359,16 @@ fn head_of<V: Drop>(pairs: &[Pair<V>]) -> Leading
     }
 }
 
-/// The numbers with which the first pair's key begins, once a pair is put in at a place or written over.
+/// The numbers with which the first pair's key begins, once a pair is put in at an index or written over.
 fn head_with(head: &Leading, at: usize, key: &StoredKey) -> Leading
     ensures { result ≡ (if nat_eq at 0 then leading_of key.now else head.now) }
 {
     if at == 0 { key.leading() } else { *head }
 }
 
-/// Puts an item in at a place. It takes no memory.
+/// Puts an item in at an index. It takes no memory.
 pub(crate) fn insert_reserved<T: Drop>(items: &mut Vec<T>, at: usize, item: T)
-    requires place { at ≤ vec_len items.old }
+    requires within { at ≤ vec_len items.old }
     requires room { vec_len items.old < vec_capacity items.old }
     ensures items { items.new.items ≡ insert items.old.items at item }
     ensures len { length items.new.items ≡ length items.old.items + 1 }

@@ -4,7 +4,7 @@ ghost use Rattle.std.specs.Option.{option_copied};
 ghost use Rattle.std.specs.Vec.{vec_len, vec_capacity};
 ghost use Rattle.psm_table.specs.Cuts.{is_past};
 ghost use Rattle.psm_table.specs.Map.{with_pair, AreAscending};
-ghost use Rattle.psm_table.specs.Place.{probe_key, FitsProbe};
+ghost use Rattle.psm_table.specs.PairPosition.{probe_key, FitsProbe};
 ghost use Rattle.psm_table.specs.declared.map.Pair.{Pair};
 ghost use Rattle.psm_table.specs.Runs.{joined, most_pairs, AreRunsBut, IsIn, IsRun, IsTurn};
 
@@ -36,18 +36,18 @@ pub(crate) fn locate<V: Drop>(runs: &[Run<V>], probe: Probe<'_>) -> usize
 }
 
 /// The last run whose first pair's key isn't past a cut, or the first.
-pub(crate) fn locate_past<V: Drop>(runs: &[Run<V>], probe: Probe<'_>, is_behind: bool) -> usize
+pub(crate) fn locate_past<V: Drop>(runs: &[Run<V>], probe: Probe<'_>, is_after: bool) -> usize
     requires fits { FitsProbe probe }
     requires order { AreAscending (joined runs.now) }
     requires runs { All IsRun runs.now }
-    ensures { 0 < length runs.now → IsTurn (λ p. is_past (probe_key probe.entry) is_behind p.key) runs.now result }
+    ensures { 0 < length runs.now → IsTurn (λ p. is_past (probe_key probe.entry) is_after p.key) runs.now result }
 {
     let leading = probe.leading();
     let mut low = 0;
     let mut high = runs.len();
     while low < high {
         let middle = low + (high - low) / 2;
-        if runs[middle].begins_past(probe, &leading, is_behind) {
+        if runs[middle].begins_past(probe, &leading, is_after) {
             high = middle;
         } else {
             low = middle + 1;
@@ -56,7 +56,7 @@ pub(crate) fn locate_past<V: Drop>(runs: &[Run<V>], probe: Probe<'_>, is_behind:
     low.saturating_sub(1)
 }
 
-/// The first pair of the runs from a place on.
+/// The first pair of the runs from an index on.
 pub(crate) fn first_from<V: Drop>(runs: &[Run<V>], at: usize) -> Option<&Pair<V>>
     requires { All IsRun runs.now }
     ensures { option_copied result ≡ slice_get (joined (drop at runs.now)) 0 }

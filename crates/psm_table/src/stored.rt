@@ -5,7 +5,7 @@ ghost use Rattle.psm_table.specs.Cuts.{is_past};
 ghost use Rattle.psm_table.specs.Key.{key_order, values_at, AreColumnsOf};
 ghost use Rattle.psm_table.specs.Leading.{leading_of};
 ghost use Rattle.psm_table.specs.Map.{prefix_order};
-ghost use Rattle.psm_table.specs.Place.{probe_key, FitsProbe};
+ghost use Rattle.psm_table.specs.PairPosition.{probe_key, FitsProbe};
 
 use crate::leading::Leading;
 use crate::probe::{Probe, order_of, order_of_numbers};
@@ -186,12 +186,12 @@ pub(crate) fn order_of_prefix(key: &StoredKey, probe: Probe<'_>) -> Ordering
 }
 
 /// Whether a key is past the keys that begin with what it is compared with, or, if these count too, from them on.
-pub(crate) fn is_past(key: &StoredKey, probe: Probe<'_>, is_behind: bool) -> bool
+pub(crate) fn is_past(key: &StoredKey, probe: Probe<'_>, is_after: bool) -> bool
     requires { FitsProbe probe }
-    ensures { result ≡ is_past (probe_key probe.entry) is_behind key.now }
+    ensures { result ≡ is_past (probe_key probe.entry) is_after key.now }
 {
     let order = order_of_prefix(key, probe);
-    if is_behind {
+    if is_after {
         order.is_gt()
     } else {
         !order.is_lt()

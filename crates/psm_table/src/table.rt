@@ -39,7 +39,7 @@ const FEW_LEFT: u64 = 64;
 /// A table: its definition, which no call changes, and its rows in ascending order of their keys.
 ///
 /// The row of a key that was taken out by `hide`, or put out by `swap`, can be put back by `revive` without
-/// memory: its key keeps a place and its entries stay, until `settle`, `erase` or `change`.
+/// memory: its key keeps a slot and its entries stay, until `settle`, `erase` or `change`.
 #[derive(Drop)]
 pub struct Table {
     def: TableDef,
@@ -48,7 +48,7 @@ pub struct Table {
     rows: OrderedMap<Option<Row>>,
     /// How many keys have a row.
     live: u32,
-    /// The lists of columns in which rows are looked up: the UNIQUE ones, and behind them those of indexes.
+    /// The lists of columns in which rows are looked up: the UNIQUE ones, and after them those of indexes.
     lists: Vec<List<u32>>,
     /// For each list the values of rows in it, each followed by the row's key.
     indexes: Vec<OrderedMap<()>>,
@@ -141,11 +141,11 @@ impl Table {
         if self.live == MOST_ROWS {
             return Err(RowFault::Full);
         }
-        let place = self.rows.get(Probe::In {
+        let slot = self.rows.get(Probe::In {
             columns: self.def.key.items(),
             row: row.values(),
         });
-        match place {
+        match slot {
             None => self.insert_first(row, steps),
             Some(held) => {
                 if held.is_some() {
@@ -398,11 +398,11 @@ impl Table {
     {
         let low = Cut {
             values,
-            is_behind: false,
+            is_after: false,
         };
         let high = Cut {
             values,
-            is_behind: true,
+            is_after: true,
         };
         let mut found = RowsLeft::between(&self.rows, Some(low), Some(high), false);
         found.next().is_some()
@@ -432,11 +432,11 @@ impl Table {
         Key::of_row(alloc, self.def.key.items(), row)
     }
 
-    /// Puts a row in whose key has a place, but no row.
+    /// Puts a row in whose key has a slot, but no row.
     fn insert_again<L: Ledger>(&mut self, row: Row, steps: &mut Steps<L>) -> Result<(), RowFault>
         requires fits { IsRow self.old.contents.def row }
         requires room { length self.old.contents.rows < most_rows }
-        requires place { has_key self.old.places (values_at self.old.contents.def.key row) ≡ true }
+        requires slot { has_key self.old.slots (values_at self.old.contents.def.key row) ≡ true }
         requires absent { namesake self.old.contents row ≡ None }
         ensures answer { Inserts self.old self.new row steps.old steps.new result }
         ensures def { self.new.contents.def ≡ self.old.contents.def }
@@ -456,11 +456,11 @@ impl Table {
         Ok(())
     }
 
-    /// Puts a row in whose key has no place.
+    /// Puts a row in whose key has no slot.
     fn insert_first<L: Ledger>(&mut self, row: Row, steps: &mut Steps<L>) -> Result<(), RowFault>
         requires fits { IsRow self.old.contents.def row }
         requires room { length self.old.contents.rows < most_rows }
-        requires absent { has_key self.old.places (values_at self.old.contents.def.key row) ≡ false }
+        requires absent { has_key self.old.slots (values_at self.old.contents.def.key row) ≡ false }
         ensures answer { Inserts self.old self.new row steps.old steps.new result }
         ensures def { self.new.contents.def ≡ self.old.contents.def }
         ensures keeps { StillKeeps self.old self.new }

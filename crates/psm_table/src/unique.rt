@@ -6,7 +6,7 @@ ghost use Rattle.psm_table.specs.Held.{live_rows, row_of, HasItsKey};
 ghost use Rattle.psm_table.specs.Keyed.{has_values};
 ghost use Rattle.psm_table.specs.Map.{keys_of, prefix_order, AreAscending};
 ghost use Rattle.psm_table.specs.Matching.{at_most_one, matched, rows_with};
-ghost use Rattle.psm_table.specs.Place.{ahead, probe_key, FitsProbe};
+ghost use Rattle.psm_table.specs.PairPosition.{ahead, probe_key, FitsProbe};
 ghost use Rattle.psm_table.specs.Rows.{IsAscending};
 ghost use Rattle.psm_table.specs.State.{HasEntry};
 ghost use Rattle.psm_table.specs.MatchingEntries.{row_having, matching_entries, IsFirst};

@@ -161,9 +161,9 @@ fn pairs_from<'a>(
         return (&[], runs);
     }
     let probe = Probe::Of(cut.values);
-    let at = locate_past(runs, probe, cut.is_behind);
+    let at = locate_past(runs, probe, cut.is_after);
     let pairs = runs[at].pairs();
-    (&pairs[turn(pairs, probe, cut.is_behind)..], &runs[at + 1..])
+    (&pairs[turn(pairs, probe, cut.is_after)..], &runs[at + 1..])
 }
 
 /// The pairs of runs up to a cut: runs, and some of the run after them.
@@ -182,9 +182,9 @@ fn pairs_up_to<'a>(
         return (runs, &[]);
     }
     let probe = Probe::Of(cut.values);
-    let at = locate_past(runs, probe, cut.is_behind);
+    let at = locate_past(runs, probe, cut.is_after);
     let pairs = runs[at].pairs();
-    (&runs[..at], &pairs[..turn(pairs, probe, cut.is_behind)])
+    (&runs[..at], &pairs[..turn(pairs, probe, cut.is_after)])
 }
 
 /// The pairs of some of a run up to a cut.
@@ -193,7 +193,7 @@ fn part_up_to<'a>(pairs: &'a [Pair<Option<Row>>], high: Option<Cut<'_>>) -> &'a 
     ensures { result.now ≡ filter (λ p. is_up_to high.entry p.key) pairs.now }
 {
     match high {
-        Some(cut) => &pairs[..turn(pairs, Probe::Of(cut.values), cut.is_behind)],
+        Some(cut) => &pairs[..turn(pairs, Probe::Of(cut.values), cut.is_after)],
         None => pairs,
     }
 }

@@ -23,7 +23,7 @@ pub collects_first : {A B : Type 0} (take : A → Result B SqlState) (xs : List 
 collects_first take xs done e = subst (λ d. Collects take xs 0 d) (sym e) (mapped-same (collected take xs))
 
 module _ {A B : Type 0} (take : A → Result B SqlState) (xs : List A) (at : ℕ) (a : A) (done : List B) where
-  -- what is taken of the next is as is due
+  -- what is taken of the next is as expected
   taken_next : (b : B) (r : Result (List B) SqlState) → mapped (λ bs. (done ++ b ∷ []) ++ bs) r ≡ mapped (λ bs. done ++ bs) (mapped (λ bs. b ∷ bs) r)
   taken_next b (Ok bs) = ap Ok (append_assoc done (b ∷ []) bs)
   taken_next b (Err s) = refl

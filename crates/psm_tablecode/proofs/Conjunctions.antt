@@ -14,12 +14,12 @@ use Rattle.psm_exprcode.specs.declared.op.Op.{Op}
 use Rattle.psm_exprcode.specs.declared.op.Op.TheVariants as op
 use Rattle.psm_exprcode.specs.declared.operand.Operand.{Operand}
 use Rattle.psm_exprcode.specs.declared.operand.Operand.TheVariants.{Value, Truth}
-use Rattle.psm_exprcode.specs.declared.operand.Next.TheVariants.{Ahead, Jump}
+use Rattle.psm_exprcode.specs.declared.operand.Next.TheVariants.{FallThrough, Jump}
 use Rattle.psm_exprcode.specs.Applied.{applied, combines, on_many, on_three, on_truth, on_two, on_value, truth_of_two, with_named, with_truth, Applied, Went, Raised, Stuck}
 use Rattle.psm_exprcode.specs.Comparison as comparison
 use Rattle.psm_exprcode.specs.Comparison.{among, between}
 use Rattle.psm_exprcode.specs.Values.{as_truth, like}
-use Rattle.psm_exprcode.specs.Evaluated.{goes_on, place_after, ran, Outcome}
+use Rattle.psm_exprcode.specs.Evaluated.{goes_on, line_after, ran, Outcome}
 use Rattle.psm_tablecode.specs.Tests.{are_quiet, fixed, free, free_before, is_and, is_column, is_equality, is_quiet, takes}
 
 -- whether the truth values among operands are true
@@ -30,15 +30,15 @@ all_true (Truth t ∷ os) = is_certain t && all_true os
 
 -- an operation that goes on puts one operand, in the place of the last n
 abbrev pub Puts : ℕ → List Operand → Applied → Type 0
-Puts n os (Went Ahead []) = ⊥
-Puts n os (Went Ahead (x ∷ below)) = drop n os ≡ below
+Puts n os (Went FallThrough []) = ⊥
+Puts n os (Went FallThrough (x ∷ below)) = drop n os ≡ below
 Puts n os (Went (Jump p) new) = ⊥
 Puts n os (Raised state) = ⊥
 Puts n os Stuck = Unit {0}
 
 -- an operation raises nothing and goes ahead; where those of the operands that have to be true are so after it, they were before it
 abbrev pub Goes : Op → List Operand → Applied → Type 0
-Goes o os (Went Ahead new) = (k : ℕ) → all_true (drop k new) ≡ true → all_true (drop (free_before o k) os) ≡ true
+Goes o os (Went FallThrough new) = (k : ℕ) → all_true (drop k new) ≡ true → all_true (drop (free_before o k) os) ≡ true
 Goes o os (Went (Jump p) new) = ⊥
 Goes o os (Raised state) = ⊥
 Goes o os Stuck = Unit {0}
@@ -77,8 +77,8 @@ module _ (o : Op) (os : List Operand) (no : is_and o ≡ false) where
       ap (λ j. all_true (drop j os)) (z ∙ n) ∙ ap all_true (sym (both_dropped (takes o) k os) ∙ ap (λ (l : List Operand). drop k l) e) ∙ h
 
   pub puts_goes : (a : Applied) → Puts (takes o) os a → Goes o os a
-  puts_goes (Went Ahead []) p = absurd p
-  puts_goes (Went Ahead (x ∷ below)) p = goes_by x below p
+  puts_goes (Went FallThrough []) p = absurd p
+  puts_goes (Went FallThrough (x ∷ below)) p = goes_by x below p
   puts_goes (Went (Jump q) new) p = p
   puts_goes (Raised state) p = p
   puts_goes Stuck p = tt
@@ -130,8 +130,8 @@ like_puts (Value (Num n) ∷ Value (Text t) ∷ os) = refl
 like_puts (Value (Text p) ∷ Value (Text t) ∷ os) = liked_puts (Value (Text p) ∷ Value (Text t) ∷ os) os (well_formed None p) (_) (_) (plain p) refl
 
 one_more : (n : ℕ) (x : Operand) (os : List Operand) (a : Applied) → Puts n os a → Puts (suc n) (x ∷ os) a
-one_more n x os (Went Ahead []) p = p
-one_more n x os (Went Ahead (y ∷ below)) p = p
+one_more n x os (Went FallThrough []) p = p
+one_more n x os (Went FallThrough (y ∷ below)) p = p
 one_more n x os (Went (Jump q) new) p = p
 one_more n x os (Raised state) p = p
 one_more n x os Stuck p = tt
@@ -188,7 +188,7 @@ module _ (row vars : List Datum) where
   pub record Says (o : Op) : Type 0 where
     pub equal : is_equality o ≡ true → o ≡ op.Equal
     pub column : (c : ℕ) → is_column c o ≡ true → o ≡ op.Column c
-    pub puts : (d : Datum) → fixed vars o ≡ Some d → (os : List Operand) → applied o os row vars ≡ Went Ahead (Value d ∷ os)
+    pub puts : (d : Datum) → fixed vars o ≡ Some d → (os : List Operand) → applied o os row vars ≡ Went FallThrough (Value d ∷ os)
     pub quiet : (d : Datum) → fixed vars o ≡ Some d → is_quiet o ≡ true
     pub goes : is_quiet o ≡ true → (os : List Operand) → Goes o os (applied o os row vars)
 
@@ -202,7 +202,7 @@ module _ (row vars : List Datum) where
   }
 
   pub says : (o : Op) → Says o
-  says (op.Constant k d) = record { equal = λ h. cc; column = λ c h. cc; puts = λ x e os. ap (λ y. Went Ahead (Value y ∷ os)) (some-same d x e); quiet = λ x e. refl; goes = λ h os. puts_goes (op.Constant k d) os refl (Went Ahead (Value d ∷ os)) refl }
+  says (op.Constant k d) = record { equal = λ h. cc; column = λ c h. cc; puts = λ x e os. ap (λ y. Went FallThrough (Value y ∷ os)) (some-same d x e); quiet = λ x e. refl; goes = λ h os. puts_goes (op.Constant k d) os refl (Went FallThrough (Value d ∷ os)) refl }
   says (op.Variable i) = record { equal = λ h. cc; column = λ c h. cc; puts = λ x e os. ap (with_named os) e; quiet = λ x e. refl; goes = λ h os. puts_goes (op.Variable i) os refl (with_named os (slice_get vars i)) (named_puts os (slice_get vars i)) }
   says (op.Column i) = record { equal = λ h. cc; column = λ c h. ap op.Column (eqb-true i c h); puts = λ x e os. cc; quiet = λ x e. refl; goes = λ h os. puts_goes (op.Column i) os refl (with_named os (slice_get row i)) (named_puts os (slice_get row i)) }
   says op.Duplicate = other op.Duplicate refl (λ c. refl) refl refl
@@ -246,15 +246,15 @@ module _ (row vars : List Datum) where
   abbrev pub run : ℕ → List Line → List Operand → Outcome
   run n lines os = ran row vars n n lines os
 
-  pub run_first : (n : ℕ) (l : Line) (lines : List Line) (os : List Operand) → run n (l ∷ lines) os ≡ goes_on (applied l.op os row vars) (λ next. ran row vars (suc n) (place_after n next) lines)
+  pub run_first : (n : ℕ) (l : Line) (lines : List Line) (os : List Operand) → run n (l ∷ lines) os ≡ goes_on (applied l.op os row vars) (λ next. ran row vars (suc n) (line_after n next) lines)
   run_first n l lines os =
-      ap (λ (b : Bool). if b then goes_on (applied l.op os row vars) (λ next. ran row vars (suc n) (place_after n next) lines) else ran row vars (suc n) n lines os) (eq-eqb n n refl)
+      ap (λ (b : Bool). if b then goes_on (applied l.op os row vars) (λ next. ran row vars (suc n) (line_after n next) lines) else ran row vars (suc n) n lines os) (eq-eqb n n refl)
 
   -- ---- nothing is raised
 
   quiet_on : (n : ℕ) (lines : List Line) (os : List Operand) (s : List ℕ) (o : Op) (a : Applied) → Goes o os a → ((new : List Operand) → run (suc n) lines new ≡ Some (Err s) → ⊥)
-      → goes_on a (λ next. ran row vars (suc n) (place_after n next) lines) ≡ Some (Err s) → ⊥
-  quiet_on n lines os s o (Went Ahead new) g rest e = rest new e
+      → goes_on a (λ next. ran row vars (suc n) (line_after n next) lines) ≡ Some (Err s) → ⊥
+  quiet_on n lines os s o (Went FallThrough new) g rest e = rest new e
   quiet_on n lines os s o (Went (Jump p) new) g rest e = g
   quiet_on n lines os s o (Raised state) g rest e = g
   quiet_on n lines os s o Stuck g rest e = absurd (cc)
@@ -273,16 +273,16 @@ module _ (row vars : List Datum) where
   abbrev pub Meets : ℕ → List Line → List Operand → Type 0
   Meets n lines os = run n lines os ≡ Some (Ok (Truth True))
 
-  meets_on : (n : ℕ) (lines : List Line) (os : List Operand) (o : Op) (a : Applied) → Goes o os a → goes_on a (λ next. ran row vars (suc n) (place_after n next) lines) ≡ Some (Ok (Truth True))
-      → (new : List Operand) × (a ≡ Went Ahead new) × Meets (suc n) lines new
-  meets_on n lines os o (Went Ahead new) g e = (new, refl, e)
+  meets_on : (n : ℕ) (lines : List Line) (os : List Operand) (o : Op) (a : Applied) → Goes o os a → goes_on a (λ next. ran row vars (suc n) (line_after n next) lines) ≡ Some (Ok (Truth True))
+      → (new : List Operand) × (a ≡ Went FallThrough new) × Meets (suc n) lines new
+  meets_on n lines os o (Went FallThrough new) g e = (new, refl, e)
   meets_on n lines os o (Went (Jump p) new) g e = absurd g
   meets_on n lines os o (Raised state) g e = absurd g
   meets_on n lines os o Stuck g e = absurd (cc)
 
   -- the operands after the first line
   pub meets_next : (n : ℕ) (l : Line) (lines : List Line) (os : List Operand) → are_quiet (l ∷ lines) ≡ true → Meets n (l ∷ lines) os
-      → (new : List Operand) × (applied l.op os row vars ≡ Went Ahead new) × Meets (suc n) lines new
+      → (new : List Operand) × (applied l.op os row vars ≡ Went FallThrough new) × Meets (suc n) lines new
   meets_next n l lines os h e =
       meets_on n lines os l.op (applied l.op os row vars) ((says l.op).goes (and_first (is_quiet l.op) (are_quiet lines) h) os) (sym (run_first n l lines os) ∙ e)
 
@@ -292,5 +292,5 @@ module _ (row vars : List Datum) where
   trues n [] (o ∷ p ∷ os) h e = cc
   trues n (l ∷ lines) os h e =
       let next = meets_next n l lines os h e in
-      let goes : Goes l.op os (Went Ahead next.0) = subst (Goes l.op os) next.1 ((says l.op).goes (and_first (is_quiet l.op) (are_quiet lines) h) os) in
+      let goes : Goes l.op os (Went FallThrough next.0) = subst (Goes l.op os) next.1 ((says l.op).goes (and_first (is_quiet l.op) (are_quiet lines) h) os) in
       goes (free lines) (trues (suc n) lines next.0 (and_second (is_quiet l.op) (are_quiet lines) h) next.2)

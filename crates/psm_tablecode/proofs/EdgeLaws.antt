@@ -14,14 +14,14 @@ use Rattle.psm_table.specs.Map.{prefix_order}
 use Rattle.psm_table.specs.Queries.{in_walk}
 use Rattle.psm_tablecode.specs.Bounds.{bounds_by, bounds_of, has_between, high_sought, low_sought, of_range, Bounds, End}
 use Rattle.psm_tablecode.specs.Bounds as bounds
-use Rattle.psm_tablecode.specs.Edges.{begins_behind, end_values, ends_behind, high_edge, is_begun, is_not_ended, lies_within, low_edge, rows_between}
+use Rattle.psm_tablecode.specs.Edges.{begins_after, end_values, ends_after, high_edge, is_begun, is_not_ended, lies_within, low_edge, rows_between}
 use Rattle.psm_tablecode.specs.Tests.{sought}
 use Rattle.psm_tablecode.proofs.Stepped.{filter-reverse}
 
 -- ---- the order of a key and values that it begins with, or doesn't
 
 abbrev past_by : Bool → Ordering → Bool
-past_by is_behind o = if is_behind then is_gt o else not (is_lt o)
+past_by is_after o = if is_after then is_gt o else not (is_lt o)
 
 one_order : (d v : Datum) (key : List Datum) → prefix_order (v ∷ []) (d ∷ key) ≡ ordering_then (data_order d v) Equal
 one_order d v key = refl
@@ -57,10 +57,10 @@ ends_by Greater false = refl
 -- ---- the edges of bounds
 
 abbrev Begins : List Datum → Option End → List Datum → Bool
-Begins firsts low key = is_past (end_values firsts low) (begins_behind low) key
+Begins firsts low key = is_past (end_values firsts low) (begins_after low) key
 
 abbrev Ends : List Datum → Option End → List Datum → Bool
-Ends firsts high key = not (is_past (end_values firsts high) (ends_behind high) key)
+Ends firsts high key = not (is_past (end_values firsts high) (ends_after high) key)
 
 begins_at : (low : Option End) (d : Datum) (key : List Datum) → Begins [] low (d ∷ key) ≡ bounds.is_from low d
 begins_at None d key = refl
@@ -94,13 +94,13 @@ within : (firsts : List Datum) (low high : Option End) (key : List Datum) → Re
 within [] low high [] r = λ i. Begins [] (r.0 i) [] && Ends [] (r.1 i) []
 within [] low high (d ∷ key) r = λ i. begins_at low d key i && ends_at high d key i
 within (v ∷ vs) low high [] r =
-    ap (λ ws. is_past ws (begins_behind low) [] && Ends (v ∷ vs) high []) (values_next v vs low) ∙ ap (λ b. b && Ends (v ∷ vs) high []) (none_past v (end_values vs low) (begins_behind low))
+    ap (λ ws. is_past ws (begins_after low) [] && Ends (v ∷ vs) high []) (values_next v vs low) ∙ ap (λ b. b && Ends (v ∷ vs) high []) (none_past v (end_values vs low) (begins_after low))
 within (v ∷ vs) low high (d ∷ key) r =
-    (λ i. is_past (values_next v vs low i) (begins_behind low) (d ∷ key) && not (is_past (values_next v vs high i) (ends_behind high) (d ∷ key)))
-    ∙ within_first d v (end_values vs low) (end_values vs high) key (begins_behind low) (ends_behind high)
+    (λ i. is_past (values_next v vs low i) (begins_after low) (d ∷ key) && not (is_past (values_next v vs high i) (ends_after high) (d ∷ key)))
+    ∙ within_first d v (end_values vs low) (end_values vs high) key (begins_after low) (ends_after high)
     ∙ ap (λ b. is_eq (data_order d v) && b) (within vs low high key r)
 
--- without values there is nothing before an edge, and nothing behind it
+-- without values there is nothing before an edge, and nothing after it
 all_past : (key : List Datum) → is_past [] false key ≡ true
 all_past key = refl
 

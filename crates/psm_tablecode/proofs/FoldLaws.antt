@@ -12,12 +12,12 @@ use Rattle.psm_exprcode.specs.declared.op.Op.{Op}
 use Rattle.psm_exprcode.specs.declared.op.Op.TheVariants as op
 use Rattle.psm_exprcode.specs.declared.operand.Operand.{Operand}
 use Rattle.psm_exprcode.specs.declared.operand.Operand.TheVariants.{Value, Truth}
-use Rattle.psm_exprcode.specs.declared.operand.Next.TheVariants.{Ahead, Jump}
+use Rattle.psm_exprcode.specs.declared.operand.Next.TheVariants.{FallThrough, Jump}
 use Rattle.psm_exprcode.specs.Applied.{applied, on_three, on_two, on_value, with_value, Applied, Went, Raised, Stuck}
 use Rattle.psm_exprcode.specs.Comparison.{unless_equal}
 use Rattle.psm_exprcode.specs.Texts.{trim_of}
 use Rattle.psm_exprcode.specs.Values.{concatenated, length_of, on_text, part_from, part_of, position_of, rescaled}
-use Rattle.psm_exprcode.specs.Evaluated.{ended, evaluated, goes_on, place_after, ran, Outcome}
+use Rattle.psm_exprcode.specs.Evaluated.{ended, evaluated, goes_on, line_after, ran, Outcome}
 use Rattle.psm_exprcode.specs.Fits.{are_values, finds, Fits, IsNamed, IsWithin}
 use Rattle.psm_exprcode.specs.WellFormed.{is_type}
 use Rattle.psm_exprcode.proofs.Types.{type_within}
@@ -32,8 +32,8 @@ use Rattle.psm_tablecode.proofs.Conjunctions.{run, run_first, says, Goes}
 abbrev Values : List Datum → List Operand
 Values ds = map Value ds
 
-put_by : (d : Datum) (below : List Operand) (r : Result Datum (List ℕ)) → value_alone (with_value [] r) ≡ Some d → with_value below r ≡ Went Ahead (Value d ∷ below)
-put_by d below (Ok x) e = let same : x ≡ d = cc in ap (λ (y : Datum). Went Ahead (Value y ∷ below)) same
+put_by : (d : Datum) (below : List Operand) (r : Result Datum (List ℕ)) → value_alone (with_value [] r) ≡ Some d → with_value below r ≡ Went FallThrough (Value d ∷ below)
+put_by d below (Ok x) e = let same : x ≡ d = cc in ap (λ (y : Datum). Went FallThrough (Value y ∷ below)) same
 put_by d below (Err s) e = absurd cc
 
 -- one with others below it is not alone
@@ -42,20 +42,20 @@ not_alone d o os (Ok x) e = absurd cc
 not_alone d o os (Err s) e = absurd cc
 
 one_put : (f : Datum → Result Datum (List ℕ)) (d : Datum) (ds : List Datum) (os : List Operand) → value_alone (on_value (λ a below. with_value below (f a)) (Values ds)) ≡ Some d
-    → on_value (λ a below. with_value below (f a)) (Values ds ++ os) ≡ Went Ahead (Value d ∷ os)
+    → on_value (λ a below. with_value below (f a)) (Values ds ++ os) ≡ Went FallThrough (Value d ∷ os)
 one_put f d [] os e = absurd cc
 one_put f d (a ∷ []) os e = put_by d os (f a) e
 one_put f d (a ∷ b ∷ ds) os e = absurd (not_alone d (Value b) (Values ds) (f a) e)
 
 two_put : (f : Datum → Datum → Result Datum (List ℕ)) (d : Datum) (ds : List Datum) (os : List Operand) → value_alone (on_two (λ a b below. with_value below (f a b)) (Values ds)) ≡ Some d
-    → on_two (λ a b below. with_value below (f a b)) (Values ds ++ os) ≡ Went Ahead (Value d ∷ os)
+    → on_two (λ a b below. with_value below (f a b)) (Values ds ++ os) ≡ Went FallThrough (Value d ∷ os)
 two_put f d [] os e = absurd cc
 two_put f d (b ∷ []) os e = absurd cc
 two_put f d (b ∷ a ∷ []) os e = put_by d os (f a b) e
 two_put f d (b ∷ a ∷ c ∷ ds) os e = absurd (not_alone d (Value c) (Values ds) (f a b) e)
 
 three_put : (f : Datum → Datum → Datum → Result Datum (List ℕ)) (d : Datum) (ds : List Datum) (os : List Operand) → value_alone (on_three (λ a b c below. with_value below (f a b c)) (Values ds)) ≡ Some d
-    → on_three (λ a b c below. with_value below (f a b c)) (Values ds ++ os) ≡ Went Ahead (Value d ∷ os)
+    → on_three (λ a b c below. with_value below (f a b c)) (Values ds ++ os) ≡ Went FallThrough (Value d ∷ os)
 three_put f d [] os e = absurd cc
 three_put f d (c ∷ []) os e = absurd cc
 three_put f d (c ∷ b ∷ []) os e = absurd cc
@@ -66,7 +66,7 @@ three_put f d (c ∷ b ∷ a ∷ x ∷ ds) os e = absurd (not_alone d (Value x) 
 
 -- the operation goes on at the line that follows, if it goes on
 abbrev pub Straight : Applied → Type 0
-Straight (Went Ahead new) = Unit {0}
+Straight (Went FallThrough new) = Unit {0}
 Straight (Went (Jump p) new) = ⊥
 Straight (Raised state) = Unit {0}
 Straight Stuck = Unit {0}
@@ -107,7 +107,7 @@ module _ (row vars : List Datum) where
   -- what is known of an operation that folds values
   pub record Folds (n : ℕ) (o : Op) : Type 0 where
     pub fits : (os : List Operand) → are_values (suc n) os ≡ true → Fits o os row vars
-    pub puts : (d : Datum) (ds : List Datum) (os : List Operand) → value_put o ds ≡ Some d → applied o (Values ds ++ os) row vars ≡ Went Ahead (Value d ∷ os)
+    pub puts : (d : Datum) (ds : List Datum) (os : List Operand) → value_put o ds ≡ Some d → applied o (Values ds ++ os) row vars ≡ Went FallThrough (Value d ∷ os)
     pub straight : (os : List Operand) → Straight (applied o os row vars)
 
   one_says : (n : ℕ) (o : Op) (f : Datum → Result Datum (List ℕ)) → ((os : List Operand) (r v : List Datum) → applied o os r v ≡ on_value (λ a below. with_value below (f a)) os) → 1 ≡ suc n → ((os : List Operand) → finds o os ≡ are_values 1 os)
@@ -189,20 +189,20 @@ module _ (row vars : List Datum) where
   goes_same xs ys h (Raised state) = refl
   goes_same xs ys h Stuck = refl
 
-  -- operations behind those that are done, which stand with the last one first
-  abbrev behind : List Op → List Op → List Op
-  behind done ops = reverse_aux done ops
+  -- operations after those that are done, which stand with the last one first
+  abbrev after_done : List Op → List Op → List Op
+  after_done done ops = reverse_aux done ops
 
-  same_behind : (done xs ys : List Op) → Same xs ys → Same (behind done xs) (behind done ys)
-  same_behind [] xs ys h = h
-  same_behind (o ∷ done) xs ys h = same_behind done (o ∷ xs) (o ∷ ys) (λ os. goes_same xs ys h (applied o os row vars))
+  same_after : (done xs ys : List Op) → Same xs ys → Same (after_done done xs) (after_done done ys)
+  same_after [] xs ys h = h
+  same_after (o ∷ done) xs ys h = same_after done (o ∷ xs) (o ∷ ys) (λ os. goes_same xs ys h (applied o os row vars))
 
-  -- the last n put values, and what comes behind them is the same with these on the operands
+  -- the last n put values, and what comes after them is the same with these on the operands
   abbrev Puts : ℕ → List Op → Type 0
-  Puts n done = (ds : List Datum) → last_values vars n done ≡ Some ds → (xs ys : List Op) → ((os : List Operand) → straight_on xs (Values ds ++ os) ≡ straight_on ys os) → Same (behind done xs) (behind (drop n done) ys)
+  Puts n done = (ds : List Datum) → last_values vars n done ≡ Some ds → (xs ys : List Op) → ((os : List Operand) → straight_on xs (Values ds ++ os) ≡ straight_on ys os) → Same (after_done done xs) (after_done (drop n done) ys)
 
   put_first : (n : ℕ) (o : Op) (done : List Op) (ds : List Datum) (f : Option Datum) (rest : Option (List Datum)) → Puts n done → fixed vars o ≡ f → last_values vars n done ≡ rest → with_first f rest ≡ Some ds
-      → (xs ys : List Op) → ((os : List Operand) → straight_on xs (Values ds ++ os) ≡ straight_on ys os) → Same (behind done (o ∷ xs)) (behind (drop n done) ys)
+      → (xs ys : List Op) → ((os : List Operand) → straight_on xs (Values ds ++ os) ≡ straight_on ys os) → Same (after_done done (o ∷ xs)) (after_done (drop n done) ys)
   put_first n o done ds None rest go f r e xs ys h = absurd cc
   put_first n o done ds (Some d) None go f r e xs ys h = absurd cc
   put_first n o done ds (Some d) (Some more) go f r e xs ys h =
@@ -211,28 +211,28 @@ module _ (row vars : List Datum) where
       (λ os. ap (λ (a : Applied). goes_on a (λ next. straight_on xs)) ((says row vars o).puts d f (Values more ++ os)) ∙ ap (λ (l : List Datum). straight_on xs (Values l ++ os)) all ∙ h os)
 
   values_put : (n : ℕ) (done : List Op) → Puts n done
-  values_put zero done ds e xs ys h = let none : [] ≡ ds = cc in same_behind done xs ys (λ os. ap (λ (l : List Datum). straight_on xs (Values l ++ os)) none ∙ h os)
+  values_put zero done ds e xs ys h = let none : [] ≡ ds = cc in same_after done xs ys (λ os. ap (λ (l : List Datum). straight_on xs (Values l ++ os)) none ∙ h os)
   values_put (suc n) [] ds e xs ys h = absurd cc
   values_put (suc n) (o ∷ done) ds e xs ys h = put_first n o done ds (fixed vars o) (last_values vars n done) (values_put n done) refl refl e xs ys h
 
   -- ---- one operation folded
 
   folded_same : (done : List Op) (o : Op) (ops : List Op) (n : ℕ) (found : Option (List Datum)) (put : Option Datum) → folds o ≡ suc n → last_values vars (suc n) done ≡ found → option_and_then (value_put o) found ≡ put
-      → Same (behind done (o ∷ ops)) (behind (done_with (suc n) done o put) ops)
+      → Same (after_done done (o ∷ ops)) (after_done (done_with (suc n) done o put) ops)
   folded_same done o ops n found None f l p os = refl
   folded_same done o ops n None (Some d) f l p os = absurd cc
   folded_same done o ops n (Some ds) (Some d) f l p os =
       values_put (suc n) done ds l (o ∷ ops) (constant d ∷ ops)
       (λ below. ap (λ (a : Applied). goes_on a (λ next. straight_on ops)) ((fold_says n o f).puts d ds below p)) os
 
-  fold_same_by : (done : List Op) (o : Op) (ops : List Op) (n : ℕ) → folds o ≡ n → Same (behind done (o ∷ ops)) (behind (done_with n done o (value_on vars n done o)) ops)
+  fold_same_by : (done : List Op) (o : Op) (ops : List Op) (n : ℕ) → folds o ≡ n → Same (after_done done (o ∷ ops)) (after_done (done_with n done o (value_on vars n done o)) ops)
   fold_same_by done o ops zero f os = refl
   fold_same_by done o ops (suc n) f os = folded_same done o ops n (last_values vars (suc n) done) (value_on vars (suc n) done o) f refl refl os
 
-  fold_same : (done : List Op) (o : Op) (ops : List Op) → Same (behind done (o ∷ ops)) (behind (fold_op vars done o) ops)
+  fold_same : (done : List Op) (o : Op) (ops : List Op) → Same (after_done done (o ∷ ops)) (after_done (fold_op vars done o) ops)
   fold_same done o ops = fold_same_by done o ops (folds o) refl
 
-  folds_same : (ops done : List Op) → Same (behind done ops) (fold_ops vars done ops)
+  folds_same : (ops done : List Op) → Same (after_done done ops) (fold_ops vars done ops)
   folds_same [] done os = refl
   folds_same (o ∷ ops) done os = fold_same done o ops os ∙ folds_same ops (fold_op vars done o) os
 
@@ -247,8 +247,8 @@ module _ (row vars : List Datum) where
   AllGoOn (o ∷ ops) = GoesOn o × AllGoOn ops
 
   ran_on : (n : ℕ) (lines : List Line) (a : Applied) → Straight a → ((os : List Operand) → run row vars (suc n) lines os ≡ straight_on (ops_of lines) os)
-      → goes_on a (λ next. ran row vars (suc n) (place_after n next) lines) ≡ goes_on a (λ next. straight_on (ops_of lines))
-  ran_on n lines (Went Ahead os) s h = h os
+      → goes_on a (λ next. ran row vars (suc n) (line_after n next) lines) ≡ goes_on a (λ next. straight_on (ops_of lines))
+  ran_on n lines (Went FallThrough os) s h = h os
   ran_on n lines (Went (Jump p) os) s h = absurd s
   ran_on n lines (Raised state) s h = refl
   ran_on n lines Stuck s h = refl
@@ -259,7 +259,7 @@ module _ (row vars : List Datum) where
       run_first row vars n l lines os ∙ ran_on n lines (applied l.op os row vars) (s.0 os) (λ new. ran_straight (suc n) lines s.1 new)
 
   goes_straight : (o : Op) (os : List Operand) (a : Applied) → Goes o os a → Straight a
-  goes_straight o os (Went Ahead new) g = tt
+  goes_straight o os (Went FallThrough new) g = tt
   goes_straight o os (Went (Jump p) new) g = g
   goes_straight o os (Raised state) g = tt
   goes_straight o os Stuck g = tt

@@ -7,7 +7,7 @@ use Rattle.psm_value.specs.declared.datum.Datum.{Datum}
 use Rattle.psm_exprcode.specs.declared.op.Line.{Line}
 use Rattle.psm_exprcode.specs.declared.op.Op.{Op}
 use Rattle.psm_exprcode.specs.declared.operand.Operand.{Operand}
-use Rattle.psm_exprcode.specs.declared.operand.Next.TheVariants.{Ahead}
+use Rattle.psm_exprcode.specs.declared.operand.Next.TheVariants.{FallThrough}
 use Rattle.psm_exprcode.specs.Applied.{applied, Went}
 use Rattle.psm_tablecode.specs.Tests.{are_quiet, first_four, first_three, free, is_quiet, made}
 use Rattle.psm_tablecode.proofs.Conjunctions.{all_true, meets_next, trues, Meets}
@@ -44,8 +44,8 @@ module _ (row vars : List Datum) {X : Type 0} (width : ℕ) (make : List Line �
 -- ---- three lines
 
 module _ (row vars : List Datum) {X : Type 0} (make : Op → Op → Op → Option X) (P : X → Type 0)
-    (sound : (a b e : Op) (os first second third : List Operand) → applied a os row vars ≡ Went Ahead first → applied b first row vars ≡ Went Ahead second
-    → applied e second row vars ≡ Went Ahead third → all_true third ≡ true → (x : X) → make a b e ≡ Some x → P x) where
+    (sound : (a b e : Op) (os first second third : List Operand) → applied a os row vars ≡ Went FallThrough first → applied b first row vars ≡ Went FallThrough second
+    → applied e second row vars ≡ Went FallThrough third → all_true third ≡ true → (x : X) → make a b e ≡ Some x → P x) where
   three_sound : (x : X) (n : ℕ) (lines : List Line) (os : List Operand) → are_quiet lines ≡ true → Meets row vars n lines os → free (drop 3 lines) ≡ 0 → first_three make lines ≡ Some x → P x
   three_sound x n [] os h m f s = absurd (cc)
   three_sound x n (a ∷ []) os h m f s = absurd (cc)
@@ -65,8 +65,8 @@ module _ (row vars : List Datum) {X : Type 0} (make : Op → Op → Op → Optio
 -- ---- four lines
 
 module _ (row vars : List Datum) {X : Type 0} (make : Op → Op → Op → Op → Option X) (P : X → Type 0)
-    (sound : (o a b e : Op) (os first second third fourth : List Operand) → applied o os row vars ≡ Went Ahead first → applied a first row vars ≡ Went Ahead second
-    → applied b second row vars ≡ Went Ahead third → applied e third row vars ≡ Went Ahead fourth → all_true fourth ≡ true → (x : X) → make o a b e ≡ Some x → P x) where
+    (sound : (o a b e : Op) (os first second third fourth : List Operand) → applied o os row vars ≡ Went FallThrough first → applied a first row vars ≡ Went FallThrough second
+    → applied b second row vars ≡ Went FallThrough third → applied e third row vars ≡ Went FallThrough fourth → all_true fourth ≡ true → (x : X) → make o a b e ≡ Some x → P x) where
   four_sound : (x : X) (n : ℕ) (lines : List Line) (os : List Operand) → are_quiet lines ≡ true → Meets row vars n lines os → free (drop 4 lines) ≡ 0 → first_four make lines ≡ Some x → P x
   four_sound x n [] os h m f s = absurd (cc)
   four_sound x n (o ∷ []) os h m f s = absurd (cc)

@@ -21,7 +21,7 @@ use Rattle.psm_exprcode.specs.declared.op.Op.{Op}
 use Rattle.psm_exprcode.specs.declared.op.Op.TheVariants as op
 use Rattle.psm_exprcode.specs.declared.operand.Operand.{Operand}
 use Rattle.psm_exprcode.specs.declared.operand.Operand.TheVariants.{Value, Truth}
-use Rattle.psm_exprcode.specs.declared.operand.Next.TheVariants.{Ahead}
+use Rattle.psm_exprcode.specs.declared.operand.Next.TheVariants.{FallThrough}
 use Rattle.psm_exprcode.specs.Applied.{applied, Went}
 use Rattle.psm_exprcode.specs.Comparison.{truth_of}
 use Rattle.psm_exprcode.specs.Evaluated.{evaluated}
@@ -71,7 +71,7 @@ judged_by f (Text a) (Text b) = truth_of (f (data_order (Text a) (Text b)))
 
 -- the operation puts that on two values
 abbrev Judges : (Ordering → Bool) → Op → Type 0
-Judges f o = (a b : Datum) (os : List Operand) (row vars : List Datum) → applied o (Value b ∷ Value a ∷ os) row vars ≡ Went Ahead (Truth (judged_by f a b) ∷ os)
+Judges f o = (a b : Datum) (os : List Operand) (row vars : List Datum) → applied o (Value b ∷ Value a ∷ os) row vars ≡ Went FallThrough (Truth (judged_by f a b) ∷ os)
 
 judges_greater : Judges is_gt op.Greater
 judges_greater Null b os row vars = refl
@@ -146,12 +146,12 @@ up_to_turned false Equal h = cc
 up_to_turned false Greater h = refl
 
 -- what the words for a comparison say of it
-record Tells (o : Op) : Type 0 where
+record IsJudged (o : Op) : Type 0 where
   pub from : (is_in : Bool) → from_test o ≡ Some is_in → Judges (from_order is_in) o
   pub up_to : (is_in : Bool) → up_to_test o ≡ Some is_in → Judges (up_to_order is_in) o
 
-untold : (o : Op) → from_test o ≡ None → up_to_test o ≡ None → Tells o
-untold o f u = record {
+unjudged : (o : Op) → from_test o ≡ None → up_to_test o ≡ None → IsJudged o
+unjudged o f u = record {
   from = λ is_in h. absurd (cc);
   up_to = λ is_in h. absurd (cc);
 }
@@ -172,46 +172,46 @@ up_to_at_most : (is_in : Bool) → up_to_test op.LessOrEqual ≡ Some is_in → 
 up_to_at_most true h = judges_at_most
 up_to_at_most false h = absurd (cc)
 
-tells : (o : Op) → Tells o
-tells (op.Constant k d) = untold (op.Constant k d) refl refl
-tells (op.Variable i) = untold (op.Variable i) refl refl
-tells (op.Column i) = untold (op.Column i) refl refl
-tells op.Duplicate = untold op.Duplicate refl refl
-tells op.Drop = untold op.Drop refl refl
-tells op.DropBelow = untold op.DropBelow refl refl
-tells op.Negate = untold op.Negate refl refl
-tells op.Add = untold op.Add refl refl
-tells op.Subtract = untold op.Subtract refl refl
-tells op.Multiply = untold op.Multiply refl refl
-tells op.Divide = untold op.Divide refl refl
-tells (op.Rescale s) = untold (op.Rescale s) refl refl
-tells op.Concatenate = untold op.Concatenate refl refl
-tells op.CharacterLength = untold op.CharacterLength refl refl
-tells op.Position = untold op.Position refl refl
-tells op.SubstringFrom = untold op.SubstringFrom refl refl
-tells op.SubstringFromFor = untold op.SubstringFromFor refl refl
-tells (op.Trim side) = untold (op.Trim side) refl refl
-tells op.Upper = untold op.Upper refl refl
-tells op.Lower = untold op.Lower refl refl
-tells op.Equal = untold op.Equal refl refl
-tells op.NotEqual = untold op.NotEqual refl refl
-tells op.Less = record { from = λ is_in h. absurd (cc); up_to = up_to_less }
-tells op.LessOrEqual = record { from = λ is_in h. absurd (cc); up_to = up_to_at_most }
-tells op.Greater = record { from = from_greater; up_to = λ is_in h. absurd (cc) }
-tells op.GreaterOrEqual = record { from = from_at_least; up_to = λ is_in h. absurd (cc) }
-tells op.And = untold op.And refl refl
-tells op.Or = untold op.Or refl refl
-tells op.Not = untold op.Not refl refl
-tells op.IsNull = untold op.IsNull refl refl
-tells op.Like = untold op.Like refl refl
-tells op.LikeEscape = untold op.LikeEscape refl refl
-tells op.Between = untold op.Between refl refl
-tells (op.In n) = untold (op.In n) refl refl
-tells op.NullIf = untold op.NullIf refl refl
-tells (op.Cast to) = untold (op.Cast to) refl refl
-tells (op.Jump p) = untold (op.Jump p) refl refl
-tells (op.JumpUnlessTrue p) = untold (op.JumpUnlessTrue p) refl refl
-tells (op.JumpUnlessNull p) = untold (op.JumpUnlessNull p) refl refl
+judged : (o : Op) → IsJudged o
+judged (op.Constant k d) = unjudged (op.Constant k d) refl refl
+judged (op.Variable i) = unjudged (op.Variable i) refl refl
+judged (op.Column i) = unjudged (op.Column i) refl refl
+judged op.Duplicate = unjudged op.Duplicate refl refl
+judged op.Drop = unjudged op.Drop refl refl
+judged op.DropBelow = unjudged op.DropBelow refl refl
+judged op.Negate = unjudged op.Negate refl refl
+judged op.Add = unjudged op.Add refl refl
+judged op.Subtract = unjudged op.Subtract refl refl
+judged op.Multiply = unjudged op.Multiply refl refl
+judged op.Divide = unjudged op.Divide refl refl
+judged (op.Rescale s) = unjudged (op.Rescale s) refl refl
+judged op.Concatenate = unjudged op.Concatenate refl refl
+judged op.CharacterLength = unjudged op.CharacterLength refl refl
+judged op.Position = unjudged op.Position refl refl
+judged op.SubstringFrom = unjudged op.SubstringFrom refl refl
+judged op.SubstringFromFor = unjudged op.SubstringFromFor refl refl
+judged (op.Trim side) = unjudged (op.Trim side) refl refl
+judged op.Upper = unjudged op.Upper refl refl
+judged op.Lower = unjudged op.Lower refl refl
+judged op.Equal = unjudged op.Equal refl refl
+judged op.NotEqual = unjudged op.NotEqual refl refl
+judged op.Less = record { from = λ is_in h. absurd (cc); up_to = up_to_less }
+judged op.LessOrEqual = record { from = λ is_in h. absurd (cc); up_to = up_to_at_most }
+judged op.Greater = record { from = from_greater; up_to = λ is_in h. absurd (cc) }
+judged op.GreaterOrEqual = record { from = from_at_least; up_to = λ is_in h. absurd (cc) }
+judged op.And = unjudged op.And refl refl
+judged op.Or = unjudged op.Or refl refl
+judged op.Not = unjudged op.Not refl refl
+judged op.IsNull = unjudged op.IsNull refl refl
+judged op.Like = unjudged op.Like refl refl
+judged op.LikeEscape = unjudged op.LikeEscape refl refl
+judged op.Between = unjudged op.Between refl refl
+judged (op.In n) = unjudged (op.In n) refl refl
+judged op.NullIf = unjudged op.NullIf refl refl
+judged (op.Cast to) = unjudged (op.Cast to) refl refl
+judged (op.Jump p) = unjudged (op.Jump p) refl refl
+judged (op.JumpUnlessTrue p) = unjudged (op.JumpUnlessTrue p) refl refl
+judged (op.JumpUnlessNull p) = unjudged (op.JumpUnlessNull p) refl refl
 
 -- an end has both parts
 ends : (i : Option Bool) (v : Option Datum) (d : End) → end_of i v ≡ Some d → (i ≡ Some d.is_in) × (v ≡ Some d.value)
@@ -224,19 +224,19 @@ ends (Some i) (Some v) d h =
 -- ---- three operations on end
 
 module _ (row vars : List Datum) (c : ℕ) (a b e : Op) (os first second third : List Operand)
-    (puts_a : applied a os row vars ≡ Went Ahead first) (puts_b : applied b first row vars ≡ Went Ahead second) (puts_e : applied e second row vars ≡ Went Ahead third) (t : all_true third ≡ true) where
+    (puts_a : applied a os row vars ≡ Went FallThrough first) (puts_b : applied b first row vars ≡ Went FallThrough second) (puts_e : applied e second row vars ≡ Went FallThrough third) (t : all_true third ≡ true) where
   abbrev here : Datum
   here = slice_index_or row c Null
 
-  column_of : (o : Op) (under over : List Operand) → is_column c o ≡ true → applied o under row vars ≡ Went Ahead over → (x : Datum) × (here ≡ x) × (over ≡ Value x ∷ under)
+  column_of : (o : Op) (under over : List Operand) → is_column c o ≡ true → applied o under row vars ≡ Went FallThrough over → (x : Datum) × (here ≡ x) × (over ≡ Value x ∷ under)
   column_of o under over i p = column_put row c under over (slice_get row c) refl (sym (ap (λ (q : Op). applied q under row vars) ((says row vars o).column c i)) ∙ p)
 
-  value_of : (d : Datum) (o : Op) (under over : List Operand) → fixed vars o ≡ Some d → applied o under row vars ≡ Went Ahead over → over ≡ Value d ∷ under
-  value_of d o under over f p = let went : Went Ahead (Value d ∷ under) ≡ Went Ahead over = sym ((says row vars o).puts d f under) ∙ p in let same : over ≡ Value d ∷ under = cc in same
+  value_of : (d : Datum) (o : Op) (under over : List Operand) → fixed vars o ≡ Some d → applied o under row vars ≡ Went FallThrough over → over ≡ Value d ∷ under
+  value_of d o under over f p = let went : Went FallThrough (Value d ∷ under) ≡ Went FallThrough over = sym ((says row vars o).puts d f under) ∙ p in let same : over ≡ Value d ∷ under = cc in same
 
   judged_at : (f : Ordering → Bool) → Judges f e → (x y : Datum) → second ≡ Value y ∷ Value x ∷ os → f (data_order x y) ≡ true
   judged_at f j x y u =
-      let went : Went Ahead (Truth (judged_by f x y) ∷ os) ≡ Went Ahead third = sym (ap (λ l. applied e l row vars) u ∙ j x y os row vars) ∙ puts_e in
+      let went : Went FallThrough (Truth (judged_by f x y) ∷ os) ≡ Went FallThrough third = sym (ap (λ l. applied e l row vars) u ∙ j x y os row vars) ∙ puts_e in
       let same : Truth (judged_by f x y) ∷ os ≡ third = cc in
       certain_judged f x y (and_first (is_certain (judged_by f x y)) (all_true os) (ap all_true same ∙ t))
 
@@ -251,22 +251,22 @@ module _ (row vars : List Datum) (c : ℕ) (a b e : Op) (os first second third :
       ap (λ y. f (data_order d y)) x.1 ∙ judged_at f j d x.0 (x.2 ∙ ap (λ l. Value x.0 ∷ l) (value_of d a os first v puts_a))
 
   low_left : (d : End) → is_column c a ≡ true → end_of (from_test e) (fixed vars b) ≡ Some d → is_from (Some d) here ≡ true
-  low_left d i h = let p = ends (from_test e) (fixed vars b) d h in on_left (from_order d.is_in) ((tells e).from d.is_in p.0) d.value i p.1
+  low_left d i h = let p = ends (from_test e) (fixed vars b) d h in on_left (from_order d.is_in) ((judged e).from d.is_in p.0) d.value i p.1
 
   low_right : (d : End) → is_column c b ≡ true → end_of (up_to_test e) (fixed vars a) ≡ Some d → is_from (Some d) here ≡ true
   low_right d i h =
       let p = ends (up_to_test e) (fixed vars a) d h in
       ap (from_order d.is_in) (data_order-turned here d.value)
-      ∙ from_turned d.is_in (data_order d.value here) (on_right (up_to_order d.is_in) ((tells e).up_to d.is_in p.0) d.value i p.1)
+      ∙ from_turned d.is_in (data_order d.value here) (on_right (up_to_order d.is_in) ((judged e).up_to d.is_in p.0) d.value i p.1)
 
   high_left : (d : End) → is_column c a ≡ true → end_of (up_to_test e) (fixed vars b) ≡ Some d → is_up_to (Some d) here ≡ true
-  high_left d i h = let p = ends (up_to_test e) (fixed vars b) d h in on_left (up_to_order d.is_in) ((tells e).up_to d.is_in p.0) d.value i p.1
+  high_left d i h = let p = ends (up_to_test e) (fixed vars b) d h in on_left (up_to_order d.is_in) ((judged e).up_to d.is_in p.0) d.value i p.1
 
   high_right : (d : End) → is_column c b ≡ true → end_of (from_test e) (fixed vars a) ≡ Some d → is_up_to (Some d) here ≡ true
   high_right d i h =
       let p = ends (from_test e) (fixed vars a) d h in
       ap (up_to_order d.is_in) (data_order-turned here d.value)
-      ∙ up_to_turned d.is_in (data_order d.value here) (on_right (from_order d.is_in) ((tells e).from d.is_in p.0) d.value i p.1)
+      ∙ up_to_turned d.is_in (data_order d.value here) (on_right (from_order d.is_in) ((judged e).from d.is_in p.0) d.value i p.1)
 
   low_by : (d : End) (i j : Bool) → is_column c a ≡ i → is_column c b ≡ j → (if i then end_of (from_test e) (fixed vars b) else if j then end_of (up_to_test e) (fixed vars a) else None) ≡ Some d
       → is_from (Some d) here ≡ true
@@ -288,7 +288,7 @@ module _ (row vars : List Datum) (c : ℕ) (a b e : Op) (os first second third :
 
 -- ---- BETWEEN
 
-range_put : (x l h : Datum) (os : List Operand) (row vars : List Datum) → applied op.Between (Value h ∷ Value l ∷ Value x ∷ os) row vars ≡ Went Ahead (Truth (both (judged_by is_ge x l) (judged_by is_le x h)) ∷ os)
+range_put : (x l h : Datum) (os : List Operand) (row vars : List Datum) → applied op.Between (Value h ∷ Value l ∷ Value x ∷ os) row vars ≡ Went FallThrough (Truth (both (judged_by is_ge x l) (judged_by is_le x h)) ∷ os)
 range_put Null l h os row vars = refl
 range_put (Num x) Null Null os row vars = refl
 range_put (Num x) Null (Num h) os row vars = refl
@@ -358,13 +358,13 @@ is_range_op (op.JumpUnlessTrue p) h = cc
 is_range_op (op.JumpUnlessNull p) h = cc
 
 module _ (row vars : List Datum) (c : ℕ) (o a b e : Op) (os first second third fourth : List Operand)
-    (puts_o : applied o os row vars ≡ Went Ahead first) (puts_a : applied a first row vars ≡ Went Ahead second) (puts_b : applied b second row vars ≡ Went Ahead third)
-    (puts_e : applied e third row vars ≡ Went Ahead fourth) (t : all_true fourth ≡ true) where
+    (puts_o : applied o os row vars ≡ Went FallThrough first) (puts_a : applied a first row vars ≡ Went FallThrough second) (puts_b : applied b second row vars ≡ Went FallThrough third)
+    (puts_e : applied e third row vars ≡ Went FallThrough fourth) (t : all_true fourth ≡ true) where
   abbrev there : Datum
   there = slice_index_or row c Null
 
-  put_value : (d : Datum) (p : Op) (under over : List Operand) → fixed vars p ≡ Some d → applied p under row vars ≡ Went Ahead over → over ≡ Value d ∷ under
-  put_value d p under over f q = let went : Went Ahead (Value d ∷ under) ≡ Went Ahead over = sym ((says row vars p).puts d f under) ∙ q in let same : over ≡ Value d ∷ under = cc in same
+  put_value : (d : Datum) (p : Op) (under over : List Operand) → fixed vars p ≡ Some d → applied p under row vars ≡ Went FallThrough over → over ≡ Value d ∷ under
+  put_value d p under over f q = let went : Went FallThrough (Value d ∷ under) ≡ Went FallThrough over = sym ((says row vars p).puts d f under) ∙ q in let same : over ≡ Value d ∷ under = cc in same
 
   -- the value of the column is from the one on and up to the other
   in_range : (l h : Datum) → e ≡ op.Between → is_column c o ≡ true → fixed vars a ≡ Some l → fixed vars b ≡ Some h → (is_ge (data_order there l) ≡ true) × (is_le (data_order there h) ≡ true)
@@ -374,7 +374,7 @@ module _ (row vars : List Datum) (c : ℕ) (o a b e : Op) (os first second third
       let z : third ≡ Value h ∷ Value l ∷ Value x.0 ∷ os = put_value h b second third w puts_b ∙ ap (λ z. Value h ∷ z) y in
       let low : truth_value.Truth = judged_by is_ge x.0 l in
       let high : truth_value.Truth = judged_by is_le x.0 h in
-      let went : Went Ahead (Truth (both low high) ∷ os) ≡ Went Ahead fourth = sym (ap (λ (q : Op). applied q third row vars) k ∙ ap (λ q. applied op.Between q row vars) z ∙ range_put x.0 l h os row vars) ∙ puts_e in
+      let went : Went FallThrough (Truth (both low high) ∷ os) ≡ Went FallThrough fourth = sym (ap (λ (q : Op). applied q third row vars) k ∙ ap (λ q. applied op.Between q row vars) z ∙ range_put x.0 l h os row vars) ∙ puts_e in
       let same : Truth (both low high) ∷ os ≡ fourth = cc in
       let certain : (is_certain high && (is_certain low && all_true os)) ≡ true = both_certain low high (all_true os) (ap all_true same ∙ t) in (
         ap (λ q. is_ge (data_order q l)) x.1 ∙ certain_judged is_ge x.0 l (and_first (is_certain low) (all_true os) (and_second (is_certain high) (is_certain low && all_true os) certain)),

@@ -1,4 +1,4 @@
--- Answers that are due, and what follows from them.
+-- Answers that are expected, and what follows from them.
 use Rattle.std.proofs.Common.{◌≡◌, Some, refl, ap, ◌∙◌, Result, Ok, Err}
 use Rattle.psm_sqlstate.specs.declared.state.SqlState.{SqlState}
 use Rattle.psm_value.specs.Answer.{Gives}
@@ -19,7 +19,7 @@ pub mapped-err : {A B : Type 0} (f : A → B) (r : Result A SqlState) (s : SqlSt
 mapped-err f (Ok a) s e = cc
 mapped-err f (Err t) s e = let same : t ≡ s = cc in ap Err same
 
--- a fault of what is due first is that of the whole
+-- a fault of what is expected first is that of the whole
 pub gives_first : {A B : Type 0} (r : Result A SqlState) (go : A → Result B SqlState) (fault : ValueFault) → Gives r (Err fault) → Gives (and_then r go) (Err fault)
 gives_first r go (Condition s) e = ap (λ q. and_then q go) e
 gives_first r go Memory e = tt
@@ -37,7 +37,7 @@ gives_by r q (Ok a) e g = e ∙ g
 gives_by r q (Err (Condition s)) e g = e ∙ g
 gives_by r q (Err Memory) e g = tt
 
--- a fault of an evaluation is due
-pub evaluates_fault : {A : Type 0} (f : Outcome → Result A SqlState) (due : Outcome) (fault : ValueFault) → ((s : SqlState) → f (Some (Err s)) ≡ Err s) → Evaluates due (Err fault) → Gives (f due) (Err fault)
-evaluates_fault f due (Condition s) h e = ap f e ∙ h s
-evaluates_fault f due Memory h e = tt
+-- a fault of an evaluation is expected
+pub evaluates_fault : {A : Type 0} (f : Outcome → Result A SqlState) (expected : Outcome) (fault : ValueFault) → ((s : SqlState) → f (Some (Err s)) ≡ Err s) → Evaluates expected (Err fault) → Gives (f expected) (Err fault)
+evaluates_fault f expected (Condition s) h e = ap f e ∙ h s
+evaluates_fault f expected Memory h e = tt

@@ -18,7 +18,7 @@ use Rattle.psm_exprcode.specs.declared.op.Op.{Op}
 use Rattle.psm_exprcode.specs.declared.op.Op.TheVariants as op
 use Rattle.psm_exprcode.specs.declared.operand.Operand.{Operand}
 use Rattle.psm_exprcode.specs.declared.operand.Operand.TheVariants.{Value, Truth}
-use Rattle.psm_exprcode.specs.declared.operand.Next.TheVariants.{Ahead}
+use Rattle.psm_exprcode.specs.declared.operand.Next.TheVariants.{FallThrough}
 use Rattle.psm_exprcode.specs.Applied.{applied, with_named, Went}
 use Rattle.psm_exprcode.specs.Comparison.{truth_of}
 use Rattle.psm_exprcode.specs.Evaluated.{evaluated, Outcome}
@@ -47,7 +47,7 @@ equality (Text a) Null = Unknown
 equality (Text a) (Num b) = truth_of (is_eq (data_order (Text a) (Num b)))
 equality (Text a) (Text b) = truth_of (is_eq (data_order (Text a) (Text b)))
 
-equality_put : (a b : Datum) (os : List Operand) (row vars : List Datum) → applied op.Equal (Value b ∷ Value a ∷ os) row vars ≡ Went Ahead (Truth (equality a b) ∷ os)
+equality_put : (a b : Datum) (os : List Operand) (row vars : List Datum) → applied op.Equal (Value b ∷ Value a ∷ os) row vars ≡ Went FallThrough (Truth (equality a b) ∷ os)
 equality_put Null b os row vars = refl
 equality_put (Num a) Null os row vars = refl
 equality_put (Num a) (Num b) os row vars = refl
@@ -69,14 +69,14 @@ turned_equal : (a b : Datum) → data_order a b ≡ Equal → data_order b a ≡
 turned_equal a b e = data_order-turned b a ∙ ap ordering_reverse e
 
 -- two values on the operands, of which equality is true
-compared_true : (row vars : List Datum) (a b : Datum) (os under new : List Operand) → under ≡ Value b ∷ Value a ∷ os → applied op.Equal under row vars ≡ Went Ahead new → all_true new ≡ true → data_order a b ≡ Equal
+compared_true : (row vars : List Datum) (a b : Datum) (os under new : List Operand) → under ≡ Value b ∷ Value a ∷ os → applied op.Equal under row vars ≡ Went FallThrough new → all_true new ≡ true → data_order a b ≡ Equal
 compared_true row vars a b os under new e h t =
-    let went : Went Ahead (Truth (equality a b) ∷ os) ≡ Went Ahead new = sym (ap (λ l. applied op.Equal l row vars) e ∙ equality_put a b os row vars) ∙ h in
+    let went : Went FallThrough (Truth (equality a b) ∷ os) ≡ Went FallThrough new = sym (ap (λ l. applied op.Equal l row vars) e ∙ equality_put a b os row vars) ∙ h in
     let same : Truth (equality a b) ∷ os ≡ new = cc in
     certain_equal a b (and_first (is_certain (equality a b)) (all_true os) (ap all_true same ∙ t))
 
 -- a column that is put is there
-pub column_put : (row : List Datum) (c : ℕ) (os new : List Operand) (o : Option Datum) → slice_get row c ≡ o → with_named os o ≡ Went Ahead new
+pub column_put : (row : List Datum) (c : ℕ) (os new : List Operand) (o : Option Datum) → slice_get row c ≡ o → with_named os o ≡ Went FallThrough new
     → (x : Datum) × (slice_index_or row c Null ≡ x) × (new ≡ Value x ∷ os)
 column_put row c os new (Some x) e h = (x, get_or_from_slice_get row c x Null e, (let same : new ≡ Value x ∷ os = cc in same))
 column_put row c os new None e h = absurd (cc)
@@ -84,14 +84,14 @@ column_put row c os new None e h = absurd (cc)
 -- ---- three operations on end
 
 module _ (row vars : List Datum) (c : ℕ) (d : Datum) (a b e : Op) (os first second third : List Operand)
-    (puts_a : applied a os row vars ≡ Went Ahead first) (puts_b : applied b first row vars ≡ Went Ahead second) (puts_e : applied e second row vars ≡ Went Ahead third) (t : all_true third ≡ true) where
-  column_of : (o : Op) (under over : List Operand) → is_column c o ≡ true → applied o under row vars ≡ Went Ahead over → (x : Datum) × (slice_index_or row c Null ≡ x) × (over ≡ Value x ∷ under)
+    (puts_a : applied a os row vars ≡ Went FallThrough first) (puts_b : applied b first row vars ≡ Went FallThrough second) (puts_e : applied e second row vars ≡ Went FallThrough third) (t : all_true third ≡ true) where
+  column_of : (o : Op) (under over : List Operand) → is_column c o ≡ true → applied o under row vars ≡ Went FallThrough over → (x : Datum) × (slice_index_or row c Null ≡ x) × (over ≡ Value x ∷ under)
   column_of o under over i p = column_put row c under over (slice_get row c) refl (sym (ap (λ (q : Op). applied q under row vars) ((says row vars o).column c i)) ∙ p)
 
-  value_of : (o : Op) (under over : List Operand) → fixed vars o ≡ Some d → applied o under row vars ≡ Went Ahead over → over ≡ Value d ∷ under
-  value_of o under over f p = let went : Went Ahead (Value d ∷ under) ≡ Went Ahead over = sym ((says row vars o).puts d f under) ∙ p in let same : over ≡ Value d ∷ under = cc in same
+  value_of : (o : Op) (under over : List Operand) → fixed vars o ≡ Some d → applied o under row vars ≡ Went FallThrough over → over ≡ Value d ∷ under
+  value_of o under over f p = let went : Went FallThrough (Value d ∷ under) ≡ Went FallThrough over = sym ((says row vars o).puts d f under) ∙ p in let same : over ≡ Value d ∷ under = cc in same
 
-  compares_at : e ≡ op.Equal → applied op.Equal second row vars ≡ Went Ahead third
+  compares_at : e ≡ op.Equal → applied op.Equal second row vars ≡ Went FallThrough third
   compares_at k = sym (ap (λ (q : Op). applied q second row vars) k) ∙ puts_e
 
   column_first : e ≡ op.Equal → is_column c a ≡ true → fixed vars b ≡ Some d → data_order (slice_index_or row c Null) d ≡ Equal

@@ -15,10 +15,10 @@ use Rattle.psm_tablecode.proofs.Collecting.{first_of}
 
 -- `all` is what comes of what is kept and of all that is still taken, `next` is what is kept after a row
 module _ {A G H : Type 0} (all : G → List A → H) (next : G → Option A → G) (goes_on : (g : G) (o : Option A) (more : List A) → all g (cons_option o more) ≡ all (next g o) more)
-    (test : List Datum → Result Truth SqlState) (take : List Datum → Result A SqlState) (order : List (List Datum)) (due : Result H SqlState) where
-  -- with what is kept, the rest of the walk evaluates to what is due
+    (test : List Datum → Result Truth SqlState) (take : List Datum → Result A SqlState) (order : List (List Datum)) (expected : Result H SqlState) where
+  -- with what is kept, the rest of the walk evaluates to what is expected
   abbrev pub Goes : ℕ → G → Type 0
-  Goes at now = mapped (all now) (walked test take (drop at order)) ≡ due
+  Goes at now = mapped (all now) (walked test take (drop at order)) ≡ expected
 
   all_after : (now : G) (o : Option A) (r : Result (List A) SqlState) → mapped (all now) (mapped (λ more. cons_option o more) r) ≡ mapped (all (next now o)) r
   all_after now o (Ok more) = ap Ok (goes_on now o more)
@@ -34,12 +34,12 @@ module _ {A G H : Type 0} (all : G → List A → H) (next : G → Option A → 
       ∙ sym (ap (λ r. mapped (all now) (and_then r (λ a. mapped (λ more. cons_option a more) (walked test take (drop (at + 1) order))))) t)
       ∙ sym (ap (mapped (all now)) (rest_is at row e)) ∙ h)
 
-  raised : (at : ℕ) (row : List Datum) (s : SqlState) (now : G) → slice_get order at ≡ Some row → taken test take row ≡ Err s → Goes at now → due ≡ Err s
+  raised : (at : ℕ) (row : List Datum) (s : SqlState) (now : G) → slice_get order at ≡ Some row → taken test take row ≡ Err s → Goes at now → expected ≡ Err s
   raised at row s now e t h =
       sym h ∙ ap (mapped (all now)) (rest_is at row e)
       ∙ ap (λ r. mapped (all now) (and_then r (λ a. mapped (λ more. cons_option a more) (walked test take (drop (at + 1) order))))) t
 
-  pub goes_fault : (at : ℕ) (row : List Datum) (fault : ValueFault) (now : G) → slice_get order at ≡ Some row → Gives (taken test take row) (Err fault) → Goes at now → Gives due (Err fault)
+  pub goes_fault : (at : ℕ) (row : List Datum) (fault : ValueFault) (now : G) → slice_get order at ≡ Some row → Gives (taken test take row) (Err fault) → Goes at now → Gives expected (Err fault)
   goes_fault at row (Condition s) now e t h = raised at row s now e t h
   goes_fault at row Memory now e t h = tt
 
@@ -49,5 +49,5 @@ module _ {A G H : Type 0} (all : G → List A → H) (next : G → Option A → 
   past (r ∷ rows) zero e = cc
   past (r ∷ rows) (suc i) e = past rows i e
 
-  pub goes_end : (at : ℕ) (now : G) → slice_get order at ≡ None → Goes at now → due ≡ Ok (all now [])
+  pub goes_end : (at : ℕ) (now : G) → slice_get order at ≡ None → Goes at now → expected ≡ Ok (all now [])
   goes_end at now e h = sym h ∙ ap (λ l. mapped (all now) (walked test take l)) (past order at e)

@@ -9,7 +9,7 @@ use Rattle.psm_exprcode.specs.declared.op.Op.{Op}
 use Rattle.psm_tablecode.specs.Tests.{are_quiet, first_four, first_three, free, free_before, is_quiet, made}
 use Rattle.psm_tablecode.proofs.Collecting.{first_of}
 
--- the operation of the line at a place
+-- the operation of the line at an index
 abbrev pub op_at : List Line → ℕ → Option Op
 op_at lines at = option_map (λ l. l.op) (slice_get lines at)
 
@@ -66,7 +66,7 @@ module _ (lines : List Line) (at : ℕ) where
       let p : at ≡ at - 1 + 1 = omega (arith, h) in
       g ∙ ap (free_before o) (f ∙ ap (λ m. free (drop m lines)) p) ∙ sym (free_some lines (at - 1) o e)
 
--- ---- some operations, where there are so many
+-- ---- one, two or three operations, where there are that many
 
 abbrev pub of_three_ops : {X : Type 0} → (Op → Op → Op → Option X) → Option Op → Option Op → Option Op → Option X
 of_three_ops make None b e = None
@@ -132,19 +132,19 @@ module _ {X : Type 0} (width : ℕ) (make : List Line → Option X) (wide : 1 �
       ap (λ o. option_or (if nat_eq (free (drop width (l ∷ ls))) 0 then o else None) (made width make ls)) (short (l ∷ ls) h)
       ∙ none_either (nat_eq (free (drop width (l ∷ ls))) 0) (made width make ls) ∙ none_made ls (omega (arith, h))
 
-  from_place : (ls : List Line) (p : ℕ) → p < length ls
+  from_index : (ls : List Line) (p : ℕ) → p < length ls
       → made width make (drop p ls) ≡ option_or (if nat_eq (free (drop (p + width) ls)) 0 then make (drop p ls) else None) (made width make (drop (p + 1) ls))
-  from_place [] p h = absurd (omega (arith, h))
-  from_place (l ∷ ls) zero h = let e : width ≡ 0 + width = omega arith in ap (λ n. option_or (if nat_eq (free (drop n (l ∷ ls))) 0 then make (l ∷ ls) else None) (made width make ls)) e
-  from_place (l ∷ ls) (suc p) h =
+  from_index [] p h = absurd (omega (arith, h))
+  from_index (l ∷ ls) zero h = let e : width ≡ 0 + width = omega arith in ap (λ n. option_or (if nat_eq (free (drop n (l ∷ ls))) 0 then make (l ∷ ls) else None) (made width make ls)) e
+  from_index (l ∷ ls) (suc p) h =
       let e : suc (p + width) ≡ suc p + width = omega arith in
       let f : suc (p + 1) ≡ suc p + 1 = omega arith in
-      from_place ls p (omega (arith, h))
+      from_index ls p (omega (arith, h))
       ∙ ap (λ n. option_or (if nat_eq (free (drop n (l ∷ ls))) 0 then make (drop p ls) else None) (made width make (drop (p + 1) ls))) e
       ∙ ap (λ n. option_or (if nat_eq (free (drop (suc p + width) (l ∷ ls))) 0 then make (drop p ls) else None) (made width make (drop n (l ∷ ls)))) f
 
   module _ (lines : List Line) where
-    -- what the lines make that begin where a place is the end of so many lines, or later
+    -- what n lines make that end at an index or later
     abbrev pub made_from : ℕ → Option X
     made_from at = made width make (drop (at + 1 - width) lines)
 
@@ -163,4 +163,4 @@ module _ {X : Type 0} (width : ℕ) (make : List Line → Option X) (wide : 1 �
         let r : at - width ≡ at - 1 + 1 - width = omega (arith, h, wide) in
         e ∙ ap (λ o. option_or (if nat_eq n 0 then make (drop (at - width) lines) else None) o) (g ∙ ap (λ m. made width make (drop m lines)) q)
         ∙ ap (λ m. option_or (if nat_eq m 0 then make (drop (at - width) lines) else None) (made width make (drop (at - width + 1) lines))) (f ∙ ap (λ m. free (drop m lines)) p)
-        ∙ sym (from_place lines (at - width) (omega (arith, h, b, wide))) ∙ ap (λ m. made width make (drop m lines)) r
+        ∙ sym (from_index lines (at - width) (omega (arith, h, b, wide))) ∙ ap (λ m. made width make (drop m lines)) r

@@ -9,45 +9,45 @@ use Rattle.psm_tablecode.specs.Bounds.{End}
 -- ---- the edges of bounds
 
 abbrev pub edge : List Datum → Bool → Edge
-edge values is_behind = record { values = values; is_behind = is_behind }
+edge values is_after = record { values = values; is_after = is_after }
 
 -- the values at the edge, with those of an end
 abbrev pub end_values : List Datum → Option End → List Datum
 end_values firsts None = firsts
 end_values firsts (Some e) = firsts ++ e.value ∷ []
 
--- whether keys begin behind those with these values
-abbrev pub begins_behind : Option End → Bool
-begins_behind None = false
-begins_behind (Some e) = not e.is_in
+-- whether keys begin after those with these values
+abbrev pub begins_after : Option End → Bool
+begins_after None = false
+begins_after (Some e) = not e.is_in
 
--- whether keys end behind those with these values
-abbrev pub ends_behind : Option End → Bool
-ends_behind None = true
-ends_behind (Some e) = e.is_in
+-- whether keys end after those with these values
+abbrev pub ends_after : Option End → Bool
+ends_after None = true
+ends_after (Some e) = e.is_in
 
 -- an edge at these values; without values there is none
 abbrev pub edge_at : List Datum → Bool → Option Edge
-edge_at [] is_behind = None
-edge_at (v ∷ vs) is_behind = Some (edge (v ∷ vs) is_behind)
+edge_at [] is_after = None
+edge_at (v ∷ vs) is_after = Some (edge (v ∷ vs) is_after)
 
 -- the edge where the keys begin that have these first values, and a value after them from an end on
 abbrev pub low_edge : List Datum → Option End → Option Edge
-low_edge firsts low = edge_at (end_values firsts low) (begins_behind low)
+low_edge firsts low = edge_at (end_values firsts low) (begins_after low)
 
 -- the edge where the keys end that have these first values, and a value after them up to an end
 abbrev pub high_edge : List Datum → Option End → Option Edge
-high_edge firsts high = edge_at (end_values firsts high) (ends_behind high)
+high_edge firsts high = edge_at (end_values firsts high) (ends_after high)
 
 -- ---- rows between edges
 
 abbrev pub is_begun : Option Edge → List Datum → Bool
 is_begun None key = true
-is_begun (Some e) key = is_past e.values e.is_behind key
+is_begun (Some e) key = is_past e.values e.is_after key
 
 abbrev pub is_not_ended : Option Edge → List Datum → Bool
 is_not_ended None key = true
-is_not_ended (Some e) key = not (is_past e.values e.is_behind key)
+is_not_ended (Some e) key = not (is_past e.values e.is_after key)
 
 -- whether a key lies between two edges
 abbrev pub lies_within : Option Edge → Option Edge → List Datum → Bool

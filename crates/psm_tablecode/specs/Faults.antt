@@ -13,15 +13,15 @@ abbrev pub IsRaised : {A : Type 0} → Result A SqlState → Entries → Type 0
 IsRaised (Ok a) condition = ⊥
 IsRaised (Err state) condition = condition ≡ alone (entry_of state)
 
--- the answer, or the condition, is the one that is due, unless memory runs out
+-- the answer, or the condition, is the one that is expected, unless memory runs out
 abbrev pub Answers : {A : Type 0} → Result A SqlState → Result A DataFault → Type 0
-Answers due (Ok a) = due ≡ Ok a
-Answers due (Err (Raised condition)) = IsRaised due condition
-Answers due (Err Memory) = Unit {0}
+Answers expected (Ok a) = expected ≡ Ok a
+Answers expected (Err (Raised condition)) = IsRaised expected condition
+Answers expected (Err Memory) = Unit {0}
 
 -- the fault of a statement is that of its evaluation, unless memory runs out
-abbrev pub Tells : ValueFault → DataFault → Type 0
-Tells (value_fault.Condition state) (Raised condition) = condition ≡ alone (entry_of state)
-Tells (value_fault.Condition state) Memory = Unit {0}
-Tells value_fault.Memory (Raised condition) = ⊥
-Tells value_fault.Memory Memory = Unit {0}
+abbrev pub Reports : ValueFault → DataFault → Type 0
+Reports (value_fault.Condition state) (Raised condition) = condition ≡ alone (entry_of state)
+Reports (value_fault.Condition state) Memory = Unit {0}
+Reports value_fault.Memory (Raised condition) = ⊥
+Reports value_fault.Memory Memory = Unit {0}

@@ -9,7 +9,7 @@ use Rattle.psm_exprcode.specs.declared.op.Letter.TheVariants.{N, T}
 use Rattle.psm_exprcode.specs.declared.op.Line.{Line}
 use Rattle.psm_exprcode.specs.declared.op.Op.{Op}
 use Rattle.psm_exprcode.specs.declared.op.Op.TheVariants as op
-use Rattle.psm_exprcode.specs.declared.operand.Next.TheVariants.{Ahead, Jump}
+use Rattle.psm_exprcode.specs.declared.operand.Next.TheVariants.{FallThrough, Jump}
 use Rattle.psm_exprcode.specs.declared.operand.Operand.TheVariants.{Value, Truth}
 use Rattle.psm_exprcode.specs.Applied.{applied, Applied, Went, Raised, Stuck}
 use Rattle.psm_exprcode.specs.WellFormed.{is_type}
@@ -39,10 +39,10 @@ folds o = 0
 
 -- the value with which an operation goes ahead, where it leaves nothing else
 abbrev pub value_alone : Applied → Option Datum
-value_alone (Went Ahead []) = None
-value_alone (Went Ahead (Value d ∷ [])) = Some d
-value_alone (Went Ahead (Value d ∷ o ∷ os)) = None
-value_alone (Went Ahead (Truth t ∷ os)) = None
+value_alone (Went FallThrough []) = None
+value_alone (Went FallThrough (Value d ∷ [])) = Some d
+value_alone (Went FallThrough (Value d ∷ o ∷ os)) = None
+value_alone (Went FallThrough (Truth t ∷ os)) = None
 value_alone (Went (Jump p) os) = None
 value_alone (Raised state) = None
 value_alone Stuck = None
@@ -126,7 +126,7 @@ quiet_test op.Or = Some op.Or
 quiet_test op.Not = Some op.Not
 quiet_test o = None
 
--- the lines before a place are folded into those that are done, which raise nothing
+-- the lines before an index are folded into those that are done, which raise nothing
 pub record IsDone (vars : List Datum) (lines : List Line) (at : ℕ) (done : List Op) : Type 0 where
   pub so_far : fold_ops vars done (ops_of (drop at lines)) ≡ fold_ops vars [] (ops_of lines)
   pub quiet : all_quiet done ≡ true

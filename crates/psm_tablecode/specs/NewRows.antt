@@ -4,16 +4,16 @@ use Rattle.psm_value.specs.declared.datum.Datum.{Datum}
 use Rattle.psm_table.specs.declared.definition.Column.{Column}
 use Rattle.psm_table.specs.declared.definition.TableDef.{TableDef}
 
--- the value for the column at a place, or its DEFAULT
+-- the value for the column at an index, or its DEFAULT
 abbrev pub value_for : ℕ → List ℕ → List Datum → Datum → Datum
-value_for place [] ds default = default
-value_for place (c ∷ cs) [] default = default
-value_for place (c ∷ cs) (d ∷ ds) default = if nat_eq c place then d else value_for place cs ds default
+value_for index [] ds default = default
+value_for index (c ∷ cs) [] default = default
+value_for index (c ∷ cs) (d ∷ ds) default = if nat_eq c index then d else value_for index cs ds default
 
--- the row of a table in which some columns, by their places, have these values; its columns are counted from a place
+-- the row of a table in which some columns, by their indexes, have these values; its columns are counted from an index
 abbrev pub row_from : ℕ → List Column → List ℕ → List Datum → List Datum
-row_from place [] columns ds = []
-row_from place (c ∷ cs) columns ds = value_for place columns ds c.default ∷ row_from (suc place) cs columns ds
+row_from index [] columns ds = []
+row_from index (c ∷ cs) columns ds = value_for index columns ds c.default ∷ row_from (suc index) cs columns ds
 
 abbrev pub new_row : TableDef → List ℕ → List Datum → List Datum
 new_row def columns ds = row_from 0 def.columns columns ds

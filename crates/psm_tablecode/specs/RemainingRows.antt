@@ -15,4 +15,4 @@ rows_coming (All rows) = rows
 
 -- a cut that a walk begins or ends with, as its edge
 abbrev pub cut_edge : Cut → Edge
-cut_edge c = edge c.values.now c.is_behind
+cut_edge c = edge c.values.now c.is_after

@@ -114,7 +114,7 @@ first_four make (x ∷ a ∷ []) = None
 first_four make (x ∷ a ∷ b ∷ []) = None
 first_four make (x ∷ a ∷ b ∷ e ∷ lines) = make x.op a.op b.op e.op
 
--- the first that is made by so many lines that have to be true where the end is true
+-- the first that is made by n lines that have to be true where the end is true
 abbrev pub made : {X : Type 0} → ℕ → (List Line → Option X) → List Line → Option X
 made width make [] = None
 made width make (l ∷ lines) = option_or (if nat_eq (free (drop width (l ∷ lines))) 0 then make (l ∷ lines) else None) (made width make lines)

@@ -1,5 +1,5 @@
 -- When code may be evaluated on the rows of a table: it fits the table's columns and the variables, and ends with the
--- letter that is due.
+-- letter that is expected.
 use Rattle.std.specs.Prelude.{Bool, true, ◌&&◌, List, map, All, IsTrue, IfSome}
 use Rattle.std.specs.List.{list_all}
 use Rattle.std.specs.Option.{option_map_or}

@@ -87,7 +87,7 @@ fn are_quiet(lines: &RawExpr) -> bool
     true
 }
 
-// The same of the line at a place; one that isn't there does.
+// The same of the line at an index; one that isn't there does.
 fn is_quiet_at(lines: &RawExpr, at: usize) -> bool
     ensures { asked.are_quiet (drop at lines.now) ≡ (result && asked.are_quiet (drop (at + 1) lines.now)) }
 {
@@ -336,14 +336,14 @@ fn high_edge(
 }
 
 // The edge at some values; without values there is none.
-fn edge_at(alloc: Global, values: &[Datum], is_behind: bool) -> Result<Option<Edge>, AllocError>
-    ensures { IfOk result (λ edge. edge ≡ edges.edge_at values.now is_behind) }
+fn edge_at(alloc: Global, values: &[Datum], is_after: bool) -> Result<Option<Edge>, AllocError>
+    ensures { IfOk result (λ edge. edge ≡ edges.edge_at values.now is_after) }
 {
     match values {
         [] => Ok(None),
         [_, ..] => Ok(Some(Edge {
             values: Key::of(copied(alloc, values)?),
-            is_behind,
+            is_after,
         })),
     }
 }
@@ -353,9 +353,9 @@ fn edge_with(
     alloc: Global,
     firsts: &[Datum],
     value: &Datum,
-    is_behind: bool,
+    is_after: bool,
 ) -> Result<Edge, AllocError>
-    ensures { IfOk result (λ edge. Some edge ≡ edges.edge_at (firsts.now ++ value.now ∷ []) is_behind) }
+    ensures { IfOk result (λ edge. Some edge ≡ edges.edge_at (firsts.now ++ value.now ∷ []) is_after) }
 {
     let parts = match firsts {
         [] => Parts::One([value.copy(alloc)?]),
@@ -363,7 +363,7 @@ fn edge_with(
     };
     Ok(Edge {
         values: Key::of_parts(parts),
-        is_behind,
+        is_after,
     })
 }
 
@@ -425,7 +425,7 @@ fn made<'a>(aim: Aim, column: u32, lines: &'a RawExpr, vars: &'a [Datum]) -> Opt
     let mut at = lines.len();
     while at >= width(aim) {
         found = made_before(aim, column, lines, at, free, vars, found);
-        free = free_behind(lines, at, free);
+        free = free_after(lines, at, free);
         at -= 1;
     }
     found
@@ -447,7 +447,7 @@ fn is_of_two(aim: Aim) -> bool
     }
 }
 
-// What the lines before a place make, if they have to be true, or what was found.
+// What the lines before an index make, if they have to be true, or what was found.
 fn made_before<'a>(
     aim: Aim,
     column: u32,
@@ -469,7 +469,7 @@ fn made_before<'a>(
     }
 }
 
-// What the lines from a place on make.
+// What the lines from an index on make.
 fn made_at<'a>(
     aim: Aim,
     column: u32,
@@ -517,8 +517,8 @@ fn four_at<'a>(
     made_of_four(aim, column, left, low, high, test, vars)
 }
 
-// How many operands needn't be true before the line that ends at a place, with those before the lines after it.
-fn free_behind(lines: &RawExpr, at: usize, free: u128) -> u128
+// How many operands needn't be true before the line that ends at an index, with those before the lines after it.
+fn free_after(lines: &RawExpr, at: usize, free: u128) -> u128
     requires within { 1 ≤ at }
     requires after { free ≡ asked.free (drop at lines.now) }
     requires room { free < 2 ^ 127 }

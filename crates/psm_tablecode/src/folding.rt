@@ -1,7 +1,7 @@
 //! Constant folding: operations on constants and variables alone are replaced by their values (ISO/IEC 9075:1992, clause 6).
 ghost use Rattle.std.specs.Prelude.{◌≡◌, ◌+◌, ◌∷◌, ◌≤◌, [], drop, length, map, reverse, true, false, IfOk, IsTrue, MatchOption, Some, None, if◌then◌else◌};
 ghost use Rattle.std.specs.Option.{option_map};
-ghost use Rattle.psm_exprcode.specs.declared.operand.Next.TheVariants.{Ahead};
+ghost use Rattle.psm_exprcode.specs.declared.operand.Next.TheVariants.{FallThrough};
 ghost use Rattle.psm_exprcode.specs.declared.operand.Operand.TheVariants.{Value};
 ghost use Rattle.psm_exprcode.specs.Applied.{applied, Went};
 ghost use Rattle.psm_exprcode.specs.Fits.{Fits};
@@ -32,7 +32,7 @@ pub(crate) fn folded(
     Ok(Some(bare(alloc, done)?))
 }
 
-// The operation at a place is folded into those that are done, unless it stays there and could raise a condition.
+// The operation at an index is folded into those that are done, unless it stays there and could raise a condition.
 #[tactic(auto, using(crate::proofs::FoldSteps::done_next, crate::proofs::FoldSteps::done_past, crate::proofs::FoldSteps::loud_next))]
 fn fold_at(
     alloc: Global,
@@ -114,7 +114,7 @@ fn quiet_test(op: &Op) -> Option<Op>
     }
 }
 
-// The last so many are taken off.
+// The last `count` are taken off.
 #[tactic(auto, using(crate::proofs::FoldSteps::cut_back))]
 fn cut(done: &mut Vec<Op>, count: usize)
     requires { count ≤ length done.old.items }
@@ -169,7 +169,7 @@ fn value_on(
     }
 }
 
-// The values that the last so many operations put, as operands.
+// The values that the last `count` operations put, as operands.
 #[tactic(auto, using(crate::proofs::FoldSteps::values_zero, crate::proofs::FoldSteps::values_none))]
 fn last_values(
     alloc: Global,
@@ -212,7 +212,7 @@ fn put(alloc: Global, op: &Op, operands: Vec<Operand>) -> Result<Option<Datum>, 
 {
     let mut operands = operands;
     match apply(alloc, op, &mut operands, &[], &[]) {
-        Ok(Next::Ahead) => Ok(alone(operands)),
+        Ok(Next::FallThrough) => Ok(alone(operands)),
         Ok(Next::Jump(_)) | Err(ValueFault::Condition(_)) => Ok(None),
         Err(ValueFault::Memory) => Err(AllocError),
     }
@@ -220,7 +220,7 @@ fn put(alloc: Global, op: &Op, operands: Vec<Operand>) -> Result<Option<Datum>, 
 
 // The value of operands that are no more than it.
 fn alone(operands: Vec<Operand>) -> Option<Datum>
-    ensures { result ≡ folding.value_alone (Went Ahead (reverse operands.items)) }
+    ensures { result ≡ folding.value_alone (Went FallThrough (reverse operands.items)) }
 {
     let mut operands = operands;
     match operands.pop() {

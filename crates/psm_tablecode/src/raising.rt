@@ -1,5 +1,5 @@
 //! The condition of an evaluation that fails.
-ghost use Rattle.psm_tablecode.specs.Faults.{Tells};
+ghost use Rattle.psm_tablecode.specs.Faults.{Reports};
 
 use psm_cond::{Condition, DataFault};
 use psm_value::ValueFault;
@@ -7,7 +7,7 @@ use std::alloc::Global;
 
 /// The fault of a statement whose evaluation fails: the condition of the SQLSTATE alone, or out of memory.
 pub fn raised(alloc: Global, fault: &ValueFault) -> DataFault
-    ensures { Tells fault.now result }
+    ensures { Reports fault.now result }
 {
     match fault {
         ValueFault::Condition(state) => match Condition::raised(alloc, *state) {

@@ -12,11 +12,11 @@ use psm_table::{Cut, Key, Matching, Row, RowsLeft, Table};
 use psm_value::Datum;
 use std::alloc::{AllocError, Global};
 
-/// An edge of a walk: a cut of the keys in their order, before those that begin with the values or behind them.
+/// An edge of a walk: a cut of the keys in their order, before those that begin with the values or after them.
 #[derive(Drop)]
 pub struct Edge {
     pub values: Key,
-    pub is_behind: bool,
+    pub is_after: bool,
 }
 
 impl Edge {
@@ -26,7 +26,7 @@ impl Edge {
     {
         Cut {
             values: self.values.values(),
-            is_behind: self.is_behind,
+            is_after: self.is_after,
         }
     }
 }

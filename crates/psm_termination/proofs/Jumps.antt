@@ -8,7 +8,7 @@ use Rattle.psm_exprcode.specs.declared.op.Op.{Op}
 use Rattle.psm_exprcode.specs.declared.op.Op.TheVariants as op
 use Rattle.psm_exprcode.specs.declared.operand.Operand.{Operand}
 use Rattle.psm_exprcode.specs.declared.operand.Operand.TheVariants.{Value, Truth}
-use Rattle.psm_exprcode.specs.declared.operand.Next.TheVariants.{Ahead, Jump}
+use Rattle.psm_exprcode.specs.declared.operand.Next.TheVariants.{FallThrough, Jump}
 use Rattle.psm_exprcode.specs.Applied.{Applied, Went, Raised, Stuck, applied, nipped, on_many, on_three, on_truth, on_two, on_value, set_at, unless_true, with_named, with_truth, with_value}
 use Rattle.psm_exprcode.specs.Comparison.{is_null}
 use Rattle.psm_code.specs.declared.instruction.Instruction.TheVariants as instruction
@@ -16,7 +16,7 @@ use Rattle.psm_code.specs.RoutineRules.{jump_of}
 
 -- a jump is to that line
 abbrev pub GoesWithin : Option ℕ → Applied → Type 0
-GoesWithin j (Went Ahead os) = Unit {0}
+GoesWithin j (Went FallThrough os) = Unit {0}
 GoesWithin j (Went (Jump p) os) = j ≡ Some p
 GoesWithin j (Raised state) = Unit {0}
 GoesWithin j Stuck = Unit {0}
@@ -56,17 +56,17 @@ module _ (j : Option ℕ) where
 
   nips : (os : List Operand) → GoesWithin j (nipped os)
   nips [] = tt
-  nips (x ∷ os) = one (λ a below. Went Ahead (x ∷ below)) os (λ a below. tt)
+  nips (x ∷ os) = one (λ a below. Went FallThrough (x ∷ below)) os (λ a below. tt)
 
 sets : (p : ℕ) (a : Datum) (below : List Operand) → GoesWithin (Some p) (set_at p a below)
 sets p a below = by (is_null a) where
-  by : (t : Bool) → GoesWithin (Some p) (if t then Went Ahead below else Went (Jump p) (Value a ∷ below))
+  by : (t : Bool) → GoesWithin (Some p) (if t then Went FallThrough below else Went (Jump p) (Value a ∷ below))
   by true = tt
   by false = refl
 
 jumps : (p : ℕ) (t : Answer) (below : List Operand) → GoesWithin (Some p) (unless_true p t below)
 jumps p t below = by (is_certain t) where
-  by : (t : Bool) → GoesWithin (Some p) (if t then Went Ahead below else Went (Jump p) below)
+  by : (t : Bool) → GoesWithin (Some p) (if t then Went FallThrough below else Went (Jump p) below)
   by true = tt
   by false = refl
 

@@ -13,7 +13,7 @@ use Rattle.psm_cond.specs.declared.handlers.Handler.{Handler}
 use Rattle.psm_cond.specs.declared.handlers.HandlerKind.{HandlerKind}
 use Rattle.psm_cond.specs.declared.handlers.HandlerKind.TheVariants.{Continue, Exit, Undo}
 use Rattle.psm_exprcode.specs.declared.op.Op.{Op}
-use Rattle.psm_exprcode.specs.declared.operand.Next.TheVariants.{Ahead, Jump}
+use Rattle.psm_exprcode.specs.declared.operand.Next.TheVariants.{FallThrough, Jump}
 use Rattle.psm_exprcode.specs.Applied.{Applied, applied}
 use Rattle.psm_exprcode.specs.Applied as op
 use Rattle.psm_table.specs.Table.{Contents}
@@ -185,7 +185,7 @@ module _ (code : RawCode) (s : Shape) (r : RawRoutine) (l : CodeLine) (there : r
 
   -- operations
   applied_falls : (a : Applied) (j : Option ℕ) → GoesWithin j a → where_there j (uses_turn r s.line) ≡ true → Done (applied_as a)
-  applied_falls (op.Went Ahead os) j w u = record { falls = λ m e. falls_through code s r l there line_there calm (with_running (λ a. record a { operands = os }) m) (like e) }
+  applied_falls (op.Went FallThrough os) j w u = record { falls = λ m e. falls_through code s r l there line_there calm (with_running (λ a. record a { operands = os }) m) (like e) }
   applied_falls (op.Went (Jump p) os) j w u =
       record { falls = λ m e. goes_to code s r l there line_there calm p (with_running (λ a. record a { operands = os }) m) (like e) (sym (ap (λ o. where_there o (uses_turn r s.line)) w) ∙ u) }
   applied_falls (op.Raised state) j w u = raises_falls code s r l there line_there calm resumes (of_state state)

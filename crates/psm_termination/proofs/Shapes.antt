@@ -195,7 +195,7 @@ module _ (r : RawRoutine) where
 
 -- ---- plans
 
-failed_keeps : {A : Type 0} (def : TableDef) (due : Result A Failure) → KeepsShape (plans.unless_failed def due)
+failed_keeps : {A : Type 0} (def : TableDef) (expected : Result A Failure) → KeepsShape (plans.unless_failed def expected)
 failed_keeps def (Ok a) = got_keeps
 failed_keeps def (Err (Raised s)) = raises_keeps
 failed_keeps def (Err (OfTable s)) = raises_keeps

@@ -1,5 +1,5 @@
 pub mod Orders
-pub mod Places
+pub mod Positions
 pub mod Retries
 pub mod Spellings
 pub mod Steps

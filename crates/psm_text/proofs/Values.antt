@@ -28,16 +28,16 @@ stands_past part other = past (other - 1)
     past (suc n) = refl
 
 -- the part stands at once
-at_once : (part t : List ℕ) (place : ℕ) → starts_with nat_eq t part ≡ true → IsPosition part t place → place ≡ 1
+at_once : (part t : List ℕ) (position : ℕ) → starts_with nat_eq t part ≡ true → IsPosition part t position → position ≡ 1
 at_once part t zero h p = absurd (true≢false (sym h ∙ p.none refl 1 (omega arith)))
 at_once part t (suc zero) h p = refl
-at_once part t (suc (suc place)) h p = absurd (true≢false (sym h ∙ p.first 1 (omega arith) (omega arith)))
+at_once part t (suc (suc position)) h p = absurd (true≢false (sym h ∙ p.first 1 (omega arith) (omega arith)))
 
-never : (part : List ℕ) (place : ℕ) → starts_with nat_eq [] part ≡ false → IsPosition part [] place → place ≡ 0
+never : (part : List ℕ) (position : ℕ) → starts_with nat_eq [] part ≡ false → IsPosition part [] position → position ≡ 0
 never part zero h p = refl
-never part (suc place) h p = absurd (true≢false (sym (p.found (omega arith)) ∙ stands_past part (suc place) ∙ h))
+never part (suc position) h p = absurd (true≢false (sym (p.found (omega arith)) ∙ stands_past part (suc position) ∙ h))
 
-later : (part t : List ℕ) (c place : ℕ) → starts_with nat_eq (c ∷ t) part ≡ false → IsPosition part (c ∷ t) place → (other : ℕ) × IsPosition part t other × (place ≡ one_on other)
+later : (part t : List ℕ) (c position : ℕ) → starts_with nat_eq (c ∷ t) part ≡ false → IsPosition part (c ∷ t) position → (other : ℕ) × IsPosition part t other × (position ≡ one_on other)
 later part t c zero h p = (
   0,
   record {
@@ -48,25 +48,25 @@ later part t c zero h p = (
   refl,
 )
 later part t c (suc zero) h p = absurd (true≢false (sym (p.found (omega arith)) ∙ h))
-later part t c (suc (suc place)) h p = (
-  suc place,
+later part t c (suc (suc position)) h p = (
+  suc position,
   record {
-    found = λ l. sym (stands_on part t c (suc place) l) ∙ p.found (omega arith);
+    found = λ l. sym (stands_on part t c (suc position) l) ∙ p.found (omega arith);
     first = λ k l m. sym (stands_on part t c k l) ∙ p.first (suc k) (omega arith) (omega (arith, m));
     none = λ z. absurd (omega (arith, z));
   },
   refl,
 )
 
-pub position_is : (part t : List ℕ) (place : ℕ) → IsPosition part t place → place ≡ position_of part t
-position_is part [] place p = elim (cases_Bool (starts_with nat_eq [] part)) as (λ _. place ≡ position_of part []) [
-  | inl h ↦ at_once part [] place h p ∙ sym (ap (λ b. cond b 1 0) h)
-  | inr h ↦ never part place h p ∙ sym (ap (λ b. cond b 1 0) h)
+pub position_is : (part t : List ℕ) (position : ℕ) → IsPosition part t position → position ≡ position_of part t
+position_is part [] position p = elim (cases_Bool (starts_with nat_eq [] part)) as (λ _. position ≡ position_of part []) [
+  | inl h ↦ at_once part [] position h p ∙ sym (ap (λ b. cond b 1 0) h)
+  | inr h ↦ never part position h p ∙ sym (ap (λ b. cond b 1 0) h)
 ]
-position_is part (c ∷ t) place p = elim (cases_Bool (starts_with nat_eq (c ∷ t) part)) as (λ _. place ≡ position_of part (c ∷ t)) [
-  | inl h ↦ at_once part (c ∷ t) place h p ∙ sym (ap (λ b. cond b 1 (one_on (position_of part t))) h)
+position_is part (c ∷ t) position p = elim (cases_Bool (starts_with nat_eq (c ∷ t) part)) as (λ _. position ≡ position_of part (c ∷ t)) [
+  | inl h ↦ at_once part (c ∷ t) position h p ∙ sym (ap (λ b. cond b 1 (one_on (position_of part t))) h)
   | inr h ↦
-      let o = later part t c place h p in
+      let o = later part t c position h p in
       o.2 ∙ ap one_on (position_is part t o.0 o.1) ∙ sym (ap (λ b. cond b 1 (one_on (position_of part t))) h)
 ]
 
@@ -116,14 +116,14 @@ trimmed_is Both t r f = end_is f.0 r f.2 ∙ ap before_blanks (front_is t f.0 f.
 
 -- ---- LIKE
 
-abbrev pub Tells : List Item → Type 0
-Tells p = (t : List ℕ) → IsTrue (is_like p t) ↔ Matches p t
+abbrev pub IsExact : List Item → Type 0
+IsExact p = (t : List ℕ) → IsTrue (is_like p t) ↔ Matches p t
 
 drop_none : (p : List Item) (k : ℕ) → Matches p (drop k []) → Matches p []
 drop_none p zero m = m
 drop_none p (suc k) m = m
 
-some_more : (p : List Item) → Tells p → (c : ℕ) (t : List ℕ) → (IsTrue (some_end (is_like p) t) ↔ Matches (Any ∷ p) t)
+some_more : (p : List Item) → IsExact p → (c : ℕ) (t : List ℕ) → (IsTrue (some_end (is_like p) t) ↔ Matches (Any ∷ p) t)
     → IsTrue (some_end (is_like p) (c ∷ t)) ↔ Matches (Any ∷ p) (c ∷ t)
 some_more p ih c t rec = (forth, back)
   where
@@ -137,24 +137,24 @@ some_more p ih c t rec = (forth, back)
     back (zero, m) = or_left (is_like p (c ∷ t)) (some_end (is_like p) t) ((ih (c ∷ t)).1 m)
     back (suc k, m) = or_right (is_like p (c ∷ t)) (some_end (is_like p) t) (rec.1 (k, m))
 
-some_tells : (p : List Item) → Tells p → (t : List ℕ) → IsTrue (some_end (is_like p) t) ↔ Matches (Any ∷ p) t
-some_tells p ih [] = ((λ h. (0, (ih []).0 h)), (λ m. (ih []).1 (drop_none p m.0 m.1)))
-some_tells p ih (c ∷ t) = some_more p ih c t (some_tells p ih t)
+some_exact : (p : List Item) → IsExact p → (t : List ℕ) → IsTrue (some_end (is_like p) t) ↔ Matches (Any ∷ p) t
+some_exact p ih [] = ((λ h. (0, (ih []).0 h)), (λ m. (ih []).1 (drop_none p m.0 m.1)))
+some_exact p ih (c ∷ t) = some_more p ih c t (some_exact p ih t)
 
-tells : (p : List Item) → Tells p
-tells [] [] = ((λ h. tt), (λ m. refl))
-tells [] (c ∷ t) = ((λ h. true≢false (sym h)), (λ m. absurd m))
-tells (Any ∷ p) t = some_tells p (tells p) t
-tells (One ∷ p) [] = ((λ h. true≢false (sym h)), (λ m. absurd m))
-tells (One ∷ p) (c ∷ t) = tells p t
-tells (Literal d ∷ p) [] = ((λ h. true≢false (sym h)), (λ m. absurd m))
-tells (Literal d ∷ p) (c ∷ t) = (
-  (λ h. let parts = and_parts (nat_eq c d) (is_like p t) h in (eqb-true c d parts.0, (tells p t).0 parts.1)),
-  (λ m. and_from (nat_eq c d) (is_like p t) (eq-eqb c d m.0) ((tells p t).1 m.1)),
+is_exact : (p : List Item) → IsExact p
+is_exact [] [] = ((λ h. tt), (λ m. refl))
+is_exact [] (c ∷ t) = ((λ h. true≢false (sym h)), (λ m. absurd m))
+is_exact (Any ∷ p) t = some_exact p (is_exact p) t
+is_exact (One ∷ p) [] = ((λ h. true≢false (sym h)), (λ m. absurd m))
+is_exact (One ∷ p) (c ∷ t) = is_exact p t
+is_exact (Literal d ∷ p) [] = ((λ h. true≢false (sym h)), (λ m. absurd m))
+is_exact (Literal d ∷ p) (c ∷ t) = (
+  (λ h. let parts = and_parts (nat_eq c d) (is_like p t) h in (eqb-true c d parts.0, (is_exact p t).0 parts.1)),
+  (λ m. and_from (nat_eq c d) (is_like p t) (eq-eqb c d m.0) ((is_exact p t).1 m.1)),
 )
 
 pub like_is : (p : List Item) (t : List ℕ) (b : Bool) → (IsTrue b ↔ Matches p t) → b ≡ is_like p t
-like_is p t b h = both_ways b (is_like p t) (λ g. (tells p t).1 (h.0 g)) (λ g. h.1 ((tells p t).0 g))
+like_is p t b h = both_ways b (is_like p t) (λ g. (is_exact p t).1 (h.0 g)) (λ g. h.1 ((is_exact p t).0 g))
 
 -- the answer of LIKE where neither the escape text nor the pattern is at fault
 pub like_answers : (given : Result (Option ℕ) TextFault) (e : Option ℕ) (pattern text p t : List ℕ) (w b : Bool)

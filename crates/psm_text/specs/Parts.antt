@@ -13,16 +13,16 @@ use Rattle.psm_text.specs.Text.{within_most}
 abbrev pub joined : List ℕ → List ℕ → Result (List ℕ) TextFault
 joined a b = within_most (a ++ b)
 
--- whether a place lies before the end of the places that are asked for; without a count these have no end
+-- whether a position lies before the end of the positions that are asked for; without a count these have no end
 abbrev pub is_before_end : ℤ → Option ℤ → ℕ → Bool
-is_before_end from None place = true
-is_before_end from (Some count) place = int_lt (pos place) (from +ℤ count)
+is_before_end from None position = true
+is_before_end from (Some count) position = int_lt (pos position) (from +ℤ count)
 
--- whether a place, counted from 1, is one that is asked for: from the place from on, and before the end
+-- whether a position, counted from 1, is one that is asked for: from the position from on, and before the end
 abbrev pub is_asked : ℤ → Option ℤ → ℕ → Bool
-is_asked from count place = int_le from (pos place) && is_before_end from count place
+is_asked from count position = int_le from (pos position) && is_before_end from count position
 
--- the characters at the places that are asked for
+-- the characters at the positions that are asked for
 abbrev pub asked_part : ℤ → Option ℤ → List ℕ → List ℕ
 asked_part from count t = map (λ c. c.1) (filter (λ c. is_asked from count c.0) (enumerate_from 1 t))
 
@@ -43,22 +43,22 @@ upper_of t = map to_ascii_uppercase t
 abbrev pub lower_of : List ℕ → List ℕ
 lower_of t = map to_ascii_lowercase t
 
--- whether the part stands in the text at the place, counted from 1
+-- whether the part stands in the text at the position, counted from 1
 abbrev pub stands_at : List ℕ → List ℕ → ℕ → Bool
-stands_at part t place = starts_with nat_eq (drop (place - 1) t) part
+stands_at part t position = starts_with nat_eq (drop (position - 1) t) part
 
--- the first place at which the part stands in the text, or 0 where there is none
-pub record IsPosition (part t : List ℕ) (place : ℕ) : Type 0 where
-  pub found : 0 < place → IsTrue (stands_at part t place)
-  pub first : (other : ℕ) → 0 < other → other < place → IsFalse (stands_at part t other)
-  pub none : place ≡ 0 → (other : ℕ) → 0 < other → IsFalse (stands_at part t other)
+-- the first position at which the part stands in the text, or 0 where there is none
+pub record IsPosition (part t : List ℕ) (position : ℕ) : Type 0 where
+  pub found : 0 < position → IsTrue (stands_at part t position)
+  pub first : (other : ℕ) → 0 < other → other < position → IsFalse (stands_at part t other)
+  pub none : position ≡ 0 → (other : ℕ) → 0 < other → IsFalse (stands_at part t other)
 
--- a place in the text that has one more character in front; 0 stays none
+-- a position in the text that has one more character in front; 0 stays none
 abbrev pub one_on : ℕ → ℕ
 one_on zero = 0
-one_on (suc place) = suc (suc place)
+one_on (suc position) = suc (suc position)
 
--- the one place of which `IsPosition` holds
+-- the one position of which `IsPosition` holds
 abbrev pub position_of : List ℕ → List ℕ → ℕ
 position_of part [] = if starts_with nat_eq [] part then 1 else 0
 position_of part (c ∷ t) = if starts_with nat_eq (c ∷ t) part then 1 else one_on (position_of part t)

@@ -83,7 +83,7 @@ fn is_escapable(escape: Option<char>, c: char) -> bool
 }
 
 /// Whether the text matches the pattern. Where an item fails, the last `%` before it takes one character
-/// more: no earlier one has to, since a later start of what follows it comes to a later start of the rest.
+/// more: no earlier one has to, since a later start of what follows it gives a later start of the rest.
 fn is_match(text: &[char], pattern: &[char], escape: Option<char>) -> bool
     ensures { IsTrue result ↔ Matches (items_of escape pattern.now) text.now }
 {

@@ -34,8 +34,8 @@ impl Text {
         Ok(Text::from_vec(items))
     }
 
-    /// The characters at the places from `from` on that exist: `count` places, or all (ISO/IEC 9075:1992,
-    /// 6.7). Places count from 1, and `from` may lie outside the text. `Substring` comes exactly where the
+    /// The characters at the positions from `from` on that exist: `count` positions, or all (ISO/IEC 9075:1992,
+    /// 6.7). Positions count from 1, and `from` may lie outside the text. `Substring` comes exactly where the
     /// count is negative.
     pub fn substring(&self, alloc: Global, from: i64, count: Option<i64>) -> Result<Text, TextFault>
         ensures { Gives (substring_of from count self.now) result }
@@ -46,14 +46,14 @@ impl Text {
         Ok(Text::of(alloc, asked_characters(self.chars(), from, count))?)
     }
 
-    /// The first place, from 1, at which the part stands, or 0 where it stands nowhere (ISO/IEC 9075:1992,
+    /// The first position, from 1, at which the part stands, or 0 where it stands nowhere (ISO/IEC 9075:1992,
     /// 6.6). The empty text stands at 1.
     #[tactic(auto, using(crate::proofs::Values::position_is))]
     pub fn position(&self, part: &Text) -> u32
         ensures first { IsPosition part.now self.now result }
         ensures value { result ≡ position_of part.now self.now }
     {
-        first_place(self.chars(), part.chars())
+        first_position(self.chars(), part.chars())
     }
 
     /// The text without the blanks at that side (ISO/IEC 9075:1992, 6.7).
@@ -104,35 +104,35 @@ fn asked_characters(characters: &[char], from: i64, count: Option<i64>) -> &[cha
     ensures value { result.now ≡ asked_part from count characters.now }
     ensures shorter { length result.now ≤ length characters.now }
 {
-    let start = places_before(i128::from(from), characters.len());
-    let end = places_before_end(from, count, characters.len());
+    let start = positions_before(i128::from(from), characters.len());
+    let end = positions_before_end(from, count, characters.len());
     between(characters, start, end)
 }
 
-/// How many of the places from 1 to `len` lie before the place.
-fn places_before(place: i128, len: usize) -> usize
+/// How many of the positions from 1 to `len` lie before the position.
+fn positions_before(position: i128, len: usize) -> usize
     requires { len ≤ 4000 }
     ensures within { result ≤ len }
-    ensures before { (p : ℕ) → 0 < p → p ≤ len → int_lt (pos p) place ≡ nat_le p result }
-    ensures from_there { (p : ℕ) → 0 < p → p ≤ len → int_le place (pos p) ≡ nat_lt result p }
+    ensures before { (p : ℕ) → 0 < p → p ≤ len → int_lt (pos p) position ≡ nat_le p result }
+    ensures from_there { (p : ℕ) → 0 < p → p ≤ len → int_le position (pos p) ≡ nat_lt result p }
 {
-    if place <= 1 {
+    if position <= 1 {
         0
-    } else if place > len as i128 {
+    } else if position > len as i128 {
         len
     } else {
-        (place - 1) as usize
+        (position - 1) as usize
     }
 }
 
 /// How many of them lie before the end of the count, which is computed in 128 bits.
-fn places_before_end(from: i64, count: Option<i64>, len: usize) -> usize
+fn positions_before_end(from: i64, count: Option<i64>, len: usize) -> usize
     requires { len ≤ 4000 }
     ensures within { result ≤ len }
     ensures before { (p : ℕ) → 0 < p → p ≤ len → is_before_end from count p ≡ nat_le p result }
 {
     match count {
-        Some(count) => places_before(i128::from(from) + i128::from(count), len),
+        Some(count) => positions_before(i128::from(from) + i128::from(count), len),
         None => len,
     }
 }
@@ -150,7 +150,7 @@ fn between(characters: &[char], start: usize, end: usize) -> &[char]
     }
 }
 
-fn first_place(characters: &[char], wanted: &[char]) -> u32
+fn first_position(characters: &[char], wanted: &[char]) -> u32
     requires { length characters.now ≤ 4000 }
     ensures { IsPosition wanted.now characters.now result }
 {

@@ -23,7 +23,7 @@ impl Text {
     }
 
     /// The text as it is fetched into `n` characters (ISO/IEC 9075:1992, 9.1): as `fit`, but never
-    /// refused. The flag tells that a character was lost, blank or not.
+    /// refused. The flag says that a character was lost, blank or not.
     pub fn cut(&self, alloc: Global, n: u32, pad: bool) -> Result<(Text, bool), AllocError>
         requires { n ≤ 4000 }
         ensures { IfOk result (λ r. r ≡ fetched n pad self.now) }

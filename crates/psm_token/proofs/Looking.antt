@@ -1,4 +1,4 @@
--- What the first characters tell of what stands at the front.
+-- What the first characters say of what stands at the front.
 use Rattle.std.proofs.Common.{◌≡◌, ℕ, ◌+◌, ◌<◌, ◌⊎◌, Bool, true, false, not, ◌&&◌, cond, eqb, List, [], ◌∷◌, length, inl, inr, refl, sym, ap, subst, arith}
 use Rattle.std.specs.Char.{is_ascii_digit, is_ascii_alphabetic}
 use Rattle.std.specs.List.{prefix_len}
@@ -11,7 +11,7 @@ use Rattle.psm_token.specs.Characters.{is_separator, begins}
 use Rattle.psm_token.specs.Fronts.{front_of}
 use Rattle.psm_token.specs.Numbers.{digits_at, literal_at}
 
--- the tests in their order, and what they tell
+-- the tests in their order, and what they say
 abbrev pub chosen : Bool → Bool → Bool → Bool → Bool → Bool → Bool → Front
 chosen s l d q a m p = cond s Separator (cond l Letter (cond d Digit (cond q Quote (cond a Apostrophe (cond m Comment (cond p Digit Other))))))
 

@@ -5,7 +5,7 @@ use Rattle.psm_token.specs.declared.front.Front.{Front}
 use Rattle.psm_token.specs.declared.front.Front.TheVariants.{End, Separator, Comment, Letter, Digit, Quote, Apostrophe, Other}
 use Rattle.psm_token.specs.Characters.{is_separator, begins}
 
--- told by the first character and the next; a point before a digit begins a number unless a name stands before it
+-- known by the first character and the next; a point before a digit begins a number unless a name stands before it
 abbrev pub front_of : Bool → List ℕ → Front
 front_of after_name [] = End
 front_of after_name (c ∷ cs) =

@@ -8,7 +8,7 @@ ghost use Rattle.psm_token.specs.Signs.{sign_at as sign_of};
 use crate::scan::{Class, begins_in, first, is_separator};
 use crate::sign::{Sign, lone_sign, pair_sign};
 
-/// What stands at the front of a text, told by its first two characters.
+/// What stands at the front of a text, as its first two characters say.
 #[derive(Clone, Copy, Debug, PartialEq, Eq)]
 pub(crate) enum Front {
     /// Nothing.

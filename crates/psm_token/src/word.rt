@@ -346,7 +346,7 @@ pub(crate) fn find(text: &str) -> Option<Word>
 {
     match text.as_bytes() {
         [] => None,
-        [letter, ..] => among(shelf(*letter), text),
+        [letter, ..] => among(words_by_letter(*letter), text),
     }
 }
 
@@ -358,7 +358,7 @@ fn among(words: &[Word], text: &str) -> Option<Word>
 }
 
 /// The words that begin with the letter.
-fn shelf(letter: u8) -> &'static [Word]
+fn words_by_letter(letter: u8) -> &'static [Word]
     ensures { result.now ≡ words_by_letter letter }
 {
     match letter {

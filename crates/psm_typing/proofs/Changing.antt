@@ -12,7 +12,7 @@ use Rattle.psm_cond.specs.Condition.{alone}
 use Rattle.psm_cond.specs.Entry.{entry_of, name_text}
 use Rattle.psm_exprcode.specs.Kinds.{are_of, has_letter, letter_of}
 use Rattle.psm_exprcode.proofs.Standing.{both_true}
-use Rattle.psm_table.specs.Changing.{Changed, Division, Failure, OfTable, Raised, Schema, SetItem, counting, deleted, deleted_at, divided, ended, ended_with, in_order, inserted, is_before, kind_of, moving, new_values, placed_in, rows_but, rows_pass, set_row, stored_row, stored_rows, then_of, updated, updated_at, with_values}
+use Rattle.psm_table.specs.Changing.{Changed, Division, Failure, OfTable, Raised, Schema, SetItem, counting, deleted, deleted_at, divided, ended, ended_with, in_order, inserted, is_before, kind_of, moving, new_values, inserted_in, rows_but, rows_pass, set_row, stored_row, stored_rows, then_of, updated, updated_at, with_values}
 use Rattle.psm_table.specs.Changing as changing
 use Rattle.psm_table.specs.Cursors.{Cursor, Closed, Plain, Insensitive, current, row_at, row_of_key}
 use Rattle.psm_table.specs.Definition.{kinds_of}
@@ -68,9 +68,9 @@ if-each : (P : List Datum → Type 0) (b : Bool) (xs ys : List (List Datum)) →
 if-each P true xs ys h g = h
 if-each P false xs ys h g = g
 
-each-placed : (P : List Datum → Type 0) (key : List ℕ) (row : List Datum) (rows : List (List Datum)) → P row → Each P rows → Each P (placed_in key row rows)
+each-placed : (P : List Datum → Type 0) (key : List ℕ) (row : List Datum) (rows : List (List Datum)) → P row → Each P rows → Each P (inserted_in key row rows)
 each-placed P key row [] p h = (p, tt)
-each-placed P key row (r ∷ rows) p h = if-each P (is_before key row r) (row ∷ r ∷ rows) (r ∷ placed_in key row rows) (p, h) (h.0, each-placed P key row rows p h.1)
+each-placed P key row (r ∷ rows) p h = if-each P (is_before key row r) (row ∷ r ∷ rows) (r ∷ inserted_in key row rows) (p, h) (h.0, each-placed P key row rows p h.1)
 
 each-ordered : (P : List Datum → Type 0) (key : List ℕ) (rows : List (List Datum)) → Each P rows → Each P (in_order key rows)
 each-ordered P key [] h = tt

@@ -65,7 +65,7 @@ module _ (states : List State) (t : ℕ) (d : State) (inside : t < length states
           about =
               subst (All (λ (x : Entry). x.table ≡ t)) (sym (ap (drop (length entries)) all ∙ drop_all (length entries) entries (omega arith)))
               (λ k d l. let never : ⊥ = omega (arith, l) in absurd never);
-          same = λ place l. ap (λ (x : List Entry). before place x (set states t w)) all ∙ ap (before place entries) here;
+          same = λ position l. ap (λ (x : List Entry). before position x (set states t w)) all ∙ ap (before position entries) here;
           others = λ k x n. ap (λ (s : List State). get_or s k x) here;
         };
       }

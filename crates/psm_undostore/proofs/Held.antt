@@ -20,15 +20,15 @@ use Rattle.psm_undostore.proofs.Undoings.{nothing_left}
 abbrev pub undo_of : List State → List Entry → ℕ → Undo
 undo_of states entries marks = record { states = states; entries = entries; marks = marks }
 
--- the tables before a place, where the entries from a later place on were undone
-pub before-before : (states new : List State) (entries left : List Entry) (place q : ℕ) → contents_of new ≡ before place entries states → left ≡ take place entries →
-    place ≤ length entries → q ≤ place → before q left new ≡ before q entries states
-before-before states new entries left place q e f h k =
-    let cut : drop q (take place entries) ++ drop place entries ≡ drop q entries =
-    sym (drop-append-le q (take place entries) (drop place entries) (omega (arith, h, k, length-take place entries))) ∙ ap (drop q) (take-append-drop place entries) in
+-- the tables before a position, where the entries from a later position on were undone
+pub before-before : (states new : List State) (entries left : List Entry) (position q : ℕ) → contents_of new ≡ before position entries states → left ≡ take position entries →
+    position ≤ length entries → q ≤ position → before q left new ≡ before q entries states
+before-before states new entries left position q e f h k =
+    let cut : drop q (take position entries) ++ drop position entries ≡ drop q entries =
+    sym (drop-append-le q (take position entries) (drop position entries) (omega (arith, h, k, length-take position entries))) ∙ ap (drop q) (take-append-drop position entries) in
     ap (λ l. undone_from 0 (drop q l) (contents_of new)) f
-    ∙ ap (undone_from 0 (drop q (take place entries))) e
-    ∙ sym (undone_from-append 0 (drop q (take place entries)) (drop place entries) (contents_of states))
+    ∙ ap (undone_from 0 (drop q (take position entries))) e
+    ∙ sym (undone_from-append 0 (drop q (take position entries)) (drop position entries) (contents_of states))
     ∙ ap (λ l. undone_from 0 l (contents_of states)) cut
 
 module _ (states : List State) (journal : List Entry) (marks : ℕ) (now : Undo) (is : undo_of states journal marks ≡ now) where
@@ -46,13 +46,13 @@ module _ (states : List State) (journal : List Entry) (marks : ℕ) (now : Undo)
     bound = omega (arith, l, same_marks);
   }
 
-  pub newly_marked : (place : ℕ) → place ≡ length journal →
-      IsNewMark now.marks (tables_of now) (IsHeld now) (IsHeld (undo_of states journal (marks + 1))) (stands_for (undo_of states journal (marks + 1))) (record { depth = marks; place = place })
-  newly_marked place e = record {
+  pub newly_marked : (position : ℕ) → position ≡ length journal →
+      IsNewMark now.marks (tables_of now) (IsHeld now) (IsHeld (undo_of states journal (marks + 1))) (stands_for (undo_of states journal (marks + 1))) (record { depth = marks; position = position })
+  newly_marked position e = record {
     deepest = same_marks;
-    held = record { depth = omega arith; place = omega (arith, e) };
-    stands = nothing_left place states journal (omega (arith, e)) ∙ ap tables_of is;
-    last = λ other h. omega (arith, e, same_length, h.place);
+    held = record { depth = omega arith; position = omega (arith, e) };
+    stands = nothing_left position states journal (omega (arith, e)) ∙ ap tables_of is;
+    last = λ other h. omega (arith, e, same_length, h.position);
   }
 
   pub released_undo : IsUndo (undo_of states journal marks) → (mark : Mark) → IsHeld now mark → 0 < mark.depth → IsUndo (undo_of states journal mark.depth)
@@ -72,8 +72,8 @@ module _ (states : List State) (journal : List Entry) (marks : ℕ) (now : Undo)
     bound = h.bound;
   }
 
-  pub place_in : (mark : Mark) → IsHeld now mark → mark.place ≤ length journal
-  place_in mark held = omega (arith, held.place, same_length)
+  pub position_in : (mark : Mark) → IsHeld now mark → mark.position ≤ length journal
+  position_in mark held = omega (arith, held.position, same_length)
 
   pub small_depth : IsUndo (undo_of states journal marks) → (mark : Mark) → IsHeld now mark → mark.depth + 1 < 2 ^ 128
   small_depth h mark held = omega (arith, h.bound, held.depth, same_marks)
@@ -94,7 +94,7 @@ module _ (states : List State) (journal : List Entry) (marks : ℕ) (now : Undo)
     defs_called t change same r new e = ap defs_of e ∙ defs-after change same r (contents_of lent) t ∙ ap defs_of same_tables
 
     -- a rollback
-    module _ (mark : Mark) (held : IsHeld now mark) (new : List State) (left : List Entry) (e : contents_of new ≡ before mark.place journal lent) (f : left ≡ take mark.place journal) where
+    module _ (mark : Mark) (held : IsHeld now mark) (new : List State) (left : List Entry) (e : contents_of new ≡ before mark.position journal lent) (f : left ≡ take mark.position journal) where
       pub rolled_undo : IsUndo (undo_of states journal marks) → AreUndoable new left → IsUndo (undo_of new left (mark.depth + 1))
       rolled_undo h g = record {
         undoable = g;
@@ -104,19 +104,19 @@ module _ (states : List State) (journal : List Entry) (marks : ℕ) (now : Undo)
       }
 
       pub rolled_defs : defs_of (contents_of new) ≡ defs_of (tables_of now)
-      rolled_defs = ap defs_of e ∙ defs-undone_from 0 (drop mark.place journal) (contents_of lent) ∙ ap defs_of same_tables
+      rolled_defs = ap defs_of e ∙ defs-undone_from 0 (drop mark.position journal) (contents_of lent) ∙ ap defs_of same_tables
 
-      length-left : length left ≡ mark.place
-      length-left = omega (arith, ap length f, length-take mark.place journal, held.place, same_length)
+      length-left : length left ≡ mark.position
+      length-left = omega (arith, ap length f, length-take mark.position journal, held.position, same_length)
 
       pub rolled_held : IsHeld (undo_of new left (mark.depth + 1)) mark
-      rolled_held = record { depth = omega arith; place = omega (arith, length-left) }
+      rolled_held = record { depth = omega arith; position = omega (arith, length-left) }
 
-      pub rolled_keeps : (m : Mark) → IsHeld now m → m.depth < mark.depth + 1 → m.place ≤ mark.place →
+      pub rolled_keeps : (m : Mark) → IsHeld now m → m.depth < mark.depth + 1 → m.position ≤ mark.position →
           IsHeld (undo_of new left (mark.depth + 1)) m × (stands_for (undo_of new left (mark.depth + 1)) m ≡ stands_for now m)
       rolled_keeps m h deep within = (
-        record { depth = deep; place = omega (arith, within, length-left) },
-        before-before lent new journal left mark.place m.place e f (omega (arith, held.place, same_length)) within
-            ∙ ap (before m.place journal) whole
+        record { depth = deep; position = omega (arith, within, length-left) },
+        before-before lent new journal left mark.position m.position e f (omega (arith, held.position, same_length)) within
+            ∙ ap (before m.position journal) whole
             ∙ ap (λ (s : Undo). stands_for s m) is,
       )

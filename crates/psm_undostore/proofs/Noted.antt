@@ -46,17 +46,17 @@ module _ (flags : List Bool) (states : List State) (entries : List Entry) (marks
       }
 
   -- a rollback
-  pub noted_back : (place count : ℕ) (new : List State) (left : List Entry) → 0 < count → length new ≡ length states → left ≡ take place entries → OthersStay (drop place entries) states new →
+  pub noted_back : (position count : ℕ) (new : List State) (left : List Entry) → 0 < count → length new ≡ length states → left ≡ take position entries → OthersStay (drop position entries) states new →
       IsNoted flags (undo_of new left count)
-  noted_back place count new left some long first stay = record {
+  noted_back position count new left some long first stay = record {
     size = omega (arith, h.size, long);
     tidy = λ u d l untouched.
         subst IsTidy
         (sym (stay u
-        (All-drop (λ (e : Entry). e.table ≢ u) place entries
+        (All-drop (λ (e : Entry). e.table ≢ u) position entries
         (All-weaker (λ (e : Entry). is_touched flags e.table ≡ true) (λ (e : Entry). e.table ≢ u) (λ e q p. true≢false (sym q ∙ ap (is_touched flags) p ∙ untouched)) entries h.changes)) d))
         (h.tidy u d (omega (arith, l, long)) untouched);
-    changes = subst (All (λ (e : Entry). is_touched flags e.table ≡ true)) (sym first) (All-take (λ (e : Entry). is_touched flags e.table ≡ true) place entries h.changes);
+    changes = subst (All (λ (e : Entry). is_touched flags e.table ≡ true)) (sym first) (All-take (λ (e : Entry). is_touched flags e.table ≡ true) position entries h.changes);
     idle = λ e. let never : ⊥ = omega (arith, e, some) in absurd never;
   }
 

@@ -47,12 +47,12 @@ module _ (states : List State) (t : ℕ) (a b : State) (inside : t < length stat
 
   -- where undoing the last entry, which is about table t, leads it from a to b: the entries before it lead each table
   -- on as all of them did
-  pub last_first : (e : Entry) → e.table ≡ t → b.contents ≡ undone e.change a.contents → (es : List Entry) (place u : ℕ) (d : State) → place ≤ length es →
-      undone_in u (drop place (es ++ e ∷ [])) (get_or states u d).contents ≡ undone_in u (drop place es) (get_or (set states t b) u d).contents
-  last_first e is back es place u d h =
-      ap (λ l. undone_in u l (get_or states u d).contents) (drop-append-le place es (e ∷ []) h)
-      ∙ undone_in-append u (drop place es) (e ∷ []) (get_or states u d).contents
-      ∙ ap (undone_in u (drop place es)) (
+  pub last_first : (e : Entry) → e.table ≡ t → b.contents ≡ undone e.change a.contents → (es : List Entry) (position u : ℕ) (d : State) → position ≤ length es →
+      undone_in u (drop position (es ++ e ∷ [])) (get_or states u d).contents ≡ undone_in u (drop position es) (get_or (set states t b) u d).contents
+  last_first e is back es position u d h =
+      ap (λ l. undone_in u l (get_or states u d).contents) (drop-append-le position es (e ∷ []) h)
+      ∙ undone_in-append u (drop position es) (e ∷ []) (get_or states u d).contents
+      ∙ ap (undone_in u (drop position es)) (
       elim (cases_eq u t) as (λ _. undone_in u (e ∷ []) (get_or states u d).contents ≡ (get_or (set states t b) u d).contents) [
         | inl p ↦
             undone_at-same u e (get_or states u d).contents (is ∙ sym p)
@@ -80,12 +80,12 @@ module _ (states : List State) (es : List Entry) (t : ℕ) (c : Change) (old new
   read_new : (d : State) → new ≡ get_or (set states t new) t d
   read_new d = sym (get_or-set_same states t new d inside)
 
-  lead_back : (place u : ℕ) (d : State) → place ≤ length es →
-      undone_in u (drop place (es ++ added ∷ [])) (get_or (set states t new) u d).contents ≡ undone_in u (drop place es) (get_or states u d).contents
+  lead_back : (position u : ℕ) (d : State) → position ≤ length es →
+      undone_in u (drop position (es ++ added ∷ [])) (get_or (set states t new) u d).contents ≡ undone_in u (drop position es) (get_or states u d).contents
   unfolding added
-  lead_back place u d l =
-      last_first (set states t new) t new old inside_new read_new added refl (sym leads.back) es place u d l
-      ∙ ap (λ (s : List State). undone_in u (drop place es) (get_or s u d).contents) again
+  lead_back position u d l =
+      last_first (set states t new) t new old inside_new read_new added refl (sym leads.back) es position u d l
+      ∙ ap (λ (s : List State). undone_in u (drop position es) (get_or s u d).contents) again
 
   last_ready : IsReady (set states t new) added
   unfolding added
@@ -134,9 +134,9 @@ module _ (states : List State) (es : List Entry) (t : ℕ) (c : Change) (old new
     about =
         subst (All (λ (x : Entry). x.table ≡ t)) (sym (drop-append-le (length es) es (added ∷ []) (omega arith) ∙ ap (λ l. l ++ added ∷ []) (drop_all (length es) es (omega arith))))
         one_about;
-    same = λ place l.
-        before-last (set states t new) added old new inside_new (sym leads.back ∙ ap (λ (s : State). undone c s.contents) (read_new new)) es place l
-        ∙ ap (before place es) again;
+    same = λ position l.
+        before-last (set states t new) added old new inside_new (sym leads.back ∙ ap (λ (s : State). undone c s.contents) (read_new new)) es position l
+        ∙ ap (before position es) again;
     others = λ k d n. other_state states t old new inside read k d n;
   }
 
@@ -176,5 +176,5 @@ module _ (states : List State) (es : List Entry) (e : Entry) (h : AreUndoable st
           (last_first states e.table (get_or states e.table w) w last_is_ready.inside read_last e refl (back w) es k (get_or es k x).table d (omega (arith, l))) was;
     }
 
-    pub taken_before : (place : ℕ) → place ≤ length es → before place (es ++ e ∷ []) states ≡ before place es (set states e.table w)
-    taken_before place l = before-last states e w w last_is_ready.inside (back w) es place l
+    pub taken_before : (position : ℕ) → position ≤ length es → before position (es ++ e ∷ []) states ≡ before position es (set states e.table w)
+    taken_before position l = before-last states e w w last_is_ready.inside (back w) es position l

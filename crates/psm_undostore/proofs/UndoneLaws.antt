@@ -90,8 +90,8 @@ module _ (states : List State) (e : Entry) (w d : State) (inside : e.table < len
       (back ∙ ap (undone e.change) (sym (get_or-map (λ (s : State). s.contents) states e.table d d.contents inside)))
       ∙ sym (map-set (λ (s : State). s.contents) states e.table w)
 
-  pub before-last : (es : List Entry) (place : ℕ) → place ≤ length es → before place (es ++ e ∷ []) states ≡ before place es (set states e.table w)
-  before-last es place h =
-      ap (λ l. undone_from 0 l (contents_of states)) (drop-append-le place es (e ∷ []) h)
-      ∙ undone_from-append 0 (drop place es) (e ∷ []) (contents_of states)
-      ∙ ap (undone_from 0 (drop place es)) last_undone
+  pub before-last : (es : List Entry) (position : ℕ) → position ≤ length es → before position (es ++ e ∷ []) states ≡ before position es (set states e.table w)
+  before-last es position h =
+      ap (λ l. undone_from 0 l (contents_of states)) (drop-append-le position es (e ∷ []) h)
+      ∙ undone_from-append 0 (drop position es) (e ∷ []) (contents_of states)
+      ∙ ap (undone_from 0 (drop position es)) last_undone

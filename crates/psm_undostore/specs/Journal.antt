@@ -59,7 +59,7 @@ pub record Extends (t : ℕ) (old new : List State) (entries more : List Entry) 
   pub longer : length more ≡ length entries + count
   pub first : take (length entries) more ≡ entries
   pub about : All (λ e. e.table ≡ t) (drop (length entries) more)
-  pub same : (place : ℕ) → place ≤ length entries → before place more new ≡ before place entries old
+  pub same : (position : ℕ) → position ≤ length entries → before position more new ≡ before position entries old
   pub others : (k : ℕ) (d : State) → k ≢ t → slice_index_or new k d ≡ slice_index_or old k d
 
 -- each table that none of these entries is about stays

@@ -29,18 +29,18 @@ pub record IsUndo (s : Undo) : Type 0 where
 abbrev pub tables_of : Undo → List Contents
 tables_of s = contents_of s.states
 
--- an open mark: its place is that of the first change since
+-- an open mark: its position is that of the first change since
 pub record IsHeld (s : Undo) (m : Mark) : Type 0 where
   pub depth : m.depth < s.marks
-  pub place : m.place ≤ length s.entries
+  pub position : m.position ≤ length s.entries
 
 -- the tables that a mark stands for: those before the changes since
 abbrev pub stands_for : Undo → Mark → List Contents
-stands_for s m = before m.place s.entries s.states
+stands_for s m = before m.position s.entries s.states
 
 -- how many changes there were since a mark
 abbrev pub since : Undo → Mark → ℕ
-since s m = length s.entries - m.place
+since s m = length s.entries - m.position
 
 -- n changes more since each mark that was held
 abbrev pub HasMoreSince : Undo → Undo → ℕ → Type 0

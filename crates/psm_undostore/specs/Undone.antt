@@ -30,6 +30,6 @@ undone_from t entries (c ∷ cs) = undone_in t entries c ∷ undone_from (suc t)
 abbrev pub contents_of : List State → List Contents
 contents_of states = map (λ s. s.contents) states
 
--- the tables as they were before the entries from a place on
+-- the tables as they were before the entries from a position on
 abbrev pub before : ℕ → List Entry → List State → List Contents
-before place entries states = undone_from 0 (drop place entries) (contents_of states)
+before position entries states = undone_from 0 (drop position entries) (contents_of states)

@@ -49,7 +49,7 @@ impl Journal {
         }
     }
 
-    /// The number of changes, which is the place of the next one.
+    /// The number of changes, which is the position of the next one.
     pub fn len(&self) -> u64
         ensures { result ≡ length self.now }
     {
@@ -134,36 +134,36 @@ impl Journal {
         )
     }
 
-    /// Undoes the changes from a place on, the last first, and forgets them. It takes no memory, and at most two
+    /// Undoes the changes from a position on, the last first, and forgets them. It takes no memory, and at most two
     /// row steps for each.
-    pub fn undo<L: Ledger>(&mut self, tables: &mut [Table], place: u64, steps: &mut Steps<L>)
+    pub fn undo<L: Ledger>(&mut self, tables: &mut [Table], position: u64, steps: &mut Steps<L>)
         requires undoable { AreUndoable tables.old self.old }
-        requires place { place ≤ length self.old }
-        ensures tables { contents_of tables.new ≡ before place self.old tables.old }
-        ensures others { OthersStay (drop place self.old) tables.old tables.new }
-        ensures entries { self.new ≡ take place self.old }
+        requires position { position ≤ length self.old }
+        ensures tables { contents_of tables.new ≡ before position self.old tables.old }
+        ensures others { OthersStay (drop position self.old) tables.old tables.new }
+        ensures entries { self.new ≡ take position self.old }
         ensures undoable { AreUndoable tables.new self.new }
-        ensures steps { steps.new ≤ steps.old + 2 * (length self.old - place) }
+        ensures steps { steps.new ≤ steps.old + 2 * (length self.old - position) }
     {
-        undo_from(&mut self.entries, tables, place as usize, steps);
+        undo_from(&mut self.entries, tables, position as usize, steps);
     }
 }
 
 fn undo_from<L: Ledger>(
     entries: &mut SegStack<Packed>,
     tables: &mut [Table],
-    place: usize,
+    position: usize,
     steps: &mut Steps<L>,
 )
     requires undoable { AreUndoable tables.old entries.old.items }
-    requires place { place ≤ length entries.old.items }
-    ensures tables { contents_of tables.new ≡ before place entries.old.items tables.old }
-    ensures others { OthersStay (drop place entries.old.items) tables.old tables.new }
-    ensures entries { entries.new.items ≡ take place entries.old.items }
+    requires position { position ≤ length entries.old.items }
+    ensures tables { contents_of tables.new ≡ before position entries.old.items tables.old }
+    ensures others { OthersStay (drop position entries.old.items) tables.old tables.new }
+    ensures entries { entries.new.items ≡ take position entries.old.items }
     ensures undoable { AreUndoable tables.new entries.new.items }
-    ensures steps { steps.new ≤ steps.old + 2 * (length entries.old.items - place) }
+    ensures steps { steps.new ≤ steps.old + 2 * (length entries.old.items - position) }
 {
-    while place < entries.len() {
+    while position < entries.len() {
         if let Some(entry) = entries.pop() {
             undo_entry(entry, tables, steps);
         }

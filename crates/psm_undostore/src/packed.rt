@@ -12,7 +12,7 @@ use psm_value::Datum;
 use std::marker::Model;
 
 /// An entry in four words: what kind of change it is and the table's number are one, and a key of one value is kept without the
-/// words that tell what kind of value it is. It is seen as the entry.
+/// words that say what kind of value it is. It is seen as the entry.
 #[derive(Drop)]
 pub(crate) struct Packed {
     kept: Kept,

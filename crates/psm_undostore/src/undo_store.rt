@@ -96,7 +96,7 @@ impl Store for UndoStore {
     {
         let mark = Mark {
             depth: self.marks,
-            place: self.journal.len(),
+            position: self.journal.len(),
         };
         self.marks += 1;
         Ok(mark)
@@ -116,7 +116,7 @@ impl Store for UndoStore {
         ensures others { HasFewerSince self.old self.new mark (since self.old mark) }
     {
         self.journal
-            .undo(self.tables.as_mut_slice(), mark.place, steps);
+            .undo(self.tables.as_mut_slice(), mark.position, steps);
         self.marks = mark.depth + 1;
     }
 

@@ -56,9 +56,9 @@ met_same : (r : RawRoutine) (l : CodeLine) (c : Entries) (k : Option ℕ) (outsi
 met_same r l c None outside m = refl
 met_same r l c (Some n) outside m = refl
 
-pub meets_same : (due other : (Machine → Stepped) → Stepped) (x : Met) (now : Machine) → ((outside : Machine → Stepped) → other outside ≡ due outside) → Meets due x now → Meets other x now
-meets_same due other (Here o) now e h = λ outside. subst (λ t. LeadsTo t o now) (sym (e outside)) (h outside)
-meets_same due other Outside now e h = (h.0, λ outside. e outside ∙ h.1 outside, h.2)
+pub meets_same : (expected other : (Machine → Stepped) → Stepped) (x : Met) (now : Machine) → ((outside : Machine → Stepped) → other outside ≡ expected outside) → Meets expected x now → Meets other x now
+meets_same expected other (Here o) now e h = λ outside. subst (λ t. LeadsTo t o now) (sym (e outside)) (h outside)
+meets_same expected other Outside now e h = (h.0, λ outside. e outside ∙ h.1 outside, h.2)
 
 -- without a handler an exception goes outside
 pub goes_outside : (r : RawRoutine) (resume : Option ℕ) (c : Entries) (m : Machine) (cs : List Cursor) (fs : List Frame) (callers : List Activation) (ts : List Contents) →

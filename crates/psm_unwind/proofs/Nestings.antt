@@ -3,7 +3,7 @@ use Rattle.std.proofs.Common.{◌≡◌, Option, None, Some, List, [], ◌∷◌
 use Rattle.psm_table.specs.Table.{Contents}
 use Rattle.psm_store.specs.declared.store.Mark.{Mark}
 use Rattle.psm_store.specs.Marks.{IsOutside, Keeps}
-use Rattle.psm_unwind.specs.Marks.{Around, Each, Leaves, Nested, Stays, with_mark}
+use Rattle.psm_unwind.specs.Marks.{Encloses, Each, Leaves, Nested, Stays, with_mark}
 
 -- ---- each of some things
 
@@ -45,9 +45,9 @@ pub nested_right : (holds : Mark → Type 0) (ms ns : List Mark) → Nested hold
 nested_right holds [] ns n = n
 nested_right holds (m ∷ ms) ns n = nested_right holds ms ns n.2
 
-pub nested_enclosing : (holds : Mark → Type 0) (ms ns : List Mark) → Nested holds (ms ++ ns) → Each (Around ms) ns
+pub nested_enclosing : (holds : Mark → Type 0) (ms ns : List Mark) → Nested holds (ms ++ ns) → Each (Encloses ms) ns
 nested_enclosing holds [] ns n = each_all (λ o. Unit {0}) ns (λ o. tt)
-nested_enclosing holds (m ∷ ms) ns n = each_zip (IsOutside m) (Around ms) (Around (m ∷ ms)) ns (λ o p q. (p, q)) (each_right (IsOutside m) ms ns n.1) (nested_enclosing holds ms ns n.2)
+nested_enclosing holds (m ∷ ms) ns n = each_zip (IsOutside m) (Encloses ms) (Encloses (m ∷ ms)) ns (λ o p q. (p, q)) (each_right (IsOutside m) ms ns n.1) (nested_enclosing holds ms ns n.2)
 
 pub nested_by : (holds new : Mark → Type 0) (ms : List Mark) → Each new ms → Nested holds ms → Nested new ms
 nested_by holds new [] e n = tt
@@ -68,7 +68,7 @@ leaves_in holds at ms new at_new left outer n l = record {
   gone = l.gone;
   split = ap (λ x. x ++ outer) l.split ∙ append_assoc l.gone left outer;
   stay = each_both (Stays at new at_new) left outer l.stay
-      (each_zip holds (Around ms) (Stays at new at_new) outer l.keeps (nested_each holds outer (nested_right holds ms outer n)) (nested_enclosing holds ms outer n));
+      (each_zip holds (Encloses ms) (Stays at new at_new) outer l.keeps (nested_each holds outer (nested_right holds ms outer n)) (nested_enclosing holds ms outer n));
   keeps = λ m h a. l.keeps m h (each_left (λ x. IsOutside x m) ms outer a);
 }
 
@@ -82,7 +82,7 @@ leaves_then h0 at0 m0 h1 at1 m1 h2 at2 m2 k l = record {
       each_zip (Stays at0 h1 at1) (Stays at1 h2 at2) (Stays at0 h2 at2) m2 (λ m p q. (q.0, q.1 ∙ p.1)) (each_right (Stays at0 h1 at1) l.gone m2 before) l.stay;
   keeps = λ m h a.
       let p : Stays at0 h1 at1 m = k.keeps m h a in
-      let b : Around (k.gone ++ m1) m = subst (λ (x : List Mark). Around x m) k.split a in
+      let b : Encloses (k.gone ++ m1) m = subst (λ (x : List Mark). Encloses x m) k.split a in
       let q : Stays at1 h2 at2 m = l.keeps m p.0 (each_right (λ x. IsOutside x m) k.gone m1 b) in
       (q.0, q.1 ∙ p.1);
 }

@@ -1,4 +1,4 @@
--- Where a line stands, as two readings tell.
+-- Where a line stands, as two readings say.
 use Rattle.std.proofs.Common.{◌≡◌, ℕ, Option, Some, None, option_map, ap, sym}
 use Rattle.psm_code.specs.declared.lines.CodeLine.{CodeLine}
 use Rattle.psm_unwind.specs.Raising.{IsPlace}

@@ -38,8 +38,8 @@ Each P [] = Unit {0}
 Each P (x ∷ xs) = P x × Each P xs
 
 -- a mark is outside each of some
-abbrev pub Around : List Mark → Mark → Type 0
-Around marks outer = Each (λ m. IsOutside m outer) marks
+abbrev pub Encloses : List Mark → Mark → Type 0
+Encloses marks outer = Each (λ m. IsOutside m outer) marks
 
 -- the marks are held, and each is outside those before it
 abbrev pub Nested : (Mark → Type 0) → List Mark → Type 0
@@ -74,7 +74,7 @@ pub record Leaves (holds : Mark → Type 0) (at : Mark → List Contents) (marks
   pub gone : List Mark
   pub split : marks ≡ gone ++ left
   pub stay : Each (Stays at holds_new at_new) left
-  pub keeps : (m : Mark) → holds m → Around marks m → Stays at holds_new at_new m
+  pub keeps : (m : Mark) → holds m → Encloses marks m → Stays at holds_new at_new m
 
 -- those that are left are the deepest of the open ones, if the marks were, whatever is open below them
 abbrev pub StayDeepest : List Mark → ℕ → List Mark → ℕ → Type 0

@@ -33,10 +33,10 @@ abbrev pub met_at : RawRoutine → Option ℕ → Entries → Option ℕ → (Ma
 met_at r resume c (Some n) outside m = chosen r (is_exception (kind_of c.first.state)) resume n (handler_at r n) m
 met_at r resume c None outside m = if is_exception (kind_of c.first.state) then outside (frames_left r true m.running.frames m) else passed_over resume m
 
--- a condition meets what is due, whatever is outside; or it goes outside, with the machine as the end of the activation leaves it
+-- a condition meets what is expected, whatever is outside; or it goes outside, with the machine as the end of the activation leaves it
 abbrev pub Meets : ((Machine → Stepped) → Stepped) → Met → Machine → Type 0
-Meets due (Here o) now = (outside : Machine → Stepped) → LeadsTo (due outside) o now
-Meets due Outside now = (m : Machine) × ((outside : Machine → Stepped) → due outside ≡ outside m) × (at_end m ≡ at_end now)
+Meets expected (Here o) now = (outside : Machine → Stepped) → LeadsTo (expected outside) o now
+Meets expected Outside now = (m : Machine) × ((outside : Machine → Stepped) → expected outside ≡ outside m) × (at_end m ≡ at_end now)
 
 -- a condition that goes outside leaves all frames
 abbrev pub HasLeft : Met → Run → Type 0

@@ -60,7 +60,7 @@ end_of ending.Stuck = code.Stuck
 abbrev pub at_end : code.Machine → code.Machine
 at_end m = code.with_running (λ a. record a { operands = []; frames = [] }) m
 
--- a run goes on as is due; or it is over, with the end that is due, and with what that leaves of the machine
+-- a run goes on as expected; or it is over, with the end that is expected, and with what that leaves of the machine
 abbrev pub LeadsTo : code.Stepped → Outcome → code.Machine → Type 0
 LeadsTo (code.More m) More now = m ≡ now
 LeadsTo (code.More m) (Over e) now = ⊥

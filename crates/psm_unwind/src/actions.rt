@@ -15,7 +15,7 @@ use std::alloc::{AllocError, Global};
 /// warning is pending. It takes no memory.
 pub fn leave_action(run: &mut Run)
     requires { is_action (reverse run.old.running.frames.items) ≡ true }
-    ensures due { (tables : List Contents) (at : MarkValue → List Contents) → after_action (frames_of at (reverse run.old.running.frames.items)) (machine_of tables at run.old) ≡ machine_of tables at run.new }
+    ensures expected { (tables : List Contents) (at : MarkValue → List Contents) → after_action (frames_of at (reverse run.old.running.frames.items)) (machine_of tables at run.old) ≡ machine_of tables at run.new }
     ensures marks { open_marks run.new ≡ open_marks run.old }
     ensures callers { run.new.callers ≡ run.old.callers }
     ensures bound { run.new.marks ≡ run.old.marks }

@@ -13,7 +13,7 @@ pub enum Ending {
     Raised(Boxed<Condition>),
     /// Where a turn is due and none is left.
     NoTurns,
-    /// Where something isn't there that an instruction names. Code that keeps its rules never comes to it.
+    /// Where something isn't there that an instruction names. Well-formed code is never stuck so.
     Stuck,
 }
 

@@ -48,7 +48,7 @@ pub fn raise<S: Store>(
 ) -> Result<Outcome, AllocError>
     requires well_formed_handlers { HasWellFormedHandlers code.now }
     requires stand { MarksStand (S.holds store.old) (S.marks store.old) run.old }
-    ensures due { IfOk result (λ o. LeadsTo (raised code.now condition (machine_of (S.tables store.old) (S.at store.old) run.old)) o (machine_of (S.tables store.new) (S.at store.new) run.new)) }
+    ensures expected { IfOk result (λ o. LeadsTo (raised code.now condition (machine_of (S.tables store.old) (S.at store.old) run.old)) o (machine_of (S.tables store.new) (S.at store.new) run.new)) }
     ensures stand { MarksStand (S.holds store.new) (S.marks store.new) run.new }
     ensures unwinds { Unwinds (S.holds store.old) (S.at store.old) (S.marks store.old) (S.tables store.old) run.old (S.holds store.new) (S.at store.new) (S.marks store.new) (S.tables store.new) run.new }
 {
@@ -81,7 +81,7 @@ fn ask<S: Store>(
 ) -> Result<Met, AllocError>
     requires well_formed_handlers { HasWellFormedHandlers code.now }
     requires nested { Nested (S.holds store.old) (open_marks run.old) }
-    ensures due { IfOk result (λ met. Meets (λ outside. asked (routine_at code.now run.old.running.routine) condition.now outside (machine_of (S.tables store.old) (S.at store.old) run.old)) met (machine_of (S.tables store.new) (S.at store.new) run.new)) }
+    ensures expected { IfOk result (λ met. Meets (λ outside. asked (routine_at code.now run.old.running.routine) condition.now outside (machine_of (S.tables store.old) (S.at store.old) run.old)) met (machine_of (S.tables store.new) (S.at store.new) run.new)) }
     ensures left { IfOk result (λ met. HasLeft met run.new) }
     ensures callers { run.new.callers ≡ run.old.callers }
     ensures below { run.new.operands.callers ≡ run.old.operands.callers }
@@ -102,7 +102,7 @@ fn ask_in<S: Store>(
 ) -> Result<Met, AllocError>
     requires well_formed_handlers { IsTrue (is_well_formed_table routine.now.handlers) }
     requires nested { Nested (S.holds store.old) (open_marks run.old) }
-    ensures due { IfOk result (λ met. Meets (λ outside. asked (Some routine.now) condition.now outside (machine_of (S.tables store.old) (S.at store.old) run.old)) met (machine_of (S.tables store.new) (S.at store.new) run.new)) }
+    ensures expected { IfOk result (λ met. Meets (λ outside. asked (Some routine.now) condition.now outside (machine_of (S.tables store.old) (S.at store.old) run.old)) met (machine_of (S.tables store.new) (S.at store.new) run.new)) }
     ensures left { IfOk result (λ met. HasLeft met run.new) }
     ensures callers { run.new.callers ≡ run.old.callers }
     ensures below { run.new.operands.callers ≡ run.old.operands.callers }
@@ -141,7 +141,7 @@ fn meet<S: Store>(
     requires well_formed_handlers { IsTrue (is_well_formed_table routine.now.handlers) }
     requires nested { Nested (S.holds store.old) (open_marks run.old) }
     requires entries { run.old.area.entries ≡ condition.now }
-    ensures due { IfOk result (λ met. Meets (λ outside. met_at routine.now place.resume condition.now (choice routine.now.handlers place.context condition.now.first) outside (machine_of (S.tables store.old) (S.at store.old) run.old)) met (machine_of (S.tables store.new) (S.at store.new) run.new)) }
+    ensures expected { IfOk result (λ met. Meets (λ outside. met_at routine.now place.resume condition.now (choice routine.now.handlers place.context condition.now.first) outside (machine_of (S.tables store.old) (S.at store.old) run.old)) met (machine_of (S.tables store.new) (S.at store.new) run.new)) }
     ensures left { IfOk result (λ met. HasLeft met run.new) }
     ensures callers { run.new.callers ≡ run.old.callers }
     ensures below { run.new.operands.callers ≡ run.old.operands.callers }
@@ -165,7 +165,7 @@ fn meet_none<S: Store>(
     condition: &Condition,
 ) -> Met
     requires nested { Nested (S.holds store.old) (open_marks run.old) }
-    ensures due { Meets (λ outside. met_at routine.now resume condition.now None outside (machine_of (S.tables store.old) (S.at store.old) run.old)) result (machine_of (S.tables store.new) (S.at store.new) run.new) }
+    ensures expected { Meets (λ outside. met_at routine.now resume condition.now None outside (machine_of (S.tables store.old) (S.at store.old) run.old)) result (machine_of (S.tables store.new) (S.at store.new) run.new) }
     ensures left { HasLeft result run.new }
     ensures callers { run.new.callers ≡ run.old.callers }
     ensures below { run.new.operands.callers ≡ run.old.operands.callers }
@@ -188,7 +188,7 @@ fn meet_none<S: Store>(
 
 // Goes on after a statement.
 fn pass_over(resume: Option<u32>, run: &mut Run) -> Outcome
-    ensures due { (tables : List Contents) (at : MarkValue → List Contents) → LeadsTo (passed_over resume (machine_of tables at run.old)) result (machine_of tables at run.new) }
+    ensures expected { (tables : List Contents) (at : MarkValue → List Contents) → LeadsTo (passed_over resume (machine_of tables at run.old)) result (machine_of tables at run.new) }
     ensures same { SameFrames run.old run.new }
     ensures below { run.new.operands.callers ≡ run.old.operands.callers }
 {
@@ -214,7 +214,7 @@ fn handle<S: Store>(
 ) -> Result<Outcome, AllocError>
     requires nested { Nested (S.holds store.old) (open_marks run.old) }
     requires entries { run.old.area.entries ≡ condition.now }
-    ensures due { IfOk result (λ o. LeadsTo (chosen routine.now (is_exception (kind_of condition.now.first.state)) resume number (handler_at routine.now number) (machine_of (S.tables store.old) (S.at store.old) run.old)) o (machine_of (S.tables store.new) (S.at store.new) run.new)) }
+    ensures expected { IfOk result (λ o. LeadsTo (chosen routine.now (is_exception (kind_of condition.now.first.state)) resume number (handler_at routine.now number) (machine_of (S.tables store.old) (S.at store.old) run.old)) o (machine_of (S.tables store.new) (S.at store.new) run.new)) }
     ensures callers { run.new.callers ≡ run.old.callers }
     ensures below { run.new.operands.callers ≡ run.old.operands.callers }
     ensures unwinds { Unwinds (S.holds store.old) (S.at store.old) (S.marks store.old) (S.tables store.old) run.old (S.holds store.new) (S.at store.new) (S.marks store.new) (S.tables store.new) run.new }
@@ -247,7 +247,7 @@ fn begin<S: Store>(
 ) -> Result<(), AllocError>
     requires nested { Nested (S.holds store.old) (open_marks run.old) }
     requires entries { run.old.area.entries ≡ condition.now }
-    ensures due { OnOk result (handled routine.now (is_exception (kind_of condition.now.first.state)) resume number handler.now handler.now.kind (machine_of (S.tables store.old) (S.at store.old) run.old) ≡ machine_of (S.tables store.new) (S.at store.new) run.new) }
+    ensures expected { OnOk result (handled routine.now (is_exception (kind_of condition.now.first.state)) resume number handler.now handler.now.kind (machine_of (S.tables store.old) (S.at store.old) run.old) ≡ machine_of (S.tables store.new) (S.at store.new) run.new) }
     ensures callers { run.new.callers ≡ run.old.callers }
     ensures below { run.new.operands.callers ≡ run.old.operands.callers }
     ensures unwinds { Unwinds (S.holds store.old) (S.at store.old) (S.marks store.old) (S.tables store.old) run.old (S.holds store.new) (S.at store.new) (S.marks store.new) (S.tables store.new) run.new }
@@ -276,7 +276,7 @@ fn arrive<S: Store>(
     store: &mut S,
 )
     requires nested { Nested (S.holds store.old) (open_marks run.old) }
-    ensures due { arrived routine.now undo handler.now (machine_of (S.tables store.old) (S.at store.old) run.old) ≡ machine_of (S.tables store.new) (S.at store.new) run.new }
+    ensures expected { arrived routine.now undo handler.now (machine_of (S.tables store.old) (S.at store.old) run.old) ≡ machine_of (S.tables store.new) (S.at store.new) run.new }
     ensures callers { run.new.callers ≡ run.old.callers }
     ensures below { run.new.operands.callers ≡ run.old.operands.callers }
     ensures area { run.new.area ≡ run.old.area }
@@ -295,7 +295,7 @@ fn arrive<S: Store>(
 // Takes back what the innermost block changed, if it is ATOMIC.
 fn take_back<S: Store>(run: &Run, store: &mut S)
     requires { Nested (S.holds store.old) (open_marks run.now) }
-    ensures due { undone (machine_of (S.tables store.old) (S.at store.old) run.now) ≡ machine_of (S.tables store.new) (S.at store.new) run.now }
+    ensures expected { undone (machine_of (S.tables store.old) (S.at store.old) run.now) ≡ machine_of (S.tables store.new) (S.at store.new) run.now }
     ensures unwinds { Unwinds (S.holds store.old) (S.at store.old) (S.marks store.old) (S.tables store.old) run.now (S.holds store.new) (S.at store.new) (S.marks store.new) (S.tables store.new) run.now }
 {
     restore(run.running.frames.as_slice(), store);
@@ -331,7 +331,7 @@ fn act(
     condition: &Condition,
 ) -> Result<(), AllocError>
     requires { run.old.area.entries ≡ condition.now }
-    ensures due { OnOk result ((tables : List Contents) (at : MarkValue → List Contents) → acting number resume handler.now (machine_of tables at run.old) ≡ machine_of tables at run.new) }
+    ensures expected { OnOk result ((tables : List Contents) (at : MarkValue → List Contents) → acting number resume handler.now (machine_of tables at run.old) ≡ machine_of tables at run.new) }
     ensures marks { open_marks run.new ≡ open_marks run.old }
     ensures callers { run.new.callers ≡ run.old.callers }
     ensures below { run.new.operands.callers ≡ run.old.operands.callers }

@@ -54,6 +54,6 @@ out_by to n fault false h e f = refl
 pub out_of_range : (to : SqlType) (n : num.Num) (s : ℕ) (fault : NumFault) → IsType to → s ≡ scale_of to → Err fault ≡ checked (at_scale n s)
     → Err (codes "22003") ≡ stored_number to n
 out_of_range to n s fault h e f =
-    let due : checked (at_scale n (scale_of to)) ≡ Err fault = sym (f ∙ ap (λ s. checked (at_scale n s)) e) in
-    let out : is_in_range to (at_scale n (scale_of to)).coef ≡ false = out_by to n fault (is_in_range to (at_scale n (scale_of to)).coef) h refl due in
+    let expected : checked (at_scale n (scale_of to)) ≡ Err fault = sym (f ∙ ap (λ s. checked (at_scale n s)) e) in
+    let out : is_in_range to (at_scale n (scale_of to)).coef ≡ false = out_by to n fault (is_in_range to (at_scale n (scale_of to)).coef) h refl expected in
     sym (ap (λ b. if b then Ok (Num (at_scale n (scale_of to))) else Err (codes "22003")) out)

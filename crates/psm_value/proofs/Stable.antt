@@ -145,7 +145,7 @@ value_in : Result (Datum × Bool) (List ℕ) → Datum
 value_in (Ok r) = r.0
 value_in (Err state) = Null
 
-cut_by : (to : SqlType) (r s : Datum × Bool) → is_stored to r.0 ≡ true → (let due : Result (Datum × Bool) (List ℕ) = Ok r in due ≡ Ok s) → is_stored to s.0 ≡ true
+cut_by : (to : SqlType) (r s : Datum × Bool) → is_stored to r.0 ≡ true → (let expected : Result (Datum × Bool) (List ℕ) = Ok r in expected ≡ Ok s) → is_stored to s.0 ≡ true
 cut_by to r s k h = let same : r.0 ≡ s.0 = unfold value_in in ap value_in h in ap (is_stored to) (sym same) ∙ k
 
 fetched_by : (to : SqlType) (n : num.Num) (e : Datum) (lost : Bool) (r : Result Datum (List ℕ)) → stored_number to n ≡ r → unlost r ≡ Ok (e, lost) → is_stored to e ≡ true
@@ -157,8 +157,8 @@ fetched_by to n e lost (Err state) q h = absurd (cc)
 pub fetched-as_stored : (to : SqlType) (d e : Datum) (lost : Bool) → fetched to d ≡ Ok (e, lost) → is_stored to e ≡ true
 fetched-as_stored to Null e lost h = let same : Null ≡ e = unfold value_in in ap value_in h in ap (is_stored to) (sym same)
 fetched-as_stored to (Num n) e lost h = fetched_by to n e lost (stored_number to n) refl h
-fetched-as_stored (Char n) (Text t) e lost h = let cut : Datum × Bool = (Text (padded n (take n t)), nat_lt n (length t)) in let due : Datum × Bool = (e, lost) in cut_by (Char n) cut due (char-length n t) h
-fetched-as_stored (VarChar n) (Text t) e lost h = let cut : Datum × Bool = (Text (take n t), nat_lt n (length t)) in let due : Datum × Bool = (e, lost) in cut_by (VarChar n) cut due (varchar-length n t) h
+fetched-as_stored (Char n) (Text t) e lost h = let cut : Datum × Bool = (Text (padded n (take n t)), nat_lt n (length t)) in let expected : Datum × Bool = (e, lost) in cut_by (Char n) cut expected (char-length n t) h
+fetched-as_stored (VarChar n) (Text t) e lost h = let cut : Datum × Bool = (Text (take n t), nat_lt n (length t)) in let expected : Datum × Bool = (e, lost) in cut_by (VarChar n) cut expected (varchar-length n t) h
 fetched-as_stored SmallInt (Text t) e lost h = absurd (cc)
 fetched-as_stored Integer (Text t) e lost h = absurd (cc)
 fetched-as_stored (Numeric p s) (Text t) e lost h = absurd (cc)

@@ -8,7 +8,7 @@ use Rattle.psm_value.specs.declared.datum.Datum.TheVariants.{Text}
 use Rattle.psm_value.specs.declared.fault.ValueFault.{ValueFault}
 use Rattle.psm_value.specs.declared.fault.ValueFault.TheVariants.{Condition, Memory}
 
--- the SQLSTATE of the condition; out of memory is none, and is due nowhere
+-- the SQLSTATE of the condition; out of memory is none, and is expected nowhere
 abbrev pub state_of : TextFault → SqlState
 state_of texts.TooLong = codes "22001"
 state_of texts.Substring = codes "22011"

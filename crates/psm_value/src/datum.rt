@@ -60,7 +60,7 @@ fn print_text(characters: &[char], out: &mut Vec<u8>) -> Result<(), AllocError>
     printed
 }
 
-// After a refusal a part of what is due stands after what stood there before.
+// After a refusal a part of what is expected stands after what stood there before.
 fn print_quoted(characters: &[char], out: &mut Vec<u8>) -> Result<(), AllocError>
     ensures ok { OnOk result (out.new.items ≡ out.old.items ++ quoted characters.now) }
     ensures err { OnErr result (take (vec_len out.old) out.new.items ≡ out.old.items) }

@@ -33,7 +33,7 @@ pub fn store_into(alloc: Global, to: SqlType, value: &Datum) -> Result<Datum, Va
 }
 
 /// The value as it is fetched into the type (ISO/IEC 9075:1992, 9.1): as [`store_into`], but a long text is
-/// cut without a condition. The flag tells that a character was lost, blank or not.
+/// cut without a condition. The flag says that a character was lost, blank or not.
 pub fn fetch_into(alloc: Global, to: SqlType, value: &Datum) -> Result<(Datum, bool), ValueFault>
     requires { IsType to }
     ensures { Gives (fetched to value.now) result }

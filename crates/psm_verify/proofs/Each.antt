@@ -31,7 +31,7 @@ map_next f xs at a l e = ap (map f) (rest_of xs at a l e)
 pub flat_next : {A B : Type 0} (f : A → List B) (xs : List A) (at : ℕ) (a : A) → at < length xs → a ≡ get_or xs at a → flat_map f (drop at xs) ≡ f a ++ flat_map f (drop (at + 1) xs)
 flat_next f xs at a l e = ap (flat_map f) (rest_of xs at a l e)
 
--- ---- what is found in them, where it is found in all what is found in those from a place on
+-- ---- what is found in them, where it is found in all what is found in those from an index on
 
 module _ {A : Type 0} (xs ys : List A) (at : ℕ) (a : A) (n k : ℕ) where
   here : ys ≡ xs → at < length ys → at < length xs

@@ -29,7 +29,7 @@ use Rattle.psm_keys.specs.Handled.{are_all_new, handled_by}
 use Rattle.psm_keys.proofs.Apart.{all_apart}
 use Rattle.psm_keys.proofs.Distinct.{new_number}
 use Rattle.psm_verify.specs.Checked.{checked, item_at, item_in}
-use Rattle.psm_verify.specs.Earlier.{are_new_values, at_place, is_new_column, is_new_parameter, is_new_routine, is_new_set, is_new_table}
+use Rattle.psm_verify.specs.Earlier.{are_new_values, at_index, is_new_column, is_new_parameter, is_new_routine, is_new_set, is_new_table}
 use Rattle.psm_verify.proofs.Each.{after_go, before_next}
 use Rattle.psm_verify.proofs.Placing.{is_at}
 use Rattle.psm_verify.proofs.NewValues.{new_values}
@@ -115,7 +115,7 @@ module _ {A : Type 0} (xs : List A) (at : ℕ) (x : A) (here : slice_get xs at �
     pub new_here : b ≡ is_new same (key x) (map key (take at xs))
     new_here = answer ∙ ap (is_new same (key x)) added
 
-    pub new_there : b ≡ at_place (λ before a. is_new same (key a) (map key before)) xs at
+    pub new_there : b ≡ at_index (λ before a. is_new same (key a) (map key before)) xs at
     new_there = new_here ∙ sym (ap (λ o. where_there o (λ a. is_new same (key a) (map key (take at xs)))) here)
 
     -- and the set after it
@@ -146,7 +146,7 @@ module _ (hs : List Handler) (at : ℕ) (x : Handler) (here : slice_get hs at �
   new_value_here : b ≡ are_new_values (take at hs) x
   new_value_here = answer ∙ ap (λ l. are_all_new l (handled_by x)) added
 
-  pub new_values_there : b ≡ at_place are_new_values hs at
+  pub new_values_there : b ≡ at_index are_new_values hs at
   new_values_there = new_value_here ∙ sym (ap (λ o. where_there o (are_new_values (take at hs))) here)
 
   pub handlers_step : (r : RawRoutine) (n k m : ℕ) (qs : List (ℕ × ConditionValue)) → checked n (each_after (rules.handler_fault r) [] hs) ≡ checked k (each_after (rules.handler_fault r) (take at hs) (drop at hs))

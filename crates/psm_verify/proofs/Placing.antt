@@ -1,4 +1,4 @@
--- The lines of an expression by their places.
+-- The lines of an expression by their indexes.
 use Rattle.std.proofs.Common.{◌≡◌, ℕ, zero, suc, ◌+◌, ◌<◌, Bool, true, false, ◌&&◌, ◌||◌, List, [], ◌∷◌, length, drop, refl, ap, sym, ◌∙◌, arith, Option, Some, None, Ok}
 use Rattle.std.specs.Prelude.{if◌then◌else◌, reverse, slice_get}
 use Rattle.std.proofs.Math.Seq.{drop-cons}
@@ -18,7 +18,7 @@ use Rattle.psm_verify.specs.declared.placed.EndTest.{EndTest}
 use Rattle.psm_verify.specs.Checked.{checked}
 use Rattle.psm_verify.specs.Placed.{is_due_end, end_at, end_over, fault_at, fault_of_line, test_of}
 
--- ---- lists from a place on
+-- ---- lists from an index on
 
 pub rest_at : {A : Type 0} (xs : List A) (at : ℕ) (x : A) → slice_get xs at ≡ Some x → drop at xs ≡ x ∷ drop (at + 1) xs
 rest_at xs at x h =
@@ -38,7 +38,7 @@ some_letter_is f g h = ap (λ b. b || (f T || f B)) (h N) ∙ ap (λ b. g N || (
 pub some_value_is : (f g : Letter → Bool) → ((x : Letter) → f x ≡ g x) → some_value f ≡ some_value g
 some_value_is f g h = ap (λ b. b || f T) (h N) ∙ ap (λ b. g N || b) (h T)
 
--- the first of the lines from a place on, and those after it
+-- the first of the lines from an index on, and those after it
 pub end_next : (columns variables : List Letter) (test : EndTest) (lines : List Line) (at : ℕ) → at < length lines
     → at_ends (test_of columns variables lines test) (length lines) at (drop at lines) ≡ (end_at columns variables lines test at && at_ends (test_of columns variables lines test) (length lines) (at + 1) (drop (at + 1) lines))
 end_next columns variables test lines at g =

@@ -17,7 +17,7 @@ Finds due (Ok n) = due ≡ Ok n
 Finds due (Err (Fault f)) = due ≡ Err f
 Finds due (Err Memory) = Unit {0}
 
--- the lines of the item at a place, which sees those before it
+-- the lines of the item at an index, which sees those before it
 abbrev pub item_in : {A B : Type 0} → (List A → A → List B) → List A → Option A → List B
 item_in f before None = []
 item_in f before (Some x) = f before x

@@ -30,6 +30,6 @@ is_new_routine before r = is_new is_same_signature (signature_of r) (map signatu
 abbrev pub are_new_values : List Handler → Handler → Bool
 are_new_values before h = are_all_new (flat_map handled_by before) (handled_by h)
 
--- the same of the item at a place, if there is one
-abbrev pub at_place : {A : Type 0} → (List A → A → Bool) → List A → ℕ → Bool
-at_place f xs at = where_there (slice_get xs at) (f (take at xs))
+-- the same of the item at an index, if there is one
+abbrev pub at_index : {A : Type 0} → (List A → A → Bool) → List A → ℕ → Bool
+at_index f xs at = where_there (slice_get xs at) (f (take at xs))

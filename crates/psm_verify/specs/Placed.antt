@@ -1,4 +1,4 @@
--- What is said of the lines of an expression by their places.
+-- What is said of the lines of an expression by their indexes.
 use Rattle.std.specs.Prelude.{ℕ, Bool, false, ◌&&◌, ◌||◌, not, nat_lt, List, [], ◌∷◌, length, reverse, slice_get, Option, Some, None}
 use Rattle.psm_exprcode.specs.declared.op.Letter.{Letter}
 use Rattle.psm_exprcode.specs.declared.op.Line.{Line}
@@ -44,7 +44,7 @@ test_of columns variables lines (Brings k) = operands_follow columns variables (
 abbrev pub end_over : List Letter → List Letter → List Line → EndTest → ℕ → Op → List Letter → Bool
 end_over columns variables lines test at o s = not (reaches_end (length lines) at o) || test_of columns variables lines test at o s
 
--- ---- what is said of the line at a place, if it is there
+-- ---- what is said of the line at an index, if it is there
 
 abbrev pub end_at : List Letter → List Letter → List Line → EndTest → ℕ → Bool
 end_at columns variables lines test at = where_there (slice_get lines at) (λ l. end_over columns variables lines test at l.op (reverse l.stack))

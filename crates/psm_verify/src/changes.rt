@@ -8,7 +8,7 @@ ghost use Rattle.psm_code.specs.PlanRules as plans;
 ghost use Rattle.psm_code.specs.TableRules as tables;
 ghost use Rattle.psm_code.specs.declared.code.Plan.TheVariants.{InsertQuery};
 ghost use Rattle.psm_verify.specs.Checked.{Finds, checked, item_at};
-ghost use Rattle.psm_verify.specs.Earlier.{at_place, is_new_set};
+ghost use Rattle.psm_verify.specs.Earlier.{at_index, is_new_set};
 ghost use Rattle.psm_verify.specs.Placed.{due_of};
 ghost use Rattle.psm_verify.specs.VerifyContext.{fits_column};
 
@@ -93,7 +93,7 @@ impl<'a> VerifyContext<'a> {
         at: usize,
         is_new: bool,
     ) -> Result<u64, Stop>
-        requires { is_new ≡ at_place is_new_set sets.now at }
+        requires { is_new ≡ at_index is_new_set sets.now at }
         ensures { Finds (checked line (item_at (plans.set_faults self.now.code.now self.now.routine.now table) sets.now at)) result }
     {
         match sets.get(at) {

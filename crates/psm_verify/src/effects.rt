@@ -101,13 +101,13 @@ fn is_run_stated(put: Run<'_>, below: &[Letter], stated: &[Letter]) -> bool
 fn lands(
     alloc: Global,
     routine: &RawRoutine,
-    place: usize,
+    index: usize,
     put: Run<'_>,
     rest: &[Letter],
 ) -> Result<bool, AllocError>
-    ensures { IfOk result (λ b. b ≡ is_stated (line_at routine.now place) (run_of put.entry ++ rest.now)) }
+    ensures { IfOk result (λ b. b ≡ is_stated (line_at routine.now index) (run_of put.entry ++ rest.now)) }
 {
-    match operands_at(alloc, &routine.lines, place)? {
+    match operands_at(alloc, &routine.lines, index)? {
         Some(stated) => Ok(is_run_stated(put, rest, stated.as_slice())),
         None => Ok(true),
     }
@@ -139,7 +139,7 @@ fn branches(
     ensures { IfOk result (λ b. b ≡ stated_branch routine.now (branch_of jump.entry) rest.now) }
 {
     match jump {
-        Some((place, put)) => lands(alloc, routine, place as usize, put, rest),
+        Some((index, put)) => lands(alloc, routine, index as usize, put, rest),
         None => Ok(true),
     }
 }

@@ -6,7 +6,7 @@ ghost use Rattle.psm_code.specs.Parts as parts;
 ghost use Rattle.psm_code.specs.Rules as rules;
 ghost use Rattle.psm_code.specs.RoutineRules as routines;
 ghost use Rattle.psm_verify.specs.Checked.{Finds, checked, item_at};
-ghost use Rattle.psm_verify.specs.Earlier.{are_new_values, at_place};
+ghost use Rattle.psm_verify.specs.Earlier.{are_new_values, at_index};
 
 use crate::fault::Stop;
 use crate::handlers::{is_condition, line_there};
@@ -39,7 +39,7 @@ fn handler_at(
     at: usize,
     are_new: bool,
 ) -> Result<u64, Stop>
-    requires { are_new ≡ at_place are_new_values routine.now.handlers.handlers at }
+    requires { are_new ≡ at_index are_new_values routine.now.handlers.handlers at }
     ensures { Finds (checked line (item_at (routines.handler_fault routine.now) routine.now.handlers.handlers at)) result }
 {
     let handlers = routine.handlers.handlers();

@@ -33,10 +33,10 @@ fn row_of_plan(
     match plan {
         Plan::Insert {
             table,
-            columns: places,
+            columns: indexes,
             ..
         } => match columns.get(*table as usize) {
-            Some(letters) => row_letters(alloc, letters.items(), places.items()),
+            Some(letters) => row_letters(alloc, letters.items(), indexes.items()),
             None => Ok(None),
         },
         _ => Ok(None),

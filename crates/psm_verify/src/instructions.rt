@@ -259,7 +259,7 @@ fn few_branch(jump: Option<(u32, Letters)>) -> Option<(u32, Run<'static>)>
     ensures { branch_of result ≡ option_map jump_of jump }
 {
     match jump {
-        Some((place, letters)) => Some((place, Run::Few(letters))),
+        Some((index, letters)) => Some((index, Run::Few(letters))),
         None => None,
     }
 }

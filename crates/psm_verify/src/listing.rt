@@ -25,7 +25,7 @@ pub(crate) fn passed(line: u64, fault: Option<CodeRule>) -> Result<u64, Stop>
     }
 }
 
-/// The number of the line after so many that break no rule.
+/// The number of the line that follows `count` lines which break no rule.
 pub(crate) fn skip(line: u64, count: usize) -> Result<u64, Stop>
     ensures { Finds (Ok (line + count)) result }
 {

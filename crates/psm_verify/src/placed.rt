@@ -29,7 +29,7 @@ pub(crate) enum EndTest {
     Brings(Letter),
 }
 
-/// The operands that the line at a place states, the last one first.
+/// The operands that the line at an index states, the last one first.
 pub(crate) fn stated_at(
     alloc: Global,
     lines: &RawExpr,
@@ -56,18 +56,18 @@ pub(crate) struct Placed<'a> {
 }
 
 impl<'a> Placed<'a> {
-    // Whether the letters are those that the line at a place states, or at the end the one that is asked for.
+    // Whether the letters are those that the line at an index states, or at the end the one that is asked for.
     fn lands(
         &self,
         alloc: Global,
         end: Option<Letter>,
-        place: usize,
+        index: usize,
         puts: Letters,
         rest: &[Letter],
     ) -> Result<bool, AllocError>
-        ensures { IfOk result (λ b. b ≡ rules.are_stated_at end (slice_get self.now.lines.now place) (letters_of puts ++ rest.now)) }
+        ensures { IfOk result (λ b. b ≡ rules.are_stated_at end (slice_get self.now.lines.now index) (letters_of puts ++ rest.now)) }
     {
-        match stated_at(alloc, self.lines, place)? {
+        match stated_at(alloc, self.lines, index)? {
             Some(stated) => Ok(are_stated(puts, rest, stated.as_slice())),
             None => Ok(is_asked(end, puts, rest)),
         }
@@ -101,12 +101,12 @@ impl<'a> Placed<'a> {
         ensures { IfOk result (λ b. b ≡ rules.jumps_on end self.now.lines.now (option_map jump_of jump) rest.now) }
     {
         match jump {
-            Some((place, puts)) => self.lands(alloc, end, place as usize, puts, rest),
+            Some((index, puts)) => self.lands(alloc, end, index as usize, puts, rest),
             None => Ok(true),
         }
     }
 
-    // Whether an operation at a place finds what it takes, and brings what is stated wherever it goes on.
+    // Whether an operation at an index finds what it takes, and brings what is stated wherever it goes on.
     fn leads(
         &self,
         alloc: Global,
@@ -189,13 +189,13 @@ impl<'a> Placed<'a> {
         ensures { result ≡ is_of_known self.now.columns.now self.now.variables.now op.now kind }
     {
         match op {
-            Op::Variable(place) => is_known(kind, self.variables, *place as usize),
-            Op::Column(place) => is_known(kind, self.columns, *place as usize),
+            Op::Variable(index) => is_known(kind, self.variables, *index as usize),
+            Op::Column(index) => is_known(kind, self.columns, *index as usize),
             _ => true,
         }
     }
 
-    // Whether the operands of an operation at a place follow.
+    // Whether the operands of an operation at an index follow.
     fn follow(
         &self,
         alloc: Global,
@@ -216,7 +216,7 @@ impl<'a> Placed<'a> {
         self.follows_for(alloc, end, at, op, Letter::T, stack)
     }
 
-    // The rule that the operation breaks at a place over these operands, whatever it brings at the end.
+    // The rule that the operation breaks at an index over these operands, whatever it brings at the end.
     fn op_fault(
         &self,
         alloc: Global,
@@ -264,13 +264,13 @@ impl<'a> Placed<'a> {
         ensures { result ≡ rules.names_there self.now.columns.now self.now.variables.now op.now }
     {
         match op {
-            Op::Variable(place) => (*place as usize) < self.variables.len(),
-            Op::Column(place) => (*place as usize) < self.columns.len(),
+            Op::Variable(index) => (*index as usize) < self.variables.len(),
+            Op::Column(index) => (*index as usize) < self.columns.len(),
             _ => true,
         }
     }
 
-    // The rule that the line at a place breaks by itself, if any.
+    // The rule that the line at an index breaks by itself, if any.
     fn fault(&self, alloc: Global, at: usize) -> Result<Option<CodeRule>, AllocError>
         requires { at < length self.now.lines.now }
         ensures { IfOk result (λ fault. fault ≡ fault_at self.now.columns.now self.now.variables.now self.now.lines.now at) }
@@ -293,7 +293,7 @@ impl<'a> Placed<'a> {
         Ok(line)
     }
 
-    // Whether the test holds of an operation at a place over these operands.
+    // Whether the test holds of an operation at an index over these operands.
     fn passes(
         &self,
         alloc: Global,
@@ -334,7 +334,7 @@ impl<'a> Placed<'a> {
         }
     }
 
-    // The same of the line at a place.
+    // The same of the line at an index.
     fn passes_at(&self, alloc: Global, test: EndTest, at: usize) -> Result<bool, AllocError>
         requires { at < length self.now.lines.now }
         ensures { IfOk result (λ b. b ≡ end_at self.now.columns.now self.now.variables.now self.now.lines.now test at) }
@@ -395,7 +395,7 @@ fn target_of(op: &Op) -> Option<u32>
     ensures { result ≡ rules.target_of op.now }
 {
     match op {
-        Op::Jump(place) | Op::JumpUnlessTrue(place) | Op::JumpUnlessNull(place) => Some(*place),
+        Op::Jump(index) | Op::JumpUnlessTrue(index) | Op::JumpUnlessNull(index) => Some(*index),
         _ => None,
     }
 }
@@ -404,7 +404,7 @@ fn is_within(target: Option<u32>, count: usize) -> bool
     ensures { result ≡ where_there target (λ p. nat_le p count) }
 {
     match target {
-        Some(place) => place as usize <= count,
+        Some(index) => index as usize <= count,
         None => true,
     }
 }
@@ -413,7 +413,7 @@ fn is_ahead(at: usize, target: Option<u32>) -> bool
     ensures { result ≡ where_there target (nat_lt at) }
 {
     match target {
-        Some(place) => at < place as usize,
+        Some(index) => at < index as usize,
         None => true,
     }
 }
@@ -425,7 +425,7 @@ fn is_bare_first(at: usize, stack: &[Letter]) -> bool
     at != 0 || are_same(&[], stack)
 }
 
-// Whether an operation at a place of n lines goes on at their end.
+// Whether an operation at an index of n lines goes on at their end.
 fn reaches_end(count: usize, at: usize, op: &Op) -> bool
     requires { at < count }
     ensures { result ≡ rules.reaches_end count at op.now }
@@ -443,7 +443,7 @@ fn is_at(count: usize, target: Option<u32>) -> bool
     ensures { result ≡ rules.is_at count target }
 {
     match target {
-        Some(place) => place as usize == count,
+        Some(index) => index as usize == count,
         None => false,
     }
 }

@@ -16,7 +16,7 @@ use psm_list::List;
 use psm_table::{ForeignKey, TableDef};
 use std::alloc::{AllocError, Global};
 
-/// Whether the constraints stand in the order of the referencing tables, of which there are so many.
+/// Whether the constraints stand in the order of the `count` referencing tables.
 pub(crate) fn are_in_turn(keys: &[ForeignKey], count: usize) -> bool
     ensures { result ≡ rules.are_in_turn 0 count keys.now }
 {
@@ -91,20 +91,20 @@ fn foreign_key_fault(
 fn table_of<'a>(before: &'a [CodeTable], table: &'a CodeTable, number: u32) -> Option<&'a CodeTable>
     ensures { option_copied result ≡ slice_get (before.now ++ table.now ∷ []) number }
 {
-    let place = number as usize;
-    if place < before.len() {
-        table_at(before, place)
-    } else if place <= before.len() {
+    let index = number as usize;
+    if index < before.len() {
+        table_at(before, index)
+    } else if index <= before.len() {
         Some(table)
     } else {
         None
     }
 }
 
-fn table_at(tables: &[CodeTable], place: usize) -> Option<&CodeTable>
-    ensures { option_copied result ≡ slice_get tables.now place }
+fn table_at(tables: &[CodeTable], index: usize) -> Option<&CodeTable>
+    ensures { option_copied result ≡ slice_get tables.now index }
 {
-    tables.get(place)
+    tables.get(index)
 }
 
 fn pair_fault(
@@ -141,15 +141,15 @@ fn all_pair_up(from: &TableDef, to: &TableDef, columns: &[u32], target: &[u32]) 
     columns
         .iter()
         .zip(target)
-        .all(|(column, place)| pairs_up(from, to, *column, *place))
+        .all(|(column, index)| pairs_up(from, to, *column, *index))
 }
 
-fn pairs_up(from: &TableDef, to: &TableDef, column: u32, place: u32) -> bool
-    ensures { result ≡ rules.pairs_up from.now to.now (column, place) }
+fn pairs_up(from: &TableDef, to: &TableDef, column: u32, index: u32) -> bool
+    ensures { result ≡ rules.pairs_up from.now to.now (column, index) }
 {
     match from.columns.items().get(column as usize) {
         Some(c) => {
-            match to.columns.items().get(place as usize) {
+            match to.columns.items().get(index as usize) {
                 Some(d) => Letter::of_type(c.kind) == Letter::of_type(d.kind),
                 None => true,
             }
@@ -158,15 +158,15 @@ fn pairs_up(from: &TableDef, to: &TableDef, column: u32, place: u32) -> bool
     }
 }
 
-// Whether the places are those of the key, or of a UNIQUE list, in order.
-fn is_one_of_keys(def: &TableDef, places: &[u32]) -> bool
-    ensures { result ≡ rules.is_one_of_keys def.now places.now }
+// Whether the indexes are those of the key, or of a UNIQUE list, in order.
+fn is_one_of_keys(def: &TableDef, indexes: &[u32]) -> bool
+    ensures { result ≡ rules.is_one_of_keys def.now indexes.now }
 {
-    places == def.key.items() || is_one_of(def.unique.items(), places)
+    indexes == def.key.items() || is_one_of(def.unique.items(), indexes)
 }
 
-fn is_one_of(lists: &[List<u32>], places: &[u32]) -> bool
-    ensures { result ≡ list_any (pointwise nat_eq places.now) lists.now }
+fn is_one_of(lists: &[List<u32>], indexes: &[u32]) -> bool
+    ensures { result ≡ list_any (pointwise nat_eq indexes.now) lists.now }
 {
-    lists.iter().any(|list| places == list.items())
+    lists.iter().any(|list| indexes == list.items())
 }

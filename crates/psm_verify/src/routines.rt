@@ -15,7 +15,7 @@ use psm_keys::NameSet;
 use psm_value::SqlType;
 use std::alloc::Global;
 
-/// The rule that the line of a routine breaks, if any, where it is known whether it can be told from those before it.
+/// The rule that the line of a routine breaks, if any, where it is known whether it can be distinguished from those before it.
 #[tactic(auto, using(psm_keys::proofs::Apart::all_apart))]
 pub(crate) fn routine_fault(
     is_apart: bool,

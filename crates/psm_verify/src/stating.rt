@@ -41,7 +41,7 @@ impl<'a> VerifyContext<'a> {
         Ok(line)
     }
 
-    // The rule that the line at a place breaks, if any.
+    // The rule that the line at an index breaks, if any.
     fn line_fault(&self, alloc: Global, at: usize) -> Result<Option<CodeRule>, AllocError>
         requires { at < length self.now.routine.now.lines }
         ensures { IfOk result (λ fault. fault ≡ code_line_fault_at self.now.code.now self.now.routine.now at) }

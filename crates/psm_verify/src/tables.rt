@@ -9,7 +9,7 @@ ghost use Rattle.psm_code.specs.Instructions.{column_letters};
 ghost use Rattle.psm_code.specs.Rules.{each_after};
 ghost use Rattle.psm_code.specs.TableRules as rules;
 ghost use Rattle.psm_verify.specs.Checked.{Finds, checked, item_at};
-ghost use Rattle.psm_verify.specs.Earlier.{at_place, is_new_column, is_new_table};
+ghost use Rattle.psm_verify.specs.Earlier.{at_index, is_new_column, is_new_table};
 
 use crate::expressions::{Due, expression};
 use crate::fault::Stop;
@@ -60,7 +60,7 @@ fn table_at(
     is_new: bool,
 ) -> Result<u64, Stop>
     requires letters { letters.now ≡ map column_letters tables.now }
-    requires new { is_new ≡ at_place is_new_table tables.now at }
+    requires new { is_new ≡ at_index is_new_table tables.now at }
     ensures { Finds (checked line (item_at (rules.faults_of_table own.now) tables.now at)) result }
 {
     match (tables.get(at), letters.get(at)) {
@@ -175,26 +175,26 @@ fn key_fault(alloc: Global, def: &TableDef) -> Result<Option<CodeRule>, AllocErr
 }
 
 /// Whether they are some columns, and none of them twice.
-pub(crate) fn is_column_list(alloc: Global, places: &[u32]) -> Result<bool, AllocError>
-    ensures { IfOk result (λ b. b ≡ rules.is_column_list places.now) }
+pub(crate) fn is_column_list(alloc: Global, indexes: &[u32]) -> Result<bool, AllocError>
+    ensures { IfOk result (λ b. b ≡ rules.is_column_list indexes.now) }
 {
-    if places.is_empty() {
+    if indexes.is_empty() {
         Ok(false)
     } else {
-        are_distinct(alloc, places)
+        are_distinct(alloc, indexes)
     }
 }
 
-fn refuse_null(columns: &[Column], places: &[u32]) -> bool
-    ensures { result ≡ list_all (rules.refuses_null columns.now) places.now }
+fn refuse_null(columns: &[Column], indexes: &[u32]) -> bool
+    ensures { result ≡ list_all (rules.refuses_null columns.now) indexes.now }
 {
-    places.iter().all(|place| refuses_null(columns, *place))
+    indexes.iter().all(|index| refuses_null(columns, *index))
 }
 
-fn refuses_null(columns: &[Column], place: u32) -> bool
-    ensures { result ≡ rules.refuses_null columns.now place }
+fn refuses_null(columns: &[Column], index: u32) -> bool
+    ensures { result ≡ rules.refuses_null columns.now index }
 {
-    match columns.get(place as usize) {
+    match columns.get(index as usize) {
         Some(column) => column.not_null,
         None => true,
     }
@@ -205,8 +205,8 @@ fn uniques(alloc: Global, line: u64, def: &TableDef) -> Result<u64, Stop>
     ensures { Finds (checked line (map (rules.unique_fault def.now) def.now.unique)) result }
 {
     let mut line = line;
-    for places in def.unique.items() {
-        line = passed(line, unique_fault(alloc, def, places.items())?)?;
+    for indexes in def.unique.items() {
+        line = passed(line, unique_fault(alloc, def, indexes.items())?)?;
     }
     Ok(line)
 }
@@ -214,14 +214,14 @@ fn uniques(alloc: Global, line: u64, def: &TableDef) -> Result<u64, Stop>
 fn unique_fault(
     alloc: Global,
     def: &TableDef,
-    places: &[u32],
+    indexes: &[u32],
 ) -> Result<Option<CodeRule>, AllocError>
-    ensures { IfOk result (λ fault. fault ≡ rules.unique_fault def.now places.now) }
+    ensures { IfOk result (λ fault. fault ≡ rules.unique_fault def.now indexes.now) }
 {
-    if !are_there(def.columns.items(), places) {
+    if !are_there(def.columns.items(), indexes) {
         return Ok(Some(CodeRule::Range));
     }
-    if is_column_list(alloc, places)? {
+    if is_column_list(alloc, indexes)? {
         Ok(None)
     } else {
         Ok(Some(CodeRule::Definition))

@@ -6,7 +6,7 @@ ghost use Rattle.psm_code.specs.Rules.{each_after, unless};
 ghost use Rattle.psm_code.specs.RoutineRules.{code_faults, routine_faults};
 ghost use Rattle.psm_verify.specs.Called.{call_of};
 ghost use Rattle.psm_verify.specs.Checked.{Finds, checked, item_at};
-ghost use Rattle.psm_verify.specs.Earlier.{at_place, is_new_routine};
+ghost use Rattle.psm_verify.specs.Earlier.{at_index, is_new_routine};
 ghost use Rattle.psm_verify.specs.VerifyContext.{letters_with};
 ghost use Rattle.psm_verify.specs.Verified.{Verifies};
 ghost use Rattle.psm_code.specs.TableRules as rules;
@@ -26,7 +26,7 @@ use psm_list::List;
 use std::alloc::{AllocError, Global};
 
 /// The code as code that keeps its rules, or the first line of its listing that breaks one, and which: a line that breaks several is
-/// told by the rule that comes first in [`psm_code::CodeRule`]. Out of memory is the one other answer.
+/// reported by the rule that comes first in [`psm_code::CodeRule`]. Out of memory is the one other answer.
 ///
 /// It reads the listing a few times at most. What may not stand twice is found by maps.
 pub fn verified(alloc: Global, code: RawCode) -> Result<Result<Code, CodeFault>, AllocError>
@@ -97,7 +97,7 @@ fn routine_at(
 ) -> Result<u64, Stop>
     requires letters { letters.now ≡ map column_letters code.now.tables }
     requires calls { calls.now ≡ map call_of code.now.routines }
-    requires apart { is_apart ≡ at_place is_new_routine code.now.routines at }
+    requires apart { is_apart ≡ at_index is_new_routine code.now.routines at }
     ensures { Finds (checked line (item_at (routine_faults code.now) code.now.routines at)) result }
 {
     let routines = code.routines.items();

@@ -6,7 +6,7 @@ ghost use Rattle.psm_exprcode.specs.WellFormed.{is_known as is_of_known, left_of
 
 use psm_exprcode::{Letter, Letters};
 
-/// Whether the letter stands at that place.
+/// Whether the letter stands at that index.
 pub fn is_known(letter: Letter, letters: &[Letter], place: usize) -> bool
     ensures { result ≡ is_of_known letter (slice_get letters.now place) }
 {

@@ -8,7 +8,7 @@ use Rattle.psm_words.specs.Reading.{◌>>=◌, after, number_at, closed_number, 
 use Rattle.psm_words.proofs.NumberLaws.{number_again, number_takes}
 use Rattle.psm_words.proofs.Several.{bind_some, some_is, after_takes}
 
--- two numbers, each with a byte behind it
+-- two numbers, each with a byte after it
 regroup : (a b : List ℕ) (c d : ℕ) (rest : List ℕ) → (((a ++ c ∷ []) ++ b) ++ d ∷ []) ++ rest ≡ a ++ (c ∷ (b ++ (d ∷ rest)))
 regroup a b c d rest = append_assoc ((a ++ c ∷ []) ++ b) (d ∷ []) rest ∙ append_assoc (a ++ c ∷ []) b (d ∷ rest) ∙ append_assoc a (c ∷ []) (b ++ (d ∷ rest))
 

@@ -16,7 +16,7 @@ pub fn answer(alloc: Global, line: &str) -> Result<String, AllocError> {
     match answered(alloc, line) {
         Ok(text) => Ok(text),
         Err(Fault::Memory) => Err(AllocError),
-        Err(fault) => fault.told(alloc),
+        Err(fault) => fault.reported(alloc),
     }
 }
 

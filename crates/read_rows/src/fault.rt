@@ -40,7 +40,7 @@ impl Fault {
     }
 
     /// Where it is wrong, and what.
-    pub fn told(self, alloc: Global) -> Result<String, AllocError> {
+    pub fn reported(self, alloc: Global) -> Result<String, AllocError> {
         match self.place() {
             None => String::from_str(alloc, self.text()),
             Some(Place { line, column }) => format!(in alloc; "{line}:{column} {}", self.text()),

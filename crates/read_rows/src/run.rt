@@ -20,20 +20,20 @@ pub fn run(alloc: Global, list: &TokenList, part: Part, row: Row<'_>) -> Result<
     match part {
         Part::Expression => {
             let (expr, following) = parse_expr(alloc, list, at, row.depth)?;
-            told(alloc, form::expression(expr.get()), following)
+            reported(alloc, form::expression(expr.get()), following)
         }
         Part::Picks => {
             let (picks, following) = parse_picks(alloc, list, at, row.depth)?;
-            told(alloc, form::picks(&picks), following)
+            reported(alloc, form::picks(&picks), following)
         }
         Part::Target => {
             let (target, following) = parse_target(alloc, list, at, row.depth)?;
-            told(alloc, form::name(&target), following)
+            reported(alloc, form::name(&target), following)
         }
         Part::DataType => data_type(alloc, list, at, row.depth),
         Part::Statement => {
             let (statement, following) = parse_stmt(alloc, list, at, row.depth)?;
-            told(alloc, form::statement(statement.get()), following)
+            reported(alloc, form::statement(statement.get()), following)
         }
     }
 }
@@ -44,11 +44,11 @@ fn data_type(alloc: Global, list: &TokenList, at: usize, depth: u32) -> Result<S
     requires shallow { depth ≤ 100 }
 {
     match parse_type(alloc, list, at, depth) {
-        Ok((kind, following)) => told(alloc, form::data_type(&kind), following),
+        Ok((kind, following)) => reported(alloc, form::data_type(&kind), following),
         Err(fault) => Err(fault.into()),
     }
 }
 
-fn told(alloc: Global, form: &str, following: usize) -> Result<String, Fault> {
+fn reported(alloc: Global, form: &str, following: usize) -> Result<String, Fault> {
     Ok(format!(in alloc; "ok {form} to {following}")?)
 }

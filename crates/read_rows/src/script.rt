@@ -10,14 +10,14 @@ use std::alloc::{AllocError, Global};
 /// The commands of a script: a CALL with the number of its arguments, an INSERT with those of its columns and rows.
 pub fn script(alloc: Global, list: &TokenList) -> Result<String, Fault> {
     let script = parse_script(alloc, list)?;
-    let mut told = String::from_str(alloc, "ok")?;
+    let mut reported = String::from_str(alloc, "ok")?;
     for command in script.commands.items() {
-        put_command(alloc, &mut told, command)?;
+        put_command(alloc, &mut reported, command)?;
     }
-    Ok(told)
+    Ok(reported)
 }
 
-fn put_command(alloc: Global, told: &mut String, command: &Command) -> Result<(), AllocError> {
+fn put_command(alloc: Global, reported: &mut String, command: &Command) -> Result<(), AllocError> {
     match command {
         Command::Call {
             procedure,
@@ -29,7 +29,7 @@ fn put_command(alloc: Global, told: &mut String, command: &Command) -> Result<()
                 procedure.name.as_str(),
                 arguments.items().len()
             )?;
-            told.push_str(call.as_str())
+            reported.push_str(call.as_str())
         }
         Command::Insert {
             table,
@@ -43,11 +43,11 @@ fn put_command(alloc: Global, told: &mut String, command: &Command) -> Result<()
                 column_count(columns),
                 rows.rest.items().len().saturating_add(1)
             )?;
-            told.push_str(insert.as_str())
+            reported.push_str(insert.as_str())
         }
-        Command::Select(_) => told.push_str(" SELECT"),
-        Command::Commit { .. } => told.push_str(" COMMIT"),
-        Command::Rollback { .. } => told.push_str(" ROLLBACK"),
+        Command::Select(_) => reported.push_str(" SELECT"),
+        Command::Commit { .. } => reported.push_str(" COMMIT"),
+        Command::Rollback { .. } => reported.push_str(" ROLLBACK"),
     }
 }
 

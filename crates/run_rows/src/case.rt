@@ -4,7 +4,7 @@ use crate::sink::{Fate, Trouble};
 use anyhow::{Result, bail};
 use std::alloc::{AllocError, Global};
 
-/// The turns of a script where a case tells none.
+/// The turns of a script where a case states none.
 pub const DEFAULT_TURNS: u64 = 1_000_000;
 
 /// The files of a case, and how the first script is run.

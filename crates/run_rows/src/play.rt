@@ -52,7 +52,7 @@ pub fn play<S: Store>(
     }
 }
 
-// Runs a script, and tells what it wrote and how it ended.
+// Runs a script, and answers what it wrote and how it ended.
 fn run<S: Store>(
     alloc: Global,
     code: &Code,
@@ -71,11 +71,11 @@ fn run<S: Store>(
     let mut out = FrailSink::new(alloc, trouble)?;
     let mut left = turns;
     let end = run_script(alloc, code, script, store, &mut out, &mut left);
-    tell_written(out.bytes(), text)?;
-    tell_end(end, text)
+    print_written(out.bytes(), text)?;
+    print_end(end, text)
 }
 
-fn tell_written(written: &[u8], text: &mut Vec<u8>) -> Result<(), AllocError> {
+fn print_written(written: &[u8], text: &mut Vec<u8>) -> Result<(), AllocError> {
     text.extend_from_slice(written)?;
     match written.last() {
         None => Ok(()),
@@ -84,7 +84,7 @@ fn tell_written(written: &[u8], text: &mut Vec<u8>) -> Result<(), AllocError> {
     }
 }
 
-fn tell_end(end: ScriptEnd, text: &mut Vec<u8>) -> Result<(), AllocError> {
+fn print_end(end: ScriptEnd, text: &mut Vec<u8>) -> Result<(), AllocError> {
     text.extend_from_slice(match end {
         ScriptEnd::Done => b"= done\n".as_slice(),
         ScriptEnd::TurnsUsed => b"= turns used\n",

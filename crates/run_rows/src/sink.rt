@@ -13,7 +13,7 @@ pub enum Fate {
     Memory,
 }
 
-/// A put, counted from 1, and what comes to it.
+/// A put, counted from 1, and what happens at it.
 #[derive(Clone, Copy)]
 pub struct Trouble {
     pub put: u32,

@@ -19,13 +19,13 @@ use std::sync::ledger::{Blank, Ledger};
 
 /// Prints each row of the groups, which stand after an empty line each, with what is answered to it.
 pub fn print_groups(rt: &impl Print, alloc: Global, text: String) -> Result<()> {
-    let display = told_groups::<Brand>(alloc, text, Blank::new(1))?;
+    let display = reported_groups::<Brand>(alloc, text, Blank::new(1))?;
     print!(rt; "{display}")?;
     Ok(())
 }
 
 // The row steps are counted, and nothing is done with their number.
-fn told_groups<L: Ledger>(alloc: Global, text: String, blank: Blank) -> Result<String>
+fn reported_groups<L: Ledger>(alloc: Global, text: String, blank: Blank) -> Result<String>
     requires name { blank.name ≡ L.name }
     requires parts { blank.parts ≡ L.parts }
     requires some { 0 < blank.parts }
@@ -36,21 +36,21 @@ fn told_groups<L: Ledger>(alloc: Global, text: String, blank: Blank) -> Result<S
         if number > 0 {
             display.push_str("\n")?;
         }
-        let group = told_group(alloc, rows, &mut steps)?;
+        let group = reported_group(alloc, rows, &mut steps)?;
         display.push_str(group.as_str())?;
     }
     Ok(display)
 }
 
 // A group begins with empty tables.
-fn told_group<L: Ledger>(alloc: Global, rows: &str, steps: &mut Steps<L>) -> Result<String> {
+fn reported_group<L: Ledger>(alloc: Global, rows: &str, steps: &mut Steps<L>) -> Result<String> {
     let Ok(mut alone) = Alone::new(alloc) else {
         bail!("no table");
     };
     let (Ok(mut copies), Ok(mut journal)) = (copying(alloc), journaling(alloc)) else {
         bail!("no store");
     };
-    told_rows(alloc, rows, &mut alone, &mut copies, &mut journal, steps)
+    reported_rows(alloc, rows, &mut alone, &mut copies, &mut journal, steps)
 }
 
 // A store of two tables that keeps copies.
@@ -81,7 +81,7 @@ fn journaling(alloc: Global) -> Result<Bench<UndoStore>, Fault>
     })
 }
 
-fn told_rows<S: Store, T: Store, L: Ledger>(
+fn reported_rows<S: Store, T: Store, L: Ledger>(
     alloc: Global,
     rows: &str,
     alone: &mut Alone,
@@ -95,15 +95,15 @@ fn told_rows<S: Store, T: Store, L: Ledger>(
 {
     let mut display = String::new(alloc);
     'rows: for row in rows.lines() {
-        let one = told_row(alloc, row, alone, copies, journal, steps)?;
+        let one = reported_row(alloc, row, alone, copies, journal, steps)?;
         display.push_str(one.as_str())?;
         display.push_str("\n")?;
     }
     Ok(display)
 }
 
-// A line that begins with `#` is told as it is.
-fn told_row<S: Store, T: Store, L: Ledger>(
+// A line that begins with `#` is printed as it is.
+fn reported_row<S: Store, T: Store, L: Ledger>(
     alloc: Global,
     row: &str,
     alone: &mut Alone,

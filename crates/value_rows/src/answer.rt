@@ -11,7 +11,7 @@ pub fn answer(alloc: Global, line: &str) -> Result<String, AllocError> {
     match answered(alloc, line) {
         Ok(text) => Ok(text),
         Err(Fault::Memory) => Err(AllocError),
-        Err(fault) => fault.told(alloc),
+        Err(fault) => fault.reported(alloc),
     }
 }
 
@@ -19,9 +19,9 @@ fn answered(alloc: Global, line: &str) -> Result<String, Fault> {
     let row = unescaped(alloc, line)?;
     let mut operands = Operands::of(row.as_str());
     let operation = operands.word()?;
-    let told = operated(alloc, operation, &mut operands)?;
+    let reported = operated(alloc, operation, &mut operands)?;
     operands.end()?;
-    Ok(told)
+    Ok(reported)
 }
 
 fn operated(alloc: Global, operation: &str, operands: &mut Operands<'_>) -> Result<String, Fault> {
@@ -36,10 +36,10 @@ fn operated(alloc: Global, operation: &str, operands: &mut Operands<'_>) -> Resu
             storing::operated(alloc, operation, operands)
         }
         "name" | "same" => name::operated(alloc, operation, operands),
-        "state" => state::told(alloc, operands),
-        "steps" => steps::told(alloc),
+        "state" => state::reported(alloc, operands),
+        "steps" => steps::reported(alloc),
         "and" | "or" | "not" | "holds" => truth::operated(alloc, operation, operands),
-        "code" => code::told(alloc, operands),
+        "code" => code::reported(alloc, operands),
         _ => value::operated(alloc, operation, operands),
     }
 }

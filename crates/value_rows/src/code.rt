@@ -14,7 +14,7 @@ use psm_value::Datum;
 use std::alloc::Global;
 
 /// The letter and the value of the code, over a number and a text as columns, and null and a text as variables.
-pub fn told(alloc: Global, operands: &mut Operands<'_>) -> Result<String, Fault> {
+pub fn reported(alloc: Global, operands: &mut Operands<'_>) -> Result<String, Fault> {
     let code = ExprCode::of(lines(alloc, operands)?)
         .ok()
         .ok_or(Fault::IllFormed)?;

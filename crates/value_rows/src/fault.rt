@@ -26,7 +26,7 @@ pub enum Fault {
 
 impl Fault {
     /// What is wrong.
-    pub fn told(self, alloc: Global) -> Result<String, AllocError> {
+    pub fn reported(self, alloc: Global) -> Result<String, AllocError> {
         match self {
             Fault::Row => String::from_str(alloc, "no row"),
             Fault::Number(fault) => format!(in alloc; "{fault}"),

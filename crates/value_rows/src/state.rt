@@ -38,7 +38,7 @@ const LISTED: [(&str, SqlState); 22] = [
 ];
 
 /// The constant that is the state, its kind, and what it means.
-pub fn told(alloc: Global, operands: &mut Operands<'_>) -> Result<String, Fault> {
+pub fn reported(alloc: Global, operands: &mut Operands<'_>) -> Result<String, Fault> {
     let text = operands.quoted(alloc)?;
     match SqlState::read(text.as_str()) {
         Some(state) => Ok(format!(in alloc;

@@ -8,7 +8,7 @@ use std::marker::Brand;
 use std::sync::ledger::{Blank, Ledger};
 
 /// How many bytes a counter takes, once one has counted two steps.
-pub fn told(alloc: Global) -> Result<String, Fault> {
+pub fn reported(alloc: Global) -> Result<String, Fault> {
     count_two::<Brand>(Blank::new(1));
     Ok(format!(in alloc; "{} bytes", size_of::<Steps<Brand>>())?)
 }

@@ -68,9 +68,9 @@ fn into_type(alloc: Global, operation: &str, operands: &mut Operands<'_>) -> Res
 }
 
 fn with_loss(alloc: Global, value: &Datum, lost: bool) -> Result<String, Fault> {
-    let mut told = shown::value(alloc, value)?;
+    let mut reported = shown::value(alloc, value)?;
     if lost {
-        told.push_str(" with loss")?;
+        reported.push_str(" with loss")?;
     }
-    Ok(told)
+    Ok(reported)
 }

@@ -7,8 +7,8 @@ use Rattle.psm_check_script.proofs.repeated.noted.Goals as goal
 pub returns : goal.returns
 returns c =
     let name = c.args.name.now in
-    let told = sees_more c.in_ok-added.added c.args.seen.now c.add.new.self true name.name c.in_ok-added.ensures in
+    let sees = sees_more c.in_ok-added.added c.args.seen.now c.add.new.self true name.name c.in_ok-added.ensures in
     record {
-      fault = c.earlier.ensures ∙ ap (earlier c.args.fault) (c.breaks_if-own.ensures ∙ ap (λ b. breaks_if b ColumnRepeated name.place) (sym told.0));
-      seen = told.1;
+      fault = c.earlier.ensures ∙ ap (earlier c.args.fault) (c.breaks_if-own.ensures ∙ ap (λ b. breaks_if b ColumnRepeated name.place) (sym sees.0));
+      seen = sees.1;
     }

@@ -6,6 +6,6 @@ use Rattle.psm_codegen.proofs.calling.call_arguments.Given as goal
 
 abbrev pub invariant-loop-argument : goal.invariant-loop-argument
 invariant-loop-argument l = record {
-  near : l.place ≤ l.argument-index;
-  written : Drafted (λ σ p q. (v : Written) → CallArguments l.emit_context.known.now l.emit_context.context (σ l.emit_context.resume) l.letters l.place (drop l.argument-index l.argument-items) q v → CallArguments l.emit_context.known.now l.emit_context.context (σ l.emit_context.resume) l.letters 0 l.list p v) l.fn.out l.out;
+  near : l.index ≤ l.argument-index;
+  written : Drafted (λ σ p q. (v : Written) → CallArguments l.emit_context.known.now l.emit_context.context (σ l.emit_context.resume) l.letters l.index (drop l.argument-index l.argument-items) q v → CallArguments l.emit_context.known.now l.emit_context.context (σ l.emit_context.resume) l.letters 0 l.list p v) l.fn.out l.out;
 }

@@ -1,11 +1,11 @@
-use Rattle.psm_commands.proofs.Told.{AreSomething, for_command}
+use Rattle.psm_commands.proofs.Existence.{AreSomething, for_command}
 use Rattle.psm_commands.proofs.laws.something_is_expected.Goals as goal
 
 pub returns : goal.returns
 returns c =
     let files = c.files_are_something.ensures in
     let law = c.scripts_over_well_formed_code_have_one_session.ensures in
-    λ held command told.
+    λ held command all_held.
     let all : AreSomething held = record {
       modules = files.modules;
       scripts = files.scripts;
@@ -16,4 +16,4 @@ returns c =
       sessions_over = law.exists;
       ends_over = law.ends;
     } in
-    for_command held all command told
+    for_command held all command all_held

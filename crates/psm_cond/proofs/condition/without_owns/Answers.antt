@@ -5,7 +5,7 @@ use Rattle.psm_cond.proofs.condition.without_owns.Goals as goal
 
 pub loop-entry-preserved : goal.loop-entry-preserved
 loop-entry-preserved c =
-    let place = c.loop-entry in
-    map_over_more without_own c.deref_mut-entry-items.result.now place.entry-items place.entry-index
-    (get_or place.entry-items place.entry-index c.entry-item.result) c.loop-entry-test.true place.invariant
-    (ap (λ d. get_or place.entry-items place.entry-index d) c.entry-item.is)
+    let position = c.loop-entry in
+    map_over_more without_own c.deref_mut-entry-items.result.now position.entry-items position.entry-index
+    (get_or position.entry-items position.entry-index c.entry-item.result) c.loop-entry-test.true position.invariant
+    (ap (λ d. get_or position.entry-items position.entry-index d) c.entry-item.is)

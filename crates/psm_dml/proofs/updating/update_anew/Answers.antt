@@ -12,7 +12,7 @@ use Rattle.psm_tablecode.specs.Codes.{over}
 use Rattle.psm_dml.specs.Changes.{changing, row_set}
 use Rattle.psm_dml.specs.Ends.{schema_of}
 use Rattle.psm_row_changes.specs.Rows.{without_keys, IsWhole}
-use Rattle.psm_dml.proofs.Answering.{ends_told, gives_err}
+use Rattle.psm_dml.proofs.Answering.{ends_reported, gives_err}
 use Rattle.psm_row_changes.proofs.Effects.{said, there}
 use Rattle.psm_dml.proofs.Updated.{changed_few, changed_keys, changed_legal, changed_whole, keys_of_changes, row_set_whole, rows_of_changes, update_ends, update_of, update_raises}
 use Rattle.psm_dml.proofs.updating.update_anew.Goals as goal
@@ -21,7 +21,7 @@ pub returns-in-Err-clause-answer : goal.returns-in-Err-clause-answer
 returns-in-Err-clause-answer g c =
     let among : List (List Datum) → Bool = are_keyed_with c.args.constraints.now (rows_in (g.S.Store.tables c.args.store.now)) c.args.t in
     let t : Contents = c.table.result.now.contents in
-    ends_told (g.S.Store.tables c.args.store.now) _ c.args.t t (update_of c.args.checks.now among c.args.sets.now (option_copied c.args.test) c.args.vars.now) c.table.ensures
+    ends_reported (g.S.Store.tables c.args.store.now) _ c.args.t t (update_of c.args.checks.now among c.args.sets.now (option_copied c.args.test) c.args.vars.now) c.table.ensures
     c.in-Err.fault c.raised.result
     (λ s e. update_raises c.args.checks.now among c.args.sets.now (option_copied c.args.test) c.args.vars.now t c.in-Err.ensures.table.ascend s
     (gives_err (walked (test_of (over c.args.vars.now) (option_copied c.args.test)) (changing t.def.key (row_set c.args.vars.now t.def c.args.sets.now)) t.rows) c.in-Err.fault s e c.in-Err.ensures.changes))

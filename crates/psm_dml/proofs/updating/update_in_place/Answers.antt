@@ -11,7 +11,7 @@ use Rattle.psm_tablecode.specs.Codes.{over}
 use Rattle.psm_dml.specs.Changes.{keep_places, row_set}
 use Rattle.psm_dml.specs.Ends.{schema_of, schema_with, Ends}
 use Rattle.psm_row_changes.specs.Rows.{keys_of_rows, without_keys, AreInPlace}
-use Rattle.psm_dml.proofs.Answering.{ends_told, gives_err}
+use Rattle.psm_dml.proofs.Answering.{ends_reported, gives_err}
 use Rattle.psm_row_changes.proofs.Effects.{said, there}
 use Rattle.psm_dml.proofs.Placed.{are_in_place, placed_ends, placed_legal, placed_raises}
 use Rattle.psm_dml.proofs.Updated.{update_of}
@@ -22,7 +22,7 @@ returns-in-Err-clause-answer g c =
     let among : List (List Datum) → Bool = are_keyed_with c.args.constraints.now (rows_in (g.S.Store.tables c.args.store.now)) c.args.t in
     let t : Contents = c.table.result.now.contents in
     let kept = there (λ x. keep_places x.def c.args.sets.now ≡ true) (slice_get (g.S.Store.tables c.args.store.now) c.args.t) t c.table.ensures c.requires.places in
-    ends_told (g.S.Store.tables c.args.store.now) _ c.args.t t (update_of c.args.checks.now among c.args.sets.now (option_copied c.args.test) c.args.vars.now) c.table.ensures
+    ends_reported (g.S.Store.tables c.args.store.now) _ c.args.t t (update_of c.args.checks.now among c.args.sets.now (option_copied c.args.test) c.args.vars.now) c.table.ensures
     c.in-Err.fault c.raised.result
     (λ s e. placed_raises c.args.checks.now among c.args.sets.now (option_copied c.args.test) c.args.vars.now t c.in-Err.ensures.table kept s
     (gives_err (walked (test_of (over c.args.vars.now) (option_copied c.args.test)) (row_set c.args.vars.now t.def c.args.sets.now) t.rows) c.in-Err.fault s e c.in-Err.ensures.rows))

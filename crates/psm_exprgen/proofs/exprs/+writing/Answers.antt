@@ -7,7 +7,7 @@ use Rattle.psm_resolved.specs.declared.expr.ResolvedExpr.TheOpen as layers
 use Rattle.psm_resolved.specs.declared.expr.ResolvedExpr.TheVariants as exprs
 use Rattle.psm_resolved.specs.RowValue.{listed}
 use Rattle.psm_resolved.specs.Written.{op_of_function}
-use Rattle.psm_resolved.proofs.Several.{next_item, first_told, rest_told}
+use Rattle.psm_resolved.proofs.Several.{next_item, first_same, rest_same}
 use Rattle.psm_simulation.specs.Expressions.{negating}
 use Rattle.psm_exprgen.specs.Exprs.{Compares, Firsts, Whens, WritesAll, joined, last, linked, no_argument, operator_chain}
 use Rattle.psm_exprgen.specs.Labels.{Drafted}
@@ -60,7 +60,7 @@ expr-returns-in_ok-applied-in-Some t c = straight_drafted c.args.letter c.args.e
 
 pub expr-returns-in_ok-applied-in-In : goal.expr-returns-in_ok-applied-in-In
 expr-returns-in_ok-applied-in-In t c =
-    let others : c.in_ok-count-in-In.count ≡ length (listed c.in-In.list) = c.in_ok-count-in-In.ensures ∙ ap suc (ap length (rest_told c.list.view_is c.items-in-In.ensures)) in
+    let others : c.in_ok-count-in-In.count ≡ length (listed c.in-In.list) = c.in_ok-count-in-In.ensures ∙ ap suc (ap length (rest_same c.list.view_is c.items-in-In.ensures)) in
     let takes : length (listed c.in-In.list) + 1 ≡ suc (length (listed c.in-In.list)) = omega arith in
     straight_drafted c.args.letter c.args.e.now (layers.In c.in-In.negated c.in-In.value c.in-In.list) c.perhaps_not-in-In.new.self c.perhaps_not-in-In.result (ap out-ResolvedExpr c.in-In.is ∙ exprs.outs-In c.in-In.negated c.in-In.value c.in-In.list) refl (more_drafted c.in_ok-part-in-In.ensures c.in_ok-several-in-In.ensures)
     (ok_as c.perhaps_not-in-In.result (λ a. a ∙ ap (all_applied c.args.emit_context.context c.args.emit_context.resume 1 B (negating c.in-In.negated)) (c.in_ok-applied-in-In.ensures ∙ ap (λ n. applied c.args.emit_context.context c.args.emit_context.resume (op.In n) (n + 1) B c.several.new.out) others ∙ ap (λ n. applied c.args.emit_context.context c.args.emit_context.resume (op.In (length (listed c.in-In.list))) n B c.several.new.out) takes)) c.perhaps_not-in-In.ensures)
@@ -125,16 +125,16 @@ linked-loop-chain_link-preserved t c = linked_next_drafted (take c.loop-chain_li
 pub arguments-loop-item-preserved : goal.arguments-loop-item-preserved
 arguments-loop-item-preserved t c =
     let many : length (take c.loop-item.item-index c.items-item-items.result.now) ≡ c.loop-item.item-index = omega (arith, length-take c.loop-item.item-index c.items-item-items.result.now, c.loop-item-test.true) in
-    (omega (arith, c.loop-item.invariant.0), two c.loop-item.invariant.1 c.in_ok-expr.ensures (λ σ x y. argument_next c.args.letters.now (take c.loop-item.item-index c.items-item-items.result.now) (take (c.loop-item.item-index + 1) c.items-item-items.result.now) c.get.result.now c.loop-item.place c.letter_at-letter.result (next_item c.items-item-items.result.now c.loop-item.item-index c.item-item.result c.get.result.now c.loop-item-test.true c.item-item.is c.get.ensures) (c.loop-item.invariant.0 ∙ sym many) c.letter_at-letter.ensures x y))
+    (omega (arith, c.loop-item.invariant.0), two c.loop-item.invariant.1 c.in_ok-expr.ensures (λ σ x y. argument_next c.args.letters.now (take c.loop-item.item-index c.items-item-items.result.now) (take (c.loop-item.item-index + 1) c.items-item-items.result.now) c.get.result.now c.loop-item.index c.letter_at-letter.result (next_item c.items-item-items.result.now c.loop-item.item-index c.item-item.result c.get.result.now c.loop-item-test.true c.item-item.is c.get.ensures) (c.loop-item.invariant.0 ∙ sym many) c.letter_at-letter.ensures x y))
 
 pub several-loop-item-init : goal.several-loop-item-init
-several-loop-item-init t c = subst (λ x. Drafted (λ σ. WritesAll c.args.emit_context.known.now c.args.emit_context.context (σ c.args.emit_context.resume) (x ∷ [])) c.args.out.now c.expr.new.out) (first_told c.list.view_is c.get.ensures) (more_drafted c.in_ok-expr.ensures none_drafted)
+several-loop-item-init t c = subst (λ x. Drafted (λ σ. WritesAll c.args.emit_context.known.now c.args.emit_context.context (σ c.args.emit_context.resume) (x ∷ [])) c.args.out.now c.expr.new.out) (first_same c.list.view_is c.get.ensures) (more_drafted c.in_ok-expr.ensures none_drafted)
 
 pub several-loop-item-preserved : goal.several-loop-item-preserved
 several-loop-item-preserved t c = two c.loop-item.invariant c.in_ok-expr-2.ensures (λ σ x y. all_next (c.args.list.now.first ∷ take c.loop-item.item-index c.items-item-items.result.now) (c.args.list.now.first ∷ take (c.loop-item.item-index + 1) c.items-item-items.result.now) c.get-in-loop-item.result.now (ap (λ k. c.args.list.now.first ∷ k) (next_item c.items-item-items.result.now c.loop-item.item-index c.item-item.result c.get-in-loop-item.result.now c.loop-item-test.true c.item-item.is c.get-in-loop-item.ensures)) x y)
 
 pub firsts-loop-value-init : goal.firsts-loop-value-init
-firsts-loop-value-init t c = subst (λ x. Drafted (λ σ. Firsts c.args.emit_context.known.now c.args.emit_context.context (σ c.args.emit_context.resume) c.args.letter (σ c.args.end) x []) c.args.out.now c.expr.new.out) (first_told c.values.view_is c.get.ensures) (one c.in_ok-expr.ensures (λ σ x. last x))
+firsts-loop-value-init t c = subst (λ x. Drafted (λ σ. Firsts c.args.emit_context.known.now c.args.emit_context.context (σ c.args.emit_context.resume) c.args.letter (σ c.args.end) x []) c.args.out.now c.expr.new.out) (first_same c.values.view_is c.get.ensures) (one c.in_ok-expr.ensures (λ σ x. last x))
 
 pub firsts-loop-value-preserved : goal.firsts-loop-value-preserved
 firsts-loop-value-preserved t c = firsts_next_drafted c.args.end c.args.values.now.first (take c.loop-value.value-index c.items-value-items.result.now) (take (c.loop-value.value-index + 1) c.items-value-items.result.now) c.get-in-loop-value.result.now (next_item c.items-value-items.result.now c.loop-value.value-index c.value-item.result c.get-in-loop-value.result.now c.loop-value-test.true c.value-item.is c.get-in-loop-value.ensures) c.loop-value.invariant c.in_ok-taken.ensures c.in_ok-expr-2.ensures
@@ -146,10 +146,10 @@ pub compared-loop-when-preserved : goal.compared-loop-when-preserved
 compared-loop-when-preserved t c = two c.loop-when.invariant c.in_ok-comparison-2.ensures (λ σ x y. compares_next (σ c.args.end) (c.args.whens.now.first ∷ take c.loop-when.when-index c.items-when-items.result.now) (c.args.whens.now.first ∷ take (c.loop-when.when-index + 1) c.items-when-items.result.now) c.get-in-loop-when.result.now (ap (λ k. c.args.whens.now.first ∷ k) (next_item c.items-when-items.result.now c.loop-when.when-index c.when-item.result c.get-in-loop-when.result.now c.loop-when-test.true c.when-item.is c.get-in-loop-when.ensures)) x y)
 
 pub searched-loop-when-init : goal.searched-loop-when-init
-searched-loop-when-init t c = subst (λ x. Drafted (λ σ. Whens c.args.emit_context.known.now c.args.emit_context.context (σ c.args.emit_context.resume) c.args.letter (σ c.args.end) (x ∷ [])) c.args.out.now c.test.new.out) (first_told c.whens.view_is c.get.ensures) c.in_ok-test.ensures
+searched-loop-when-init t c = subst (λ x. Drafted (λ σ. Whens c.args.emit_context.known.now c.args.emit_context.context (σ c.args.emit_context.resume) c.args.letter (σ c.args.end) (x ∷ [])) c.args.out.now c.test.new.out) (first_same c.whens.view_is c.get.ensures) c.in_ok-test.ensures
 
 pub compared-loop-when-init : goal.compared-loop-when-init
-compared-loop-when-init t c = subst (λ x. Drafted (λ σ. Compares c.args.emit_context.known.now c.args.emit_context.context (σ c.args.emit_context.resume) c.args.letter (σ c.args.end) (x ∷ [])) c.args.out.now c.comparison.new.out) (first_told c.whens.view_is c.get.ensures) c.in_ok-comparison.ensures
+compared-loop-when-init t c = subst (λ x. Drafted (λ σ. Compares c.args.emit_context.known.now c.args.emit_context.context (σ c.args.emit_context.resume) c.args.letter (σ c.args.end) (x ∷ [])) c.args.out.now c.comparison.new.out) (first_same c.whens.view_is c.get.ensures) c.in_ok-comparison.ensures
 
 pub test-returns : goal.test-returns
 test-returns t c = ok_as c.bind.result (λ a. searched_one_drafted c.args.end c.in_ok-next.next c.args.when.now c.in_ok-part.ensures c.in_ok-next.ensures.number c.in_ok-next.ensures.labels c.in_ok-taken.ensures c.in_ok-part-2.ensures c.in_ok-taken-2.ensures a) c.bind.ensures

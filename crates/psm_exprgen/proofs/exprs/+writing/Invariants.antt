@@ -13,7 +13,7 @@ abbrev pub invariant-several-loop-item : goal.invariant-several-loop-item
 invariant-several-loop-item l = Drafted (λ σ. WritesAll l.emit_context.known.now l.emit_context.context (σ l.emit_context.resume) (l.list.first ∷ take l.item-index l.item-items)) l.fn.out l.out
 
 abbrev pub invariant-arguments-loop-item : goal.invariant-arguments-loop-item
-invariant-arguments-loop-item l = (l.place ≡ l.item-index) × Drafted (λ σ. Arguments l.emit_context.known.now l.emit_context.context (σ l.emit_context.resume) l.letters 0 (take l.item-index l.item-items)) l.fn.out l.out
+invariant-arguments-loop-item l = (l.index ≡ l.item-index) × Drafted (λ σ. Arguments l.emit_context.known.now l.emit_context.context (σ l.emit_context.resume) l.letters 0 (take l.item-index l.item-items)) l.fn.out l.out
 
 abbrev pub invariant-firsts-loop-value : goal.invariant-firsts-loop-value
 invariant-firsts-loop-value l = Drafted (λ σ. Firsts l.emit_context.known.now l.emit_context.context (σ l.emit_context.resume) l.letter (σ l.end) l.values.first (take l.value-index l.value-items)) l.fn.out l.out

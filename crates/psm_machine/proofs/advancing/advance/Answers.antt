@@ -29,7 +29,7 @@ goes_on : (g : Over) (c : In_default-follow g) → step c.args.code.now (before 
 goes_on g c =
     done_more c.args.code.now (before g c) (following g c) c.in-Some.routine.now c.in-Some-instruction.instruction.now c.follow.result _ c.common.invariant.routine
     (sym (ap option_copied c.in-Some-instruction.is) ∙ c.instruction.ensures.instruction) c.in_default-follow.is
-    (c.follow.ensures.due c.args.code.now (g.S.Store.tables c.common.store) (g.S.Store.at c.common.store))
+    (c.follow.ensures.expected c.args.code.now (g.S.Store.tables c.common.store) (g.S.Store.at c.common.store))
 
 -- ---- the goals
 
@@ -54,8 +54,8 @@ follow-requires-clause-needs g c =
 pub settle-requires-clause-well_formed_handlers : goal.settle-requires-clause-well_formed_handlers
 settle-requires-clause-well_formed_handlers g c = handlers_well_formed c.args.code.now c.requires.well_formed_code c.requires.numbered
 
-pub returns-in-Err-clause-due : goal.returns-in-Err-clause-due
-returns-in-Err-clause-due g c =
+pub returns-in-Err-clause-expected : goal.returns-in-Err-clause-expected
+returns-in-Err-clause-expected g c =
     let code = c.args.code.now in
     let tables = g.S.Store.tables c.common.store in
     let at = g.S.Store.at c.common.store in
@@ -63,7 +63,7 @@ returns-in-Err-clause-due g c =
     let now = machine_of (g.S.Store.tables c.settle.new.store) (g.S.Store.at c.settle.new.store) c.settle.new.run in
     let is = done_step code m c.in-Some.routine.now c.in-Some-instruction.instruction.now c.common.invariant.routine (sym (ap option_copied c.in-Some-instruction.is) ∙ c.instruction.ensures.instruction) in
     let came = done code c.in-Some.routine.now c.in-Some-instruction.instruction.now m in
-    let leads : LeadsTo (step code m) c.in_ok-outcome.outcome now = subst (λ t. LeadsTo t c.in_ok-outcome.outcome now) (sym is) (c.in_ok-outcome.ensures.due came (c.in-Err.ensures.due code tables at)) in
+    let leads : LeadsTo (step code m) c.in_ok-outcome.outcome now = subst (λ t. LeadsTo t c.in_ok-outcome.outcome now) (sym is) (c.in_ok-outcome.ensures.expected came (c.in-Err.ensures.expected code tables at)) in
     subst (λ s. Advances code (machine_of (g.S.Store.tables s) (g.S.Store.at s) c.args.run.now) c.ended_by.result now) c.common.invariant.store
     (subst (λ f. Advances code (machine_of tables at c.args.run.now) f now) (sym c.ended_by.ensures)
     (advances code (machine_of tables at c.args.run.now) m now c.common.invariant.before.0 (Ok _) c.common.invariant.before.1 (after_step (step code m) c.in_ok-outcome.outcome m now c.common.run.turns refl leads)))
@@ -86,11 +86,11 @@ common-preserved g c =
       store = c.common.invariant.store;
     }
 
-pub returns-clause-due : goal.returns-clause-due
-returns-clause-due g c =
+pub returns-clause-expected : goal.returns-clause-expected
+returns-clause-expected g c =
     let code = c.args.code.now in
     let tables = g.S.Store.tables c.common.store in
     let at = g.S.Store.at c.common.store in
     let now = machine_of (g.S.Store.tables c.one_more-2.new.store) (g.S.Store.at c.one_more-2.new.store) c.one_more-2.new.run in
     subst (λ s. IfOk c.one_more-2.result (λ f. Advances code (machine_of (g.S.Store.tables s) (g.S.Store.at s) c.args.run.now) f now)) c.common.invariant.store
-    (advances code (machine_of tables at c.args.run.now) (machine_of tables at c.common.run) now c.common.invariant.before.0 c.one_more-2.result c.common.invariant.before.1 c.one_more-2.ensures.due)
+    (advances code (machine_of tables at c.args.run.now) (machine_of tables at c.common.run) now c.common.invariant.before.0 c.one_more-2.result c.common.invariant.before.1 c.one_more-2.ensures.expected)

@@ -1,7 +1,7 @@
 use Rattle.std.proofs.Common.{◌+◌, Some, ◌∷◌, ◌++◌, List, reverse, refl, ap, sym, subst, ◌∙◌}
 use Rattle.psm_code.specs.State.{InBlock}
 use Rattle.psm_store.specs.declared.store.Mark.{Mark}
-use Rattle.psm_unwind.specs.Marks.{Around, Stays, marks_in, marks_of, open_marks}
+use Rattle.psm_unwind.specs.Marks.{Encloses, Stays, marks_in, marks_of, open_marks}
 use Rattle.psm_unwind.specs.View.{callers_of, frames_of, machine_of}
 use Rattle.psm_unwind.proofs.Nestings.{each_left, each_right}
 use Rattle.psm_unwind.proofs.Views.{callers_stay}
@@ -30,7 +30,7 @@ returns-in-Err-clause-stand g c =
 pub returns-in-Err-clause-outer : goal.returns-in-Err-clause-outer
 returns-in-Err-clause-outer g c = λ m h a. (
   returns-in-Err-clause-keeps g c m h tt,
-  subst (λ (x : List Mark). Around x m) (sym (ap (λ fs. marks_in (reverse fs) ++ marks_of (reverse c.args.run.now.callers.items)) c.in-Err.ensures.items)) a,
+  subst (λ (x : List Mark). Encloses x m) (sym (ap (λ fs. marks_in (reverse fs) ++ marks_of (reverse c.args.run.now.callers.items)) c.in-Err.ensures.items)) a,
 )
 
 -- ---- where the block is entered
@@ -41,8 +41,8 @@ returns-clause-stand g c =
     c.in_ok-mark.ensures.marks refl refl c.if-run-ge-MOST_OPEN.false
     (marks_pushed c.args.context c.in_ok-mark.mark c.args.run.now.running.frames.items c.push.new.self.items (marks_of (reverse c.args.run.now.callers.items)) c.in_default.ensures.items)
 
-pub returns-clause-due : goal.returns-clause-due
-returns-clause-due g c =
+pub returns-clause-expected : goal.returns-clause-expected
+returns-clause-expected g c =
     let stay = all_stay (g.S.Store.holds c.args.store.now) (g.S.Store.at c.args.store.now) (g.S.Store.holds c.mark.new.self) (g.S.Store.at c.mark.new.self) (open_marks c.args.run.now) c.requires.nested c.mark.ensures.keeps in
     let inner = marks_in (reverse c.args.run.now.running.frames.items) in
     let outer = marks_of (reverse c.args.run.now.callers.items) in
@@ -58,6 +58,6 @@ returns-clause-outer g c = λ m h a.
     let o = outer_new (g.S.Store.holds c.args.store.now) (g.S.Store.at c.args.store.now) (g.S.Store.holds c.mark.new.self) (g.S.Store.at c.mark.new.self) (g.S.Store.marks c.args.store.now) (g.S.Store.tables c.args.store.now) (open_marks c.args.run.now) c.in_ok-mark.mark
     c.mark.ensures.keeps (g.met.S.Store.below c.args.store.now) c.in_ok-mark.ensures.mark m h a in (
       o.0,
-      subst (λ (x : List Mark). Around x m)
+      subst (λ (x : List Mark). Encloses x m)
           (sym (marks_pushed c.args.context c.in_ok-mark.mark c.args.run.now.running.frames.items c.push.new.self.items (marks_of (reverse c.args.run.now.callers.items)) c.in_default.ensures.items)) o.1,
     )

@@ -9,6 +9,6 @@ use Rattle.psm_machine.proofs.calls.arguments.Given as goal
 
 abbrev pub invariant-loop-parameter : goal.invariant-loop-parameter
 invariant-loop-parameter l = record {
-  due : (tables : List Contents) (at : Mark → List Contents) → pops (length (taking l.parameters)) [] (machine_of tables at l.initial.run) ≡ pops (length (taking (drop l.parameter-index l.parameters))) (reverse l.arguments.items) (machine_of tables at l.run);
+  expected : (tables : List Contents) (at : Mark → List Contents) → pops (length (taking l.parameters)) [] (machine_of tables at l.initial.run) ≡ pops (length (taking (drop l.parameter-index l.parameters))) (reverse l.arguments.items) (machine_of tables at l.run);
   same : SameFrames l.initial.run l.run;
 }

@@ -8,8 +8,8 @@ use Rattle.psm_machine.specs.ActResults.{Evaluates}
 use Rattle.psm_machine.proofs.Fetching.{next_comes, value_is}
 use Rattle.psm_machine.proofs.cursors.next_row.Goals as goal
 
-pub returns-clause-due : goal.returns-clause-due
-returns-clause-due g c = λ at.
+pub returns-clause-expected : goal.returns-clause-expected
+returns-clause-expected g c = λ at.
     let m = machine_of (g.S.Store.tables c.args.store.now) at c.args.run.now in
     let opened : is_opened c.in-Some-cursor_at.cursor.now ≡ true = grind (arith, c.is_open.ensures, c.if-not-is_open.false) in
     let there = sym c.cursor_at.ensures ∙ ap option_copied c.in-Some-cursor_at.is in

@@ -5,8 +5,8 @@ use Rattle.psm_cursor.specs.Opened.{is_opened}
 use Rattle.psm_machine.proofs.Fetching.{closed_is}
 use Rattle.psm_machine.proofs.cursors.open.Goals as goal
 
-pub returns-else-declared-clause-due : goal.returns-else-declared-clause-due
-returns-else-declared-clause-due g c = λ at.
+pub returns-else-declared-clause-expected : goal.returns-else-declared-clause-expected
+returns-else-declared-clause-expected g c = λ at.
     let opened : is_opened c.in-Some-cursor_at.cursor.now ≡ false = grind (arith, c.is_open.ensures, c.if-is_open.false) in
     let closed = closed_is c.in-Some-cursor_at.cursor.now opened in
     rw (
@@ -14,4 +14,4 @@ returns-else-declared-clause-due g c = λ at.
       sym c.cursor_at.ensures ∙ ap option_copied c.in-Some-cursor_at.is ∙ ap (λ (x : Cursor). Some x) closed,
       sym c.query_at.ensures ∙ ap option_copied c.in-Some-query_at.is,
       c.if-declared.false,
-    ) (c.open_plain.ensures.due c.in-Some-query_at.query.now (g.S.Store.tables c.args.store.now) at)
+    ) (c.open_plain.ensures.expected c.in-Some-query_at.query.now (g.S.Store.tables c.args.store.now) at)

@@ -6,13 +6,13 @@ use Rattle.psm_unwind.specs.Actions.{item_of, stacked_in}
 use Rattle.psm_unwind.specs.View.{machine_of}
 use Rattle.psm_machine.specs.ActResults.{Evaluates}
 use Rattle.psm_machine.specs.Successors.{statement_item_of}
-use Rattle.psm_machine.proofs.StackedArea.{lacks_area, no_item, statement_found}
+use Rattle.psm_machine.proofs.StackedArea.{stuck_at_area, no_item, statement_found}
 use Rattle.psm_machine.proofs.diagnostics.statement_item_of.Goals as goal
 
 pub returns-in-None : goal.returns-in-None
 returns-in-None c = λ tables at.
     subst (λ (area : DiagnosticsArea). Evaluates (statement_item_of area c.args.item (machine_of tables at c.args.run.now)) (Err c.stop_at.result) (machine_of tables at c.args.run.now)) (sym c.in-Stacked.is)
-    (lacks_area tables at c.args.run.now Datum (λ a. got (item_of c.args.item a)) c.stop_at.result
+    (stuck_at_area tables at c.args.run.now Datum (λ a. got (item_of c.args.item a)) c.stop_at.result
     (no_item c.args.item (stacked_in c.args.run.now) (sym c.in_ok-stacked_statement_item-in-Stacked.ensures ∙ c.in-None.is)) c.stop_at.ensures)
 
 pub returns-in-Some : goal.returns-in-Some

@@ -16,15 +16,15 @@ use Rattle.psm_machine.proofs.ends.leave.Goals as goal
 pub leave_until-requires : goal.leave_until-requires
 leave_until-requires g c = running_nested (g.S.Store.holds c.args.store.now) c.args.run.now c.requires
 
-pub returns-in_ok-values-in-None-clause-due : goal.returns-in_ok-values-in-None-clause-due
-returns-in_ok-values-in-None-clause-due g c =
+pub returns-in_ok-values-in-None-clause-expected : goal.returns-in_ok-values-in-None-clause-expected
+returns-in_ok-values-in-None-clause-expected g c =
     let none : c.pop.new.self.items ≡ [] = c.in-None.ensures.rest ∙ ap (λ n. take (n - 1) c.args.run.now.callers.items) c.in-None.ensures.cases.0 in
     let callers : c.args.run.now.callers.items ≡ [] = c.in-None.ensures.items ∙ ap (λ xs. xs ++ []) none in
     let m = machine_of (g.S.Store.tables c.args.store.now) (g.S.Store.at c.args.store.now) c.args.run.now in
     left_over m (machine_of (g.S.Store.tables c.args.store.now) (g.S.Store.at c.args.store.now) c.clear.new.run)
     c.args.values.items c.in_ok-values-in-None.values (ap (λ xs. callers_of (g.S.Store.at c.args.store.now) c.args.run.now.operands.callers (reverse xs)) callers) (c.in_ok-values-in-None.ensures ∙ c.of.ensures)
     (ap (λ xs. cleared (record m { callers = callers_of (g.S.Store.at c.args.store.now) c.args.run.now.operands.callers (reverse xs) })) (c.in-None.ensures.items ∙ append-nil c.pop.new.self.items)
-    ∙ ap (λ (came : Came (Unit {0})). came.machine) (c.clear.ensures.due (g.S.Store.tables c.args.store.now) (g.S.Store.at c.args.store.now)))
+    ∙ ap (λ (came : Came (Unit {0})). came.machine) (c.clear.ensures.expected (g.S.Store.tables c.args.store.now) (g.S.Store.at c.args.store.now)))
 
 pub returns-in_err-values-in-None-clause-unwinds : goal.returns-in_err-values-in-None-clause-unwinds
 returns-in_err-values-in-None-clause-unwinds g c =
@@ -66,20 +66,20 @@ caller_resumed g c =
     (all_left (g.S.Store.at c.leave_until.new.store) c.leave_until.new.frames.items (frames_of (g.S.Store.at c.args.store.now) (reverse c.args.run.now.running.frames.items)) c.leave_until.ensures.frames)
     c.in-Some.ensures.items c.resume.ensures.same
 
-pub returns-in_ok-resume-in-Some-clause-due : goal.returns-in_ok-resume-in-Some-clause-due
-returns-in_ok-resume-in-Some-clause-due g c =
+pub returns-in_ok-resume-in-Some-clause-expected : goal.returns-in_ok-resume-in-Some-clause-expected
+returns-in_ok-resume-in-Some-clause-expected g c =
     let at0 = g.S.Store.at c.args.store.now in
     let tables0 = g.S.Store.tables c.args.store.now in
     let at1 = g.S.Store.at c.leave_until.new.store in
     let tables1 = g.S.Store.tables c.leave_until.new.store in
     let r = c.args.run.now in
-    let x = (goal.at.returns-in_ok-resume-in-Some-clause-due g c).After-resume in
+    let x = (goal.at.returns-in_ok-resume-in-Some-clause-expected g c).After-resume in
     left_to (machine_of tables0 at0 r) (machine_of tables1 at1 (record r { running = c.in-Some.caller; callers = c.pop.new.self; operands = c.end.new.self })) (machine_of tables1 at1 c.resume.new.run) c.args.values.items
     (activation_of at1 (first_of r.operands.callers) c.in-Some.caller) (callers_of at1 (drop 1 r.operands.callers) (reverse c.pop.new.self.items)) tables1
     (callers_now (g.S.Store.holds c.args.store.now) at0 (g.S.Store.marks c.args.store.now) tables0 r (g.S.Store.holds c.leave_until.new.store) at1 (g.S.Store.marks c.leave_until.new.store) tables1 (bare g x)
     c.pop.new.self.items c.in-Some.caller (frames_left g x) refl refl c.in-Some.ensures.items)
     (c.leave_until.ensures.tables ∙ tables_kept (inside None (frames_of at0 (reverse r.running.frames.items))) tables0)
-    (ap (λ operands. machine_of tables1 at1 (record r { running = c.in-Some.caller; callers = c.pop.new.self; operands = operands })) (sym c.end.ensures)) (c.in_ok-resume-in-Some.ensures.due tables1 at1)
+    (ap (λ operands. machine_of tables1 at1 (record r { running = c.in-Some.caller; callers = c.pop.new.self; operands = operands })) (sym c.end.ensures)) (c.in_ok-resume-in-Some.ensures.expected tables1 at1)
 
 pub returns-in_ok-resume-in-Some-clause-unwinds : goal.returns-in_ok-resume-in-Some-clause-unwinds
 returns-in_ok-resume-in-Some-clause-unwinds g c = caller_resumed g (goal.at.returns-in_ok-resume-in-Some-clause-unwinds g c).After-resume

@@ -8,11 +8,11 @@ use Rattle.psm_machine.proofs.Leavings.{returns_to, stopped_turns}
 use Rattle.psm_machine.proofs.Standing.{still_same, still_then, still_unwound}
 use Rattle.psm_machine.proofs.ends.return_value.Goals as goal
 
-pub returns-in_err-value-in-Some-clause-due : goal.returns-in_err-value-in-Some-clause-due
-returns-in_err-value-in-Some-clause-due g c =
+pub returns-in_err-value-in-Some-clause-expected : goal.returns-in_err-value-in-Some-clause-expected
+returns-in_err-value-in-Some-clause-expected g c =
     let tables = g.S.Store.tables c.args.store.now in
     let at = g.S.Store.at c.args.store.now in
-    stopped_turns (result c.args.code.now (machine_of tables at c.args.run.now)) (λ d. got (returning d)) (machine_of tables at c.returned.new.run) c.in_err-value-in-Some.field-0.0 c.from_residual.result c.from_residual.ensures.1 (c.in_err-value-in-Some.ensures.due tables at)
+    stopped_turns (result c.args.code.now (machine_of tables at c.args.run.now)) (λ d. got (returning d)) (machine_of tables at c.returned.new.run) c.in_err-value-in-Some.field-0.0 c.from_residual.result c.from_residual.ensures.1 (c.in_err-value-in-Some.ensures.expected tables at)
 
 pub returns-in_err-value-in-Some-clause-unwinds : goal.returns-in_err-value-in-Some-clause-unwinds
 returns-in_err-value-in-Some-clause-unwinds g c =
@@ -38,13 +38,13 @@ pub returns-in-None-clause-unwinds : goal.returns-in-None-clause-unwinds
 returns-in-None-clause-unwinds g c =
     unwinds_none (g.S.Store.holds c.args.store.now) (g.S.Store.at c.args.store.now) (g.S.Store.marks c.args.store.now) (g.S.Store.tables c.args.store.now) c.args.run.now c.args.run.now c.requires.nested refl refl refl refl
 
-pub returns-in_ok-leave-in-Some-clause-due : goal.returns-in_ok-leave-in-Some-clause-due
-returns-in_ok-leave-in-Some-clause-due g c =
+pub returns-in_ok-leave-in-Some-clause-expected : goal.returns-in_ok-leave-in-Some-clause-expected
+returns-in_ok-leave-in-Some-clause-expected g c =
     let tables = g.S.Store.tables c.args.store.now in
     let at = g.S.Store.at c.args.store.now in
     returns_to c.args.code.now (machine_of tables at c.args.run.now) (machine_of tables at c.returned.new.run) (machine_of (g.S.Store.tables c.leave.new.store) (g.S.Store.at c.leave.new.store) c.leave.new.run)
-    c.in_ok-value-in-Some.value c.push.new.self.items c.in_ok-leave-in-Some.field-0 (c.in_ok-value-in-Some.ensures.due tables at)
-    (◌∙◌ {A = List Datum} c.in_ok-push-in-Some.ensures.items (ap (λ (xs : List Datum). xs ++ c.in_ok-value-in-Some.value ∷ []) c.new-values.ensures.items)) c.in_ok-leave-in-Some.ensures.due
+    c.in_ok-value-in-Some.value c.push.new.self.items c.in_ok-leave-in-Some.field-0 (c.in_ok-value-in-Some.ensures.expected tables at)
+    (◌∙◌ {A = List Datum} c.in_ok-push-in-Some.ensures.items (ap (λ (xs : List Datum). xs ++ c.in_ok-value-in-Some.value ∷ []) c.new-values.ensures.items)) c.in_ok-leave-in-Some.ensures.expected
 
 pub returns-in_ok-leave-in-Some-clause-still : goal.returns-in_ok-leave-in-Some-clause-still
 returns-in_ok-leave-in-Some-clause-still g c =

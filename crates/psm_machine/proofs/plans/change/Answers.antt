@@ -7,8 +7,8 @@ use Rattle.psm_machine.specs.ActResults.{Evaluates}
 use Rattle.psm_machine.proofs.Staying.{still_stand, still_stay}
 use Rattle.psm_machine.proofs.plans.change.Goals as goal
 
-pub returns-in-Some-clause-due : goal.returns-in-Some-clause-due
-returns-in-Some-clause-due g c =
+pub returns-in-Some-clause-expected : goal.returns-in-Some-clause-expected
+returns-in-Some-clause-expected g c =
     let old = g.S.Store.tables c.args.store.now in
     let at = g.S.Store.at c.args.store.now in
     let new = g.S.Store.tables c.carry_out.new.store in
@@ -17,7 +17,7 @@ returns-in-Some-clause-due g c =
     let stay = still_stay (g.S.Store.holds c.args.store.now) at holds_new at_new c.carry_out.ensures.keeps c.args.run.now c.carry_out.new.run c.carry_out.ensures.same c.requires.stand.nested in
     rw (sym c.plan_at.ensures ∙ ap option_copied c.in-Some.is)
     (subst (λ now. Evaluates (done c.args.code.now c.args.routine.now c.in-Some.plan.now (machine_of old at c.args.run.now)) c.carry_out.result now)
-    (sym (machine_stays at holds_new at_new new c.carry_out.new.run stay)) (c.carry_out.ensures.due at))
+    (sym (machine_stays at holds_new at_new new c.carry_out.new.run stay)) (c.carry_out.ensures.expected at))
 
 pub returns-in-Some-clause-stand : goal.returns-in-Some-clause-stand
 returns-in-Some-clause-stand g c =

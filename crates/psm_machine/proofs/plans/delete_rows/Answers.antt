@@ -22,8 +22,8 @@ delete-requires-clause-constraints g c =
     let h = of_some may (slice_get code.tables c.args.table) c.in-Some._declared.now (sym c.table_at.ensures ∙ ap option_copied c.in-Some.is) c.requires.may in
     h.table.keys_there
 
-pub returns-in_err-count-clause-due : goal.returns-in_err-count-clause-due
-returns-in_err-count-clause-due g c = λ at.
+pub returns-in_err-count-clause-expected : goal.returns-in_err-count-clause-expected
+returns-in_err-count-clause-expected g c = λ at.
     let old : List Contents = g.S.Store.tables c.args.store.now in
     let new : List Contents = g.S.Store.tables c.delete.new.store in
     let t = c.in-Some._declared.now in
@@ -37,8 +37,8 @@ returns-in_err-count-clause-due g c = λ at.
     let counted = subst (λ p. Counted (delete_rows c.args.code.now n test) some_row old at run new p) (sym c.in_err-count.ensures) (delete_counted c.args.code.now n t here old at run new test c.delete.result h.table seen) in
     subst (λ r. Evaluates (delete_rows c.args.code.now n test (machine_of old at run)) r (machine_of new at run)) (as_err c.from_residual.result c.in_err-count.field-0.0 c.from_residual.ensures.1) counted
 
-pub returns-clause-due : goal.returns-clause-due
-returns-clause-due g c = λ at.
+pub returns-clause-expected : goal.returns-clause-expected
+returns-clause-expected g c = λ at.
     let old : List Contents = g.S.Store.tables c.args.store.now in
     let new : List Contents = g.S.Store.tables c.delete.new.store in
     let t = c.in-Some._declared.now in

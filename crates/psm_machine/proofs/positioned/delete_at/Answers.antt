@@ -25,8 +25,8 @@ delete_at-requires-clause-constraints g c =
     let may = may_at (λ n c. MayEraseAt code.keys old n c) code r run.running.cursors.items n c.in-Some.declared.now q c.in-Some-table_at._declared.now cursor d a b s c.requires.may in
     may.table.keys_there
 
-pub returns-in_err-part_of-clause-due : goal.returns-in_err-part_of-clause-due
-returns-in_err-part_of-clause-due g c = λ at.
+pub returns-in_err-part_of-clause-expected : goal.returns-in_err-part_of-clause-expected
+returns-in_err-part_of-clause-expected g c = λ at.
     let old : List Contents = g.S.Store.tables c.args.store.now in
     let new : List Contents = g.S.Store.tables c.delete_at.new.store in
     let code = c.args.code.now in
@@ -48,8 +48,8 @@ returns-in_err-part_of-clause-due g c = λ at.
     let stopped = subst (λ p. Moves (delete_at code r n) n cursor old at run new (gone_by p)) (sym c.in_err-part_of.ensures) done in
     subst (λ p. Evaluates (delete_at code r n (machine_of old at run)) p (machine_of new at run)) (as_err c.from_residual-in_err-part_of.result c.in_err-part_of.field-0.0 c.from_residual-in_err-part_of.ensures.1) stopped
 
-pub returns-clause-due : goal.returns-clause-due
-returns-clause-due g c = λ at.
+pub returns-clause-expected : goal.returns-clause-expected
+returns-clause-expected g c = λ at.
     let old : List Contents = g.S.Store.tables c.args.store.now in
     let new : List Contents = g.S.Store.tables c.delete_at.new.store in
     let code = c.args.code.now in
@@ -70,4 +70,4 @@ returns-clause-due g c = λ at.
     (sym c.current.ensures.row ∙ ap option_copied c.in-Some-current.is) c.in_ok-key.ensures.value c.delete_at.ensures.answer in
     subst (λ p. Moves (delete_at code r n) n cursor old at run new (gone_by p)) (sym c.in_ok-part_of.ensures) done
     ∙ ap (λ area. leave_row true n cursor (machine_of new at (record run { area = area }))) (sym c.set_rows.ensures)
-    ∙ c.leave_row.ensures.due cursor s new at
+    ∙ c.leave_row.ensures.expected cursor s new at

@@ -30,8 +30,8 @@ update_at-requires-clause-constraints g c =
     let may = may_at (λ n x. MayChangeAt code.keys old n run.running.variables.items c.args.sets.now x) code r run.running.cursors.items n c.in-Some.declared.now q c.in-Some-table_at.table.now cursor d a b s c.requires.may in
     may.table.keys_there
 
-pub returns-in_err-moved-clause-due : goal.returns-in_err-moved-clause-due
-returns-in_err-moved-clause-due g c = λ at.
+pub returns-in_err-moved-clause-expected : goal.returns-in_err-moved-clause-expected
+returns-in_err-moved-clause-expected g c = λ at.
     let old : List Contents = g.S.Store.tables c.args.store.now in
     let new : List Contents = g.S.Store.tables c.update_at.new.store in
     let code = c.args.code.now in
@@ -55,8 +55,8 @@ returns-in_err-moved-clause-due g c = λ at.
     let stopped = subst (λ p. Moves (update_at code r n sets) n cursor old at run new p) (sym c.in_err-moved.ensures) done in
     subst (λ p. Evaluates (update_at code r n sets (machine_of old at run)) p (machine_of new at run)) (as_err c.from_residual.result c.in_err-moved.field-0.0 c.from_residual.ensures.1) stopped
 
-pub returns-clause-due : goal.returns-clause-due
-returns-clause-due g c = λ at.
+pub returns-clause-expected : goal.returns-clause-expected
+returns-clause-expected g c = λ at.
     let old : List Contents = g.S.Store.tables c.args.store.now in
     let new : List Contents = g.S.Store.tables c.update_at.new.store in
     let code = c.args.code.now in
@@ -79,4 +79,4 @@ returns-clause-due g c = λ at.
     let done = moves code r n sets x q t cursor key c.table.result.now.contents old new at run c.update_at.result d a b may.table s c.table.ensures c.in-Some-key_on.ensures.some c.in-Some-key_on.ensures.row seen in
     subst (λ p. Moves (update_at code r n sets) n cursor old at run new p) (sym c.in_ok-moved.ensures) done
     ∙ ap (λ area. leave_row c.in_ok-moved.moved n cursor (machine_of new at (record run { area = area }))) (sym c.set_rows.ensures)
-    ∙ c.leave_row.ensures.due cursor s new at
+    ∙ c.leave_row.ensures.expected cursor s new at

@@ -6,24 +6,24 @@ use Rattle.psm_machine.proofs.ActSequences.{same_then}
 use Rattle.psm_machine.proofs.Filled.{pops_end, pops_next, pops_stop}
 use Rattle.psm_machine.proofs.putting.pops.Goals as goal
 
-pub returns-in_err-pop-clause-due : goal.returns-in_err-pop-clause-due
-returns-in_err-pop-clause-due c = λ tables at.
-    let m = machine_of tables at c.loop-place.run in
-    subst (λ came. Evaluates came c.from_residual.result (machine_of tables at c.pop.new.run)) (sym (c.loop-place.invariant.1 tables at))
-    (pops_stop c.args.count c.loop-place.place c.loop-place.values.items m (machine_of tables at c.pop.new.run) c.in_err-pop.field-0.0 c.from_residual.result c.loop-place-test.true c.from_residual.ensures.1 (c.in_err-pop.ensures.due tables at))
+pub returns-in_err-pop-clause-expected : goal.returns-in_err-pop-clause-expected
+returns-in_err-pop-clause-expected c = λ tables at.
+    let m = machine_of tables at c.loop-index.run in
+    subst (λ came. Evaluates came c.from_residual.result (machine_of tables at c.pop.new.run)) (sym (c.loop-index.invariant.1 tables at))
+    (pops_stop c.args.count c.loop-index.index c.loop-index.values.items m (machine_of tables at c.pop.new.run) c.in_err-pop.field-0.0 c.from_residual.result c.loop-index-test.true c.from_residual.ensures.1 (c.in_err-pop.ensures.expected tables at))
 
-pub loop-place-preserved : goal.loop-place-preserved
-loop-place-preserved c = (
-  same_then c.args.run.now c.loop-place.run c.pop.new.run c.loop-place.invariant.0 c.pop.ensures.same,
+pub loop-index-preserved : goal.loop-index-preserved
+loop-index-preserved c = (
+  same_then c.args.run.now c.loop-index.run c.pop.new.run c.loop-index.invariant.0 c.pop.ensures.same,
   λ tables at.
-      c.loop-place.invariant.1 tables at
-      ∙ pops_next c.args.count c.loop-place.place c.loop-place.values.items c.push.new.self.items c.in_ok-pop.field-0 (machine_of tables at c.loop-place.run) (machine_of tables at c.pop.new.run) c.loop-place-test.true c.in_ok-push.ensures.items (c.in_ok-pop.ensures.due tables at),
+      c.loop-index.invariant.1 tables at
+      ∙ pops_next c.args.count c.loop-index.index c.loop-index.values.items c.push.new.self.items c.in_ok-pop.field-0 (machine_of tables at c.loop-index.run) (machine_of tables at c.pop.new.run) c.loop-index-test.true c.in_ok-push.ensures.items (c.in_ok-pop.ensures.expected tables at),
 )
 
-pub returns-clause-due : goal.returns-clause-due
-returns-clause-due c = λ tables at.
-    let m = machine_of tables at c.loop-place.run in
-    let end : c.loop-place.place ≡ c.args.count = omega (arith, c.loop-place-test.false, c.loop-place.auto.place-end) in
-    c.loop-place.invariant.1 tables at
-    ∙ ap (λ ds. pops (c.args.count - c.loop-place.place) ds m) (sym c.reverse.ensures.items ∙ sym c.of.ensures)
-    ∙ pops_end c.args.count c.loop-place.place c.of.result m end
+pub returns-clause-expected : goal.returns-clause-expected
+returns-clause-expected c = λ tables at.
+    let m = machine_of tables at c.loop-index.run in
+    let end : c.loop-index.index ≡ c.args.count = omega (arith, c.loop-index-test.false, c.loop-index.auto.index-end) in
+    c.loop-index.invariant.1 tables at
+    ∙ ap (λ ds. pops (c.args.count - c.loop-index.index) ds m) (sym c.reverse.ensures.items ∙ sym c.of.ensures)
+    ∙ pops_end c.args.count c.loop-index.index c.of.result m end

@@ -14,8 +14,8 @@ put_into-requires-clause-has g c =
     let here = sym c.table_at.ensures ∙ ap option_copied c.in-Some.is in
     of_some (λ t. HasTable c.args.code.now.keys t (g.S.Store.tables c.args.store.now) c.args.table) (slice_get c.args.code.now.tables c.args.table) c.in-Some.declared.now here c.requires.may
 
-pub returns-in_err-count-clause-due : goal.returns-in_err-count-clause-due
-returns-in_err-count-clause-due g c = λ at.
+pub returns-in_err-count-clause-expected : goal.returns-in_err-count-clause-expected
+returns-in_err-count-clause-expected g c = λ at.
     let old : List Contents = g.S.Store.tables c.args.store.now in
     let new : List Contents = g.S.Store.tables c.put_into.new.store in
     let t = c.in-Some.declared.now in
@@ -27,8 +27,8 @@ returns-in_err-count-clause-due g c = λ at.
     let counted = subst (λ p. Counted (put_in c.args.code.now n columns rows) nothing_more old at c.args.run.now new p) (sym c.in_err-count.ensures) (put_counted c.args.code.now n t here old at c.args.run.now new columns rows c.put_into.result h c.put_into.ensures.puts) in
     subst (λ r. Evaluates (put_in c.args.code.now n columns rows (machine_of old at c.args.run.now)) r (machine_of new at c.args.run.now)) (as_err c.from_residual.result c.in_err-count.field-0.0 c.from_residual.ensures.1) counted
 
-pub returns-clause-due : goal.returns-clause-due
-returns-clause-due g c = λ at.
+pub returns-clause-expected : goal.returns-clause-expected
+returns-clause-expected g c = λ at.
     let old : List Contents = g.S.Store.tables c.args.store.now in
     let new : List Contents = g.S.Store.tables c.put_into.new.store in
     let t = c.in-Some.declared.now in

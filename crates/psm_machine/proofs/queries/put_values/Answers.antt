@@ -12,17 +12,17 @@ loop-value-preserved c = (
   λ tables at.
       let m = machine_of tables at c.loop-value.run in
       c.loop-value.invariant.1 tables at ∙ ap (λ ds. put_values ds m) c.in-Some.ensures.items ∙ put_last c.pop.new.self.items c.in-Some.value m
-      ∙ ap (λ (came : Came (Unit {0})). put_values c.pop.new.self.items came.machine) (c.in_ok-put.ensures.due tables at),
+      ∙ ap (λ (came : Came (Unit {0})). put_values c.pop.new.self.items came.machine) (c.in_ok-put.ensures.expected tables at),
 )
 
-pub returns-in_err-put-clause-due : goal.returns-in_err-put-clause-due
-returns-in_err-put-clause-due c = λ tables at.
+pub returns-in_err-put-clause-expected : goal.returns-in_err-put-clause-expected
+returns-in_err-put-clause-expected c = λ tables at.
     let m = machine_of tables at c.loop-value.run in
     let ds = c.pop.new.self.items in
     subst (λ came. Evaluates came c.from_residual.result (machine_of tables at c.put.new.run))
     (sym (c.loop-value.invariant.1 tables at ∙ ap (λ ds. put_values ds m) c.in-Some.ensures.items ∙ put_last ds c.in-Some.value m))
-    (stopped {A = Unit {0}} {B = Unit {0}} (put_value c.in-Some.value m) (λ u. put_values ds) (machine_of tables at c.put.new.run) c.in_err-put.field-0.0 c.from_residual.result c.from_residual.ensures.1 (c.in_err-put.ensures.due tables at))
+    (stopped {A = Unit {0}} {B = Unit {0}} (put_value c.in-Some.value m) (λ u. put_values ds) (machine_of tables at c.put.new.run) c.in_err-put.field-0.0 c.from_residual.result c.from_residual.ensures.1 (c.in_err-put.ensures.expected tables at))
 
-pub returns-clause-due : goal.returns-clause-due
-returns-clause-due c = λ tables at.
+pub returns-clause-expected : goal.returns-clause-expected
+returns-clause-expected c = λ tables at.
     c.loop-value.invariant.1 tables at ∙ ap (λ ds. put_values ds (machine_of tables at c.loop-value.run)) (nothing c.loop-value.values.items (sym c.loop-value.values.ok.0 ∙ c.in_default.ensures.cases.0))

@@ -21,8 +21,8 @@ entered-requires c =
     subst (λ ps. All (λ (p : Parameter). IsType p.kind) ps) (sym c.items.ensures)
     (parameter_types c.in-Some.routine.now (one_of (λ (r : RawRoutine). All IsType (slots_of r)) c.args.code.now.routines c.args.number c.in-Some.routine.now c.requires (sym c.routine_at.ensures ∙ ap option_copied c.in-Some.is)))
 
-pub returns-in_err-parameters-clause-due : goal.returns-in_err-parameters-clause-due
-returns-in_err-parameters-clause-due c = λ at m.
+pub returns-in_err-parameters-clause-expected : goal.returns-in_err-parameters-clause-expected
+returns-in_err-parameters-clause-expected c = λ at m.
     let n = c.args.number in
     let r = c.in-Some.routine.now in
     let args = c.args.arguments.items in
@@ -30,10 +30,10 @@ returns-in_err-parameters-clause-due c = λ at m.
     subst (λ (x : Came Activation). Evaluates x (result_map_both (activation_of at []) (λ x. x) c.from_residual.result) m) (sym (with_first c.args.code.now n args r m (sym c.routine_at.ensures ∙ ap option_copied c.in-Some.is)))
     (shown_stopped (activation_of at []) (entered r.parameters args m) (λ ps. got (activation n r ps)) m s c.from_residual.result c.from_residual.ensures.1
     (subst (λ xs. Evaluates (entered r.parameters xs m) (Err s) m) (ap reverse c.reverse.ensures.items ∙ reverse-reverse args)
-    (subst (λ ps. Evaluates (entered ps (reverse c.reverse.new.self.items) m) (Err s) m) c.items.ensures (c.in_err-parameters.ensures.due m))))
+    (subst (λ ps. Evaluates (entered ps (reverse c.reverse.new.self.items) m) (Err s) m) c.items.ensures (c.in_err-parameters.ensures.expected m))))
 
-pub returns-clause-due : goal.returns-clause-due
-returns-clause-due c = λ at m.
+pub returns-clause-expected : goal.returns-clause-expected
+returns-clause-expected c = λ at m.
     let n = c.args.number in
     let r = c.in-Some.routine.now in
     let args = c.args.arguments.items in
@@ -41,5 +41,5 @@ returns-clause-due c = λ at m.
     with_first c.args.code.now n args r m (sym c.routine_at.ensures ∙ ap option_copied c.in-Some.is)
     ∙ with_values c.args.code.now n args ds r m
     (ap (λ xs. entered r.parameters xs m) (sym (ap reverse c.reverse.ensures.items ∙ reverse-reverse args))
-    ∙ ap (λ ps. entered ps (reverse c.reverse.new.self.items) m) (sym c.items.ensures) ∙ c.in_ok-parameters.ensures.due m)
-    ∙ ap (λ (a : Activation). record { given = Got a; machine = m }) (sym (c.in_ok-activation.ensures.due at))
+    ∙ ap (λ ps. entered ps (reverse c.reverse.new.self.items) m) (sym c.items.ensures) ∙ c.in_ok-parameters.ensures.expected m)
+    ∙ ap (λ (a : Activation). record { given = Got a; machine = m }) (sym (c.in_ok-activation.ensures.expected at))

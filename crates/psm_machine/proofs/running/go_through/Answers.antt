@@ -20,7 +20,7 @@ abbrev following : (g : Over) → In_default g → Machine
 following g c = machine_of (g.S.Store.tables c.advance.new.store) (g.S.Store.at c.advance.new.store) c.advance.new.run
 
 goes_on : (g : Over) (c : In_default g) → Advances c.args.code.now (before g c) None (following g c)
-goes_on g c = subst (λ f. Advances c.args.code.now (before g c) f (following g c)) c.in_default.is c.in_ok-finished.ensures.due
+goes_on g c = subst (λ f. Advances c.args.code.now (before g c) f (following g c)) c.in_default.is c.in_ok-finished.ensures.expected
 
 -- ---- the goals
 
@@ -55,13 +55,13 @@ rows-preserved g c =
           c.rows.invariant.still c.advance.ensures.still;
     }
 
-pub returns-in-Some-clause-due : goal.returns-in-Some-clause-due
-returns-in-Some-clause-due g c =
+pub returns-in-Some-clause-expected : goal.returns-in-Some-clause-expected
+returns-in-Some-clause-expected g c =
     let code = c.args.code.now in
     let from = More (machine_of (g.S.Store.tables c.args.store.now) (g.S.Store.at c.args.store.now) c.args.run) in
     let m : Machine = machine_of (g.S.Store.tables c.rows.store) (g.S.Store.at c.rows.store) c.rows.run in
     let now : Machine = machine_of (g.S.Store.tables c.advance.new.store) (g.S.Store.at c.advance.new.store) c.advance.new.run in
-    let a = c.in_ok-finished.ensures.due in
+    let a = c.in_ok-finished.ensures.expected in
     let last = subst (λ f. AfterStep (step code a.last) f a.last now) c.in-Some.is a.next in
     finishes_over code c.requires.well_formed_code from c.in-Some.finished (g.S.Store.tables c.advance.new.store) (c.rows.invariant.before.0 + a.count) a.last now (outcome.Over c.in-Some.finished.ending)
     (machine_invariant_there code c.requires.well_formed_code m a.last a.count c.rows.invariant.machine_invariant a.leads)

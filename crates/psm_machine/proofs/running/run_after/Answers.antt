@@ -16,7 +16,7 @@ pub go_through-requires-clause-machine_invariant : goal.go_through-requires-clau
 go_through-requires-clause-machine_invariant g c =
     let args = c.args.arguments.items in
     subst (StaysWellFormed c.args.code.now)
-    (subst (λ (b : Beginning). Begins (λ tables. started c.args.code.now c.args.number args tables c.args.turns) c.args.turns b) c.in-Runs.is c.in_ok-ending.ensures.due (g.S.Store.tables c.args.store.now) (g.S.Store.at c.args.store.now))
+    (subst (λ (b : Beginning). Begins (λ tables. started c.args.code.now c.args.number args tables c.args.turns) c.args.turns b) c.in-Runs.is c.in_ok-ending.ensures.expected (g.S.Store.tables c.args.store.now) (g.S.Store.at c.args.store.now))
     (starts c.args.code.now c.requires.well_formed_code c.args.number c.requires.takes.routine c.requires.takes.there args (g.S.Store.tables c.args.store.now) c.args.turns c.requires.takes.many c.requires.kept)
 
 pub go_through-requires-clause-stand : goal.go_through-requires-clause-stand
@@ -24,9 +24,9 @@ go_through-requires-clause-stand g c =
     let own = subst (λ (b : Beginning). HasNoMarks c.args.marks b) c.in-Runs.is c.in_ok-ending.ensures.marks in
     stand_first (g.S.Store.holds c.args.store.now) (g.S.Store.marks c.args.store.now) c.args.marks c.in-Runs.run' own.0 own.1 own.2 c.requires.counted c.requires.most
 
-pub returns-in-Over-clause-due : goal.returns-in-Over-clause-due
-returns-in-Over-clause-due g c =
+pub returns-in-Over-clause-expected : goal.returns-in-Over-clause-expected
+returns-in-Over-clause-expected g c =
     let args = c.args.arguments.items in
     let tables = g.S.Store.tables c.args.store.now in
     finishes_at_once c.args.code.now (started c.args.code.now c.args.number args tables c.args.turns) (record { ending = c.in-Over.ending; turns = c.args.turns }) tables (before_start c.args.turns tables)
-    (subst (λ (b : Beginning). Begins (λ tables. started c.args.code.now c.args.number args tables c.args.turns) c.args.turns b) c.in-Over.is c.in_ok-ending.ensures.due tables) refl refl
+    (subst (λ (b : Beginning). Begins (λ tables. started c.args.code.now c.args.number args tables c.args.turns) c.args.turns b) c.in-Over.is c.in_ok-ending.ensures.expected tables) refl refl

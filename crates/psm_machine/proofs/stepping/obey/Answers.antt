@@ -15,11 +15,11 @@ use Rattle.psm_machine.proofs.CodeGuarantees.{may_move}
 use Rattle.psm_machine.proofs.Standing.{still_same, still_then}
 use Rattle.psm_machine.proofs.stepping.obey.Goals as goal
 
-pub returns-in-Operation-clause-due : goal.returns-in-Operation-clause-due
-returns-in-Operation-clause-due g c =
+pub returns-in-Operation-clause-expected : goal.returns-in-Operation-clause-expected
+returns-in-Operation-clause-expected g c =
     let tables = g.S.Store.tables c.args.store.now in
     let at = g.S.Store.at c.args.store.now in
-    subst (λ (i : Instruction). StepsTo (done c.args.code.now c.args.routine.now i (machine_of tables at c.args.run.now)) c.operate.result (machine_of tables at c.operate.new.run)) (sym c.in-Operation.is) (c.operate.ensures.due tables at)
+    subst (λ (i : Instruction). StepsTo (done c.args.code.now c.args.routine.now i (machine_of tables at c.args.run.now)) c.operate.result (machine_of tables at c.operate.new.run)) (sym c.in-Operation.is) (c.operate.ensures.expected tables at)
 
 pub take_next-requires : goal.take_next-requires
 take_next-requires g c = may_move c.args.code.now c.args.routine.now (g.S.Store.tables c.args.store.now) c.args.run.now.running.variables.items c.args.run.now.running.cursors.items c.requires.runs _
@@ -45,9 +45,9 @@ returns-then-is_of_data g c =
     let tables1 = g.S.Store.tables c.on_tables-done.new.store in
     let m = machine_of (g.S.Store.tables c.args.store.now) at0 c.args.run.now in
     record {
-      due =
+      expected =
           subst (λ (x : Came Successor). StepsTo x c.following.result (machine_of tables1 at1 c.following.new.run))
           (sym (data_done c.args.code.now c.args.routine.now c.args.instruction.now m (sym c.is_of_data.ensures ∙ c.if-is_of_data.true) c.in_default.not-Next))
-          (c.following.ensures.due tables1 at1 (data_act c.args.code.now c.args.routine.now c.args.instruction.now m) c.on_tables-done.ensures.due);
+          (c.following.ensures.expected tables1 at1 (data_act c.args.code.now c.args.routine.now c.args.instruction.now m) c.on_tables-done.ensures.expected);
       still = still_then h0 at0 count0 c.args.run.now h1 at1 count1 c.on_tables-done.new.run h1 at1 count1 c.following.new.run c.on_tables-done.ensures.still (still_same h1 at1 count1 c.on_tables-done.new.run c.following.new.run c.following.ensures.same);
     }

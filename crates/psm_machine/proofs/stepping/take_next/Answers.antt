@@ -7,16 +7,16 @@ use Rattle.psm_machine.proofs.Doing.{goes_to}
 use Rattle.psm_machine.proofs.OneStep.{stopped_act}
 use Rattle.psm_machine.proofs.stepping.take_next.Goals as goal
 
-pub returns-in_err-there-clause-due : goal.returns-in_err-there-clause-due
-returns-in_err-there-clause-due g c =
+pub returns-in_err-there-clause-expected : goal.returns-in_err-there-clause-expected
+returns-in_err-there-clause-expected g c =
     let tables = g.S.Store.tables c.args.store.now in
     let at = g.S.Store.at c.args.store.now in
-    stopped_act (next_or_end c.args.routine.now c.args.cursor c.args.end (machine_of tables at c.args.run.now)) c.in_err-there.field-0.0 (machine_of tables at c.next.new.run) c.from_residual.result c.from_residual.ensures.1 (c.in_err-there.ensures.due c.args.end at)
+    stopped_act (next_or_end c.args.routine.now c.args.cursor c.args.end (machine_of tables at c.args.run.now)) c.in_err-there.field-0.0 (machine_of tables at c.next.new.run) c.from_residual.result c.from_residual.ensures.1 (c.in_err-there.ensures.expected c.args.end at)
 
-pub returns-clause-due : goal.returns-clause-due
-returns-clause-due g c =
+pub returns-clause-expected : goal.returns-clause-expected
+returns-clause-expected g c =
     let tables = g.S.Store.tables c.args.store.now in
     let at = g.S.Store.at c.args.store.now in
     let m : Machine = machine_of tables at c.next.new.run in
     goes_to (next_or_end c.args.routine.now c.args.cursor c.args.end (machine_of tables at c.args.run.now)) c.next_of.result m (machine_of tables at c.go.new.run) c.go.result
-    (c.in_ok-there.ensures.due c.args.end at ∙ ap (λ (w : Successor). record { given = Got w; machine = m }) (sym c.next_of.ensures)) (c.go.ensures.due tables at)
+    (c.in_ok-there.ensures.expected c.args.end at ∙ ap (λ (w : Successor). record { given = Got w; machine = m }) (sym c.next_of.ensures)) (c.go.ensures.expected tables at)

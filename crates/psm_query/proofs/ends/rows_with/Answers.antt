@@ -11,8 +11,8 @@ returns-then-is_empty c = record {
 
 pub returns : goal.returns
 returns c =
-    let low : Cut = record { values = c.args.firsts; is_behind = false } in
-    let high : Cut = record { values = c.args.firsts; is_behind = true } in
+    let low : Cut = record { values = c.args.firsts; is_after = false } in
+    let high : Cut = record { values = c.args.firsts; is_after = true } in
     record {
       rows = c.rows_between.ensures.rows ∙ ap (in_walk c.args.downward) (between_cuts c.args.table.now.contents.def.key c.args.firsts.now low high c.args.table.now.contents.rows refl refl refl refl);
     }

@@ -6,34 +6,34 @@ use Rattle.psm_query.proofs.gathering.add_all.Goals as goal
 
 pub loop-value-preserved-then-at-len : goal.loop-value-preserved-then-at-len
 loop-value-preserved-then-at-len c =
-    let place : c.len-at.result ≡ length c.pop.new.self.items = c.len-at.ensures ∙ c.pop.new.self.ok.0 in
+    let position : c.len-at.result ≡ length c.pop.new.self.items = c.len-at.ensures ∙ c.pop.new.self.ok.0 in
     let count : c.len.result ≡ length c.loop-value.tallies.items = c.len.ensures ∙ c.loop-value.tallies.ok.0 in
     let inside : c.len-at.result < length c.loop-value.tallies.items = omega (arith, c.if-at-len.true, count) in
     record {
-      so_far = put_last c.loop-value.tallies.items c.pop.new.self.items c.loop-value.values.items c.in-Some.value c.len-at.result place c.in-Some.ensures.items
+      so_far = put_last c.loop-value.tallies.items c.pop.new.self.items c.loop-value.values.items c.in-Some.value c.len-at.result position c.in-Some.ensures.items
           c.add.new.self c.index_mut.result.now inside c.index_mut.ensures.value c.add.ensures ∙ c.loop-value.invariant.so_far;
-      room = put_room c.loop-value.tallies.items c.pop.new.self.items c.loop-value.values.items c.in-Some.value c.len-at.result place c.in-Some.ensures.items
+      room = put_room c.loop-value.tallies.items c.pop.new.self.items c.loop-value.values.items c.in-Some.value c.len-at.result position c.in-Some.ensures.items
           c.add.new.self c.loop-value.invariant.room;
     }
 
 pub loop-value-preserved-else-at-len : goal.loop-value-preserved-else-at-len
 loop-value-preserved-else-at-len c =
-    let place : c.len-at.result ≡ length c.pop.new.self.items = c.len-at.ensures ∙ c.pop.new.self.ok.0 in
+    let position : c.len-at.result ≡ length c.pop.new.self.items = c.len-at.ensures ∙ c.pop.new.self.ok.0 in
     let count : c.len.result ≡ length c.loop-value.tallies.items = c.len.ensures ∙ c.loop-value.tallies.ok.0 in
     let past : length c.loop-value.tallies.items ≤ c.len-at.result = omega (arith, c.if-at-len.false, count) in
     record {
-      so_far = pass_last c.loop-value.tallies.items c.pop.new.self.items c.loop-value.values.items c.in-Some.value c.len-at.result place c.in-Some.ensures.items past ∙ c.loop-value.invariant.so_far;
-      room = pass_room c.loop-value.tallies.items c.pop.new.self.items c.loop-value.values.items c.in-Some.value c.len-at.result place c.in-Some.ensures.items c.loop-value.invariant.room;
+      so_far = pass_last c.loop-value.tallies.items c.pop.new.self.items c.loop-value.values.items c.in-Some.value c.len-at.result position c.in-Some.ensures.items past ∙ c.loop-value.invariant.so_far;
+      room = pass_room c.loop-value.tallies.items c.pop.new.self.items c.loop-value.values.items c.in-Some.value c.len-at.result position c.in-Some.ensures.items c.loop-value.invariant.room;
     }
 
 pub loop-value-preserved : goal.loop-value-preserved
 loop-value-preserved c =
-    let place : c.len-at.result ≡ length c.pop.new.self.items = c.len-at.ensures ∙ c.pop.new.self.ok.0 in
+    let position : c.len-at.result ≡ length c.pop.new.self.items = c.len-at.ensures ∙ c.pop.new.self.ok.0 in
     let count : c.len.result ≡ length c.loop-value.tallies.items = c.len.ensures ∙ c.loop-value.tallies.ok.0 in
     let past : length c.loop-value.tallies.items ≤ c.len-at.result = omega (arith, c.if-at-len.false, count) in
     record {
-      so_far = pass_last c.loop-value.tallies.items c.pop.new.self.items c.loop-value.values.items c.in-Some.value c.len-at.result place c.in-Some.ensures.items past ∙ c.loop-value.invariant.so_far;
-      room = pass_room c.loop-value.tallies.items c.pop.new.self.items c.loop-value.values.items c.in-Some.value c.len-at.result place c.in-Some.ensures.items c.loop-value.invariant.room;
+      so_far = pass_last c.loop-value.tallies.items c.pop.new.self.items c.loop-value.values.items c.in-Some.value c.len-at.result position c.in-Some.ensures.items past ∙ c.loop-value.invariant.so_far;
+      room = pass_room c.loop-value.tallies.items c.pop.new.self.items c.loop-value.values.items c.in-Some.value c.len-at.result position c.in-Some.ensures.items c.loop-value.invariant.room;
     }
 
 pub returns : goal.returns

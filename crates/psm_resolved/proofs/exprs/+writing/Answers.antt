@@ -10,7 +10,7 @@ use Rattle.std.proofs.lemmas.Grind.{common_steps}
 use Rattle.psm_resolved.proofs.Cases.{coalesce_written, awaits_first, others_next, others_end, left_item}
 use Rattle.psm_resolved.proofs.Choices.{branch_written, branches_first, branches_next, branches_end, else_null, else_given, searched_written, compared_written}
 use Rattle.std.proofs.lemmas.List.{drop_all}
-use Rattle.psm_resolved.proofs.Several.{logical_operator_first, logical_operator_next, logical_operator_end, extends_next, extends_end, next_item, all_items, writes_same, first_told, rest_told}
+use Rattle.psm_resolved.proofs.Several.{logical_operator_first, logical_operator_next, logical_operator_end, extends_next, extends_end, next_item, all_items, writes_same, first_same, rest_same}
 use Rattle.psm_resolved.proofs.exprs.+writing.Goals as goal
 
 pub expr-returns-in-Number : goal.expr-returns-in-Number
@@ -20,7 +20,7 @@ pub expr-returns-in_ok-copy-in-Text : goal.expr-returns-in_ok-copy-in-Text
 expr-returns-in_ok-copy-in-Text t c = text_written c.args.expr_context.columns.now c.args.expr_context.variables.now c.args.e.now c.in_ok-copy-in-Text.field-0 c.args.out.now c.apply-in-Text.new.self c.apply-in-Text.result (c.in-Text.is ∙ ap exprs.Text (sym c.in_ok-copy-in-Text.ensures)) c.apply-in-Text.ensures
 
 pub expr-returns-in-Column : goal.expr-returns-in-Column
-expr-returns-in-Column t c = column_written c.args.expr_context.columns.now c.args.expr_context.variables.now c.args.e.now c.in-Column.place c.letter_at-letter.result c.args.out.now c.apply-in-Column.new.self c.apply-in-Column.result c.in-Column.is c.letter_at-letter.ensures c.apply-in-Column.ensures
+expr-returns-in-Column t c = column_written c.args.expr_context.columns.now c.args.expr_context.variables.now c.args.e.now c.in-Column.index c.letter_at-letter.result c.args.out.now c.apply-in-Column.new.self c.apply-in-Column.result c.in-Column.is c.letter_at-letter.ensures c.apply-in-Column.ensures
 
 pub expr-returns-in-Variable : goal.expr-returns-in-Variable
 expr-returns-in-Variable t c = variable_written c.args.expr_context.columns.now c.args.expr_context.variables.now c.args.e.now c.in-Variable.slot c.letter_at-letter-in-Variable.result c.args.out.now c.apply-in-Variable.new.self c.apply-in-Variable.result c.in-Variable.is c.letter_at-letter-in-Variable.ensures c.apply-in-Variable.ensures
@@ -125,7 +125,7 @@ pub expr-returns-in_ok-apply-in-Some-operand : goal.expr-returns-in_ok-apply-in-
 expr-returns-in_ok-apply-in-Some-operand t c = compared_written c.args.expr_context.columns.now c.args.expr_context.variables.now c.args.e.now c.get-in-Some-operand.result.now c.in-Case.whens c.in-Case.otherwise c.in-Case.scale c.letter_of_results-letter.result c.in_ok-jumps-in-Some-operand.jumps.items c.as_slice-in-Some-operand.result.now c.args.out.now c.expr-in-Some-operand.new.out c.cases-in-Some-operand.new.out c.alternative-in-Some-operand.new.out c.close-in-Some-operand.new.self c.apply-in-Some-operand.new.self c.rescale-in-Some-operand.new.self c.rescale-in-Some-operand.result (c.in-Case.is ∙ ap (λ o. exprs.Case o c.in-Case.whens c.in-Case.otherwise c.in-Case.scale) (c.in-Some-operand.is ∙ ap Some (sym c.get-in-Some-operand.ensures))) c.letter_of_results-letter.ensures (cc) c.in_ok-expr-in-Some-operand.ensures c.in_ok-jumps-in-Some-operand.ensures c.in_ok-alternative-in-Some-operand.ensures c.in_ok-close-in-Some-operand.ensures c.in_ok-apply-in-Some-operand.ensures c.rescale-in-Some-operand.ensures
 
 pub expr-returns-in_ok-others-in-Coalesce : goal.expr-returns-in_ok-others-in-Coalesce
-expr-returns-in_ok-others-in-Coalesce t c = coalesce_written c.args.expr_context.columns.now c.args.expr_context.variables.now c.args.e.now c.get-in-Coalesce.result.now c.values.inside.rest c.in-Coalesce.values c.in-Coalesce.scale c.letter_of_results-kind.result c.args.out.now c.source.new.out c.others.new.out c.rescale-in-Coalesce.new.self c.rescale-in-Coalesce.result c.in-Coalesce.is (first_told c.values.view_is c.get-in-Coalesce.ensures) (rest_told c.values.view_is refl) c.letter_of_results-kind.ensures c.in_ok-source-in-Coalesce.ensures c.in_ok-others-in-Coalesce.ensures c.rescale-in-Coalesce.ensures
+expr-returns-in_ok-others-in-Coalesce t c = coalesce_written c.args.expr_context.columns.now c.args.expr_context.variables.now c.args.e.now c.get-in-Coalesce.result.now c.values.inside.rest c.in-Coalesce.values c.in-Coalesce.scale c.letter_of_results-kind.result c.args.out.now c.source.new.out c.others.new.out c.rescale-in-Coalesce.new.self c.rescale-in-Coalesce.result c.in-Coalesce.is (first_same c.values.view_is c.get-in-Coalesce.ensures) (rest_same c.values.view_is refl) c.letter_of_results-kind.ensures c.in_ok-source-in-Coalesce.ensures c.in_ok-others-in-Coalesce.ensures c.rescale-in-Coalesce.ensures
 
 pub others-loop-value-init : goal.others-loop-value-init
 others-loop-value-init t c = awaits_first c.args.expr_context.columns.now c.args.expr_context.variables.now c.args.letter c.args.rest.now (drop 0 c.items-value-items.result.now) c.new-jumps.result.items c.args.out.now (cc) (cc)
@@ -140,13 +140,13 @@ pub others-returns : goal.others-returns
 others-returns t c = others_end c.args.expr_context.columns.now c.args.expr_context.variables.now c.args.letter c.args.rest.now (drop c.loop-value.value-index c.items-value-items.result.now) c.loop-value.jumps.items c.as_slice.result.now c.args.out.now c.loop-value.out c.close.new.self c.close.result (drop_all c.loop-value.value-index c.items-value-items.result.now c.loop-value-test.false) (cc) c.loop-value.invariant c.close.ensures
 
 pub cases-loop-when-init : goal.cases-loop-when-init
-cases-loop-when-init t c = branches_first c.args.expr_context.columns.now c.args.expr_context.variables.now c.args.letter c.args.is_compared c.get.result.now c.args.whens.now.first [] c.in_ok-unless.unless c.in_ok-jump.jump c.push.new.self.items c.args.out.now c.branch-out.new.out c.leave.new.self (first_told c.whens.view_is c.get.ensures) refl (grind (arith, common_steps)) c.in_ok-unless.ensures c.in_ok-jump.ensures
+cases-loop-when-init t c = branches_first c.args.expr_context.columns.now c.args.expr_context.variables.now c.args.letter c.args.is_compared c.get.result.now c.args.whens.now.first [] c.in_ok-unless.unless c.in_ok-jump.jump c.push.new.self.items c.args.out.now c.branch-out.new.out c.leave.new.self (first_same c.whens.view_is c.get.ensures) refl (grind (arith, common_steps)) c.in_ok-unless.ensures c.in_ok-jump.ensures
 
 pub cases-loop-when-preserved : goal.cases-loop-when-preserved
 cases-loop-when-preserved t c = branches_next c.args.expr_context.columns.now c.args.expr_context.variables.now c.args.letter c.args.is_compared (c.args.whens.now.first ∷ take c.loop-when.when-index c.items-when-items.result.now) (c.args.whens.now.first ∷ take (c.loop-when.when-index + 1) c.items-when-items.result.now) c.get-in-loop-when.result.now c.loop-when.jumps.items c.push-in-loop-when.new.self.items c.in_ok-over.over c.in_ok-branching.branching c.args.out.now c.loop-when.out c.branch-out-in-loop-when.new.out c.leave-in-loop-when.new.self (ap (λ k. c.args.whens.now.first ∷ k) (next_item c.items-when-items.result.now c.loop-when.when-index c.when-item.result c.get-in-loop-when.result.now c.loop-when-test.true c.when-item.is c.get-in-loop-when.ensures)) (grind (arith, common_steps)) c.loop-when.invariant c.in_ok-over.ensures c.in_ok-branching.ensures
 
 pub cases-returns : goal.cases-returns
-cases-returns t c = branches_end c.args.expr_context.columns.now c.args.expr_context.variables.now c.args.letter c.args.is_compared (c.args.whens.now.first ∷ take c.loop-when.when-index c.items-when-items.result.now) (listed c.args.whens.now) c.loop-when.jumps.items c.args.out.now c.loop-when.out (ap (λ k. c.args.whens.now.first ∷ k) (all_items c.items-when-items.result.now c.args.whens.now.rest c.loop-when.when-index c.loop-when-test.false (rest_told c.whens.view_is c.items-when-items.ensures))) c.loop-when.invariant
+cases-returns t c = branches_end c.args.expr_context.columns.now c.args.expr_context.variables.now c.args.letter c.args.is_compared (c.args.whens.now.first ∷ take c.loop-when.when-index c.items-when-items.result.now) (listed c.args.whens.now) c.loop-when.jumps.items c.args.out.now c.loop-when.out (ap (λ k. c.args.whens.now.first ∷ k) (all_items c.items-when-items.result.now c.args.whens.now.rest c.loop-when.when-index c.loop-when-test.false (rest_same c.whens.view_is c.items-when-items.ensures))) c.loop-when.invariant
 
 pub branch-returns-in_ok-apply-in-Null : goal.branch-returns-in_ok-apply-in-Null
 branch-returns-in_ok-apply-in-Null t c = branch_written c.args.expr_context.columns.now c.args.expr_context.variables.now c.args.letter c.args.is_compared c.args.when.now c.get.result.now c.get-2.result.now c.in_ok-unless.unless c.args.out.now c.perhaps_duplicate.new.self c.expr.new.out c.perhaps_compare.new.self c.jump.new.self c.apply.new.self (cc) (cc) c.in_ok-perhaps_duplicate.ensures c.in_ok-expr.ensures c.in_ok-perhaps_compare.ensures c.in_ok-unless.ensures (null_written c.args.expr_context.columns.now c.args.expr_context.variables.now c.get-2.result.now c.args.letter c.jump.new.self c.apply.new.self (Ok tt) c.in-Null.is c.in_ok-apply-in-Null.ensures)

@@ -4,10 +4,10 @@ use Rattle.std.specs.List.{list_all}
 use Rattle.psm_value.specs.declared.datum.Datum.{Datum}
 use Rattle.psm_table.specs.Keyed.{rows_in, IsKeyOf}
 use Rattle.psm_table.specs.Table.{Contents}
-use Rattle.psm_row_changes.specs.KeyTests.{holds_late, IsSought, Matched, Tells}
+use Rattle.psm_row_changes.specs.KeyTests.{holds_late, IsSought, Matched, IsDecided}
 use Rattle.psm_row_changes.specs.Rows.{fit_in, with_rows, without_keys}
 use Rattle.psm_row_changes.proofs.Effects.{there}
-use Rattle.psm_row_changes.proofs.KeyTesting.{defs_after, rows_after, tell, tested}
+use Rattle.psm_row_changes.proofs.KeyTesting.{defs_after, rows_after, decided, tested}
 use Rattle.psm_row_changes.proofs.Putting.{with_rows-def}
 use Rattle.psm_row_changes.proofs.keying.replace_then_test.Goals as goal
 
@@ -27,9 +27,9 @@ hold_late-requires-clause-sought g c =
     let fit : fit_in rows (without_keys keys t) ≡ true =
     sym (there (λ x. c.in_ok-replace_each.field-0 ≡ fit_in rows (without_keys keys x)) (slice_get old c.args.t) t c.table.ensures c.in_ok-replace_each.ensures.answer) ∙ c.if-not-branch.false in
     let sought = subst (λ (l : List (List Datum)). Matched (IsSought old c.args.t keys l) c.args.constraints.now c.in_ok-sought.sought) c.as_slice.ensures.value c.in_ok-sought.ensures in
-    subst (λ l. Matched (Tells c.args.t c.is_empty-adds.result (rows_in new)) c.args.constraints.now l) (sym c.items.ensures)
-    (subst (λ adds. Matched (Tells c.args.t adds (rows_in new)) c.args.constraints.now c.in_ok-sought.sought) (sym c.is_empty-adds.ensures)
-    (tell c.args.constraints.now old c.args.t t c.table.ensures c.ascends.ensures c.requires.lawful keys rows new
+    subst (λ l. Matched (IsDecided c.args.t c.is_empty-adds.result (rows_in new)) c.args.constraints.now l) (sym c.items.ensures)
+    (subst (λ adds. Matched (IsDecided c.args.t adds (rows_in new)) c.args.constraints.now c.in_ok-sought.sought) (sym c.is_empty-adds.ensures)
+    (decided c.args.constraints.now old c.args.t t c.table.ensures c.ascends.ensures c.requires.lawful keys rows new
     (rows_after (λ x. with_rows rows (without_keys keys x)) (λ x. with_rows-def rows (without_keys keys x)) old new c.args.t (c.in_ok-replace_each.ensures.tables c.if-not-branch.false) t c.table.ensures)
     fit c.in_ok-sought.sought sought))
 

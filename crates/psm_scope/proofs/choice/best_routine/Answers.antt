@@ -5,7 +5,7 @@ use Rattle.psm_scope.specs.declared.choice.Best.{Best}
 use Rattle.psm_scope.specs.Blocks.{AreBlocks}
 use Rattle.psm_scope.specs.Signatures.{called}
 use Rattle.psm_scope.proofs.Grouped.{Walk, none_called, walk_ends, walk_long, walk_passes, walk_starts, walk_takes, walk_within}
-use Rattle.psm_scope.proofs.Places.{dropped_all}
+use Rattle.psm_scope.proofs.Indexes.{dropped_all}
 use Rattle.psm_scope.proofs.choice.best_routine.Goals.{in-Some-best, in_default}
 use Rattle.psm_scope.proofs.choice.best_routine.Goals as goal
 

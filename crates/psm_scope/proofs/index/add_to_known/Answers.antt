@@ -3,7 +3,7 @@ use Rattle.std.specs.Prelude.{Option}
 use Rattle.psm_scope.specs.declared.blocks.Group.{Group}
 use Rattle.psm_scope.specs.Choice.{Candidate}
 use Rattle.psm_scope.specs.Blocks.{AreBlocks, IsGroup}
-use Rattle.psm_scope.proofs.Places.{err_then, ok_then}
+use Rattle.psm_scope.proofs.Indexes.{err_then, ok_then}
 use Rattle.psm_scope.proofs.index.add_to_known.Goals as goal
 
 pub push-requires : goal.push-requires

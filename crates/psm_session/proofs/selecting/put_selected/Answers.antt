@@ -34,8 +34,8 @@ returns-in_err-values c =
     let p = err_from_is_err_and c.from_residual-in_err-values.result c.from_residual-in_err-values.ensures.1 in
     let same : c.in_ok-walk.walk ≡ walk_for c.args.table.now.contents c.args.query.now.downward c.args.vars.now c.args.query.now.test = c.in_ok-walk.ensures.walk ∙ ap (walk_for c.args.table.now.contents c.args.query.now.downward c.args.vars.now) c.as_ref.ensures.value in
     let all = walked_by c.args.table.now.contents c.args.vars.now c.args.query.now.test (values_for c.args.vars.now c.args.query.now.items) c.in_ok-walk.ensures.table.ascend c.args.query.now.downward c.in_ok-walk.walk same in
-    let due = ap (mapped (λ rows. c.args.out.now.items ++ row_lines rows)) (sym all) in
-    rw (p.1, p.2) (gives_by (_) (_) (Err c.in_err-values.field-0.0) due (goes_fault c.args.out.now.items (test_of (over c.args.vars.now) c.args.query.now.test) (values_for c.args.vars.now c.args.query.now.items) order
+    let expected = ap (mapped (λ rows. c.args.out.now.items ++ row_lines rows)) (sym all) in
+    rw (p.1, p.2) (gives_by (_) (_) (Err c.in_err-values.field-0.0) expected (goes_fault c.args.out.now.items (test_of (over c.args.vars.now) c.args.query.now.test) (values_for c.args.vars.now c.args.query.now.items) order
     c.loop-at.at c.in-Some.row.now c.in_err-values.field-0.0 c.loop-at.out.items here c.in_err-values.ensures c.loop-at.invariant.so_far))
 
 pub loop-at-preserved : goal.loop-at-preserved

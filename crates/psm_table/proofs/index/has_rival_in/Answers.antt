@@ -6,7 +6,7 @@ use Rattle.psm_table.specs.Held.{row_of}
 use Rattle.psm_table.specs.Index.{rival_at}
 use Rattle.psm_table.specs.Key.{values_at}
 use Rattle.psm_table.specs.Map.{pairs_above}
-use Rattle.psm_table.specs.Place.{ahead, probe_key}
+use Rattle.psm_table.specs.PairPosition.{ahead, probe_key}
 use Rattle.psm_table.proofs.Keys.{columns_exist}
 use Rattle.psm_table.proofs.PrefixWalks.{walked-end, walked-less, walked-start, walked-step, Walked}
 use Rattle.psm_table.proofs.Rivals.{rival-clashes, rival_by}

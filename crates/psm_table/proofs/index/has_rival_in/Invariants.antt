@@ -1,7 +1,7 @@
 use Rattle.std.proofs.Common.{length}
 use Rattle.std.specs.Option.{option_copied}
 use Rattle.psm_table.specs.Key.{values_at}
-use Rattle.psm_table.specs.Place.{ahead}
+use Rattle.psm_table.specs.PairPosition.{ahead}
 use Rattle.psm_table.proofs.PrefixWalks.{Walked}
 use Rattle.psm_table.proofs.Rivals.{rival_by}
 use Rattle.psm_table.proofs.index.has_rival_in.Given as goal

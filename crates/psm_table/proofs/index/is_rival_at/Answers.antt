@@ -1,7 +1,7 @@
 use Rattle.std.proofs.Common.{ap, sym, subst, ◌∙◌}
 use Rattle.std.specs.Option.{option_copied}
 use Rattle.psm_table.specs.Key.{AreColumnsOf}
-use Rattle.psm_table.specs.Place.{probe_key}
+use Rattle.psm_table.specs.PairPosition.{probe_key}
 use Rattle.psm_table.proofs.Rivals.{row-live, Row}
 use Rattle.psm_table.proofs.index.is_rival_at.Goals as goal
 

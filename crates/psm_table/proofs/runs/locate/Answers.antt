@@ -2,7 +2,7 @@ use Rattle.std.proofs.Common.{◌≡◌, [], get_or, ap, sym, subst, ◌∙◌, 
 use Rattle.std.proofs.lemmas.List.{get_or_default}
 use Rattle.std.specs.Ordering.{is_gt}
 use Rattle.psm_table.specs.Key.{key_order}
-use Rattle.psm_table.specs.Place.{probe_key}
+use Rattle.psm_table.specs.PairPosition.{probe_key}
 use Rattle.psm_table.specs.Runs.{begins, IsIn}
 use Rattle.psm_table.proofs.Turns.{cut_fail, cut_pass, in_end}
 use Rattle.psm_table.proofs.runs.locate.Goals as goal

@@ -1,7 +1,7 @@
 use Rattle.std.proofs.Common.{◌-◌}
 use Rattle.std.specs.Ordering.{is_gt}
 use Rattle.psm_table.specs.Key.{key_order}
-use Rattle.psm_table.specs.Place.{probe_key}
+use Rattle.psm_table.specs.PairPosition.{probe_key}
 use Rattle.psm_table.specs.Runs.{IsCut}
 use Rattle.psm_table.proofs.runs.locate.Given as goal
 

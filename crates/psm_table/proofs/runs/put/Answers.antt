@@ -2,7 +2,7 @@ use Rattle.std.proofs.Common.{rules, ◌≡◌, ◌<◌, length, set, ap, sym, s
 use Rattle.std.proofs.lemmas.List.Elements.{All-set}
 use Rattle.psm_table.specs.declared.map.Pair.{Pair}
 use Rattle.psm_table.specs.Map.{with_pair}
-use Rattle.psm_table.specs.Place.{probe_key}
+use Rattle.psm_table.specs.PairPosition.{probe_key}
 use Rattle.psm_table.specs.Runs.{joined, most_pairs, IsIn, IsRun}
 use Rattle.psm_table.proofs.Joined.{with_pair-in, written}
 use Rattle.psm_table.proofs.runs.put.Goals as goal

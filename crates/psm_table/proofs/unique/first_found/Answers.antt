@@ -4,7 +4,7 @@ use Rattle.std.specs.Option.{option_copied}
 use Rattle.std.specs.Ordering.{is_eq}
 use Rattle.psm_table.specs.Held.{row_of}
 use Rattle.psm_table.specs.Map.{pairs_above}
-use Rattle.psm_table.specs.Place.{ahead}
+use Rattle.psm_table.specs.PairPosition.{ahead}
 use Rattle.psm_table.specs.MatchingEntries.{row_having}
 use Rattle.psm_table.proofs.MatchingEntries.{passed-end, passed-less, passed-step, Passed}
 use Rattle.psm_table.proofs.unique.first_found.Goals as goal

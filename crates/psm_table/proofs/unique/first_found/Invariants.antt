@@ -1,6 +1,6 @@
 use Rattle.std.proofs.Common.{length}
 use Rattle.std.specs.Option.{option_copied}
-use Rattle.psm_table.specs.Place.{ahead}
+use Rattle.psm_table.specs.PairPosition.{ahead}
 use Rattle.psm_table.proofs.MatchingEntries.{Passed}
 use Rattle.psm_table.proofs.unique.first_found.Given as goal
 

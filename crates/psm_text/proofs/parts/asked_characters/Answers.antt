@@ -1,10 +1,10 @@
 use Rattle.std.proofs.Common.{◌∙◌, sym, arith}
 use Rattle.std.proofs.lemmas.Int.{to_z-of_z}
-use Rattle.psm_text.proofs.Places.{asked_is}
+use Rattle.psm_text.proofs.Positions.{asked_is}
 use Rattle.psm_text.proofs.parts.asked_characters.Goals as goal
 
 pub returns-clause-value : goal.returns-clause-value
 returns-clause-value c =
     c.between.ensures.value
-    ∙ sym (asked_is c.args.from _ _ c.args.count c.args.characters.now c.places_before-start.result c.places_before_end-end.result
-    (grind (arith, to_z-of_z)) (grind (arith, to_z-of_z)) c.places_before-start.ensures.from_there c.places_before_end-end.ensures.before)
+    ∙ sym (asked_is c.args.from _ _ c.args.count c.args.characters.now c.positions_before-start.result c.positions_before_end-end.result
+    (grind (arith, to_z-of_z)) (grind (arith, to_z-of_z)) c.positions_before-start.ensures.from_there c.positions_before_end-end.ensures.before)

@@ -9,8 +9,8 @@ use Rattle.psm_unwind.proofs.raising.arrive.Goals as goal
 pub leave_until-requires : goal.leave_until-requires
 leave_until-requires g c = running_nested (g.S.Store.holds c.args.store.now) c.args.run.now c.requires.nested
 
-pub returns-clause-due : goal.returns-clause-due
-returns-clause-due g c =
+pub returns-clause-expected : goal.returns-clause-expected
+returns-clause-expected g c =
     let new = c.leave_until.new.store in
     arrived_is c.args.routine.now c.args.undo c.args.handler.now (machine_of (g.S.Store.tables c.args.store.now) (g.S.Store.at c.args.store.now) c.args.run.now) c.leave_until.new.cursors.items
     (frames_of (g.S.Store.at c.leave_until.new.store) (reverse c.leave_until.new.frames.items)) (callers_of (g.S.Store.at c.leave_until.new.store) c.args.run.now.operands.callers (reverse c.args.run.now.callers.items)) (g.S.Store.tables c.leave_until.new.store)

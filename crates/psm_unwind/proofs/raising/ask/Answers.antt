@@ -10,10 +10,10 @@ use Rattle.psm_unwind.proofs.raising.ask.Goals as goal
 pub returns-in-None-clause-unwinds : goal.returns-in-None-clause-unwinds
 returns-in-None-clause-unwinds g c = unwinds_none (g.S.Store.holds c.args.store.now) (g.S.Store.at c.args.store.now) (g.S.Store.marks c.args.store.now) (g.S.Store.tables c.args.store.now) c.args.run.now c.args.run.now c.requires.nested refl refl refl refl
 
-pub returns-in-Some-clause-due : goal.returns-in-Some-clause-due
-returns-in-Some-clause-due g c =
+pub returns-in-Some-clause-expected : goal.returns-in-Some-clause-expected
+returns-in-Some-clause-expected g c =
     let m = (machine_of (g.S.Store.tables c.args.store.now) (g.S.Store.at c.args.store.now) c.args.run.now) in
-    if_ok_map c.ask_in.result c.ask_in.ensures.due
+    if_ok_map c.ask_in.result c.ask_in.ensures.expected
     (λ x h. meets_same (λ outside. asked (Some c.in-Some.routine.now) c.args.condition.now outside m) (λ outside. asked (routine_at c.args.code.now c.args.run.now.running.routine) c.args.condition.now outside m)
     x (machine_of (g.S.Store.tables c.ask_in.new.store) (g.S.Store.at c.ask_in.new.store) c.ask_in.new.run)
     (λ outside. ap (λ r. asked r c.args.condition.now outside m) (sym (sym (ap option_copied c.in-Some.is) ∙ c.routine_at.ensures))) h)

@@ -11,8 +11,8 @@ returns-in_err-hold-in-Some-clause-unwinds g c = unwinds_same (g.S.Store.holds c
 pub returns-in-None-clause-unwinds : goal.returns-in-None-clause-unwinds
 returns-in-None-clause-unwinds g c = unwinds_none (g.S.Store.holds c.args.store.now) (g.S.Store.at c.args.store.now) (g.S.Store.marks c.args.store.now) (g.S.Store.tables c.args.store.now) c.args.run.now c.args.run.now c.requires.nested refl refl refl refl
 
-pub returns-in_ok-hold-in-Some-clause-due : goal.returns-in_ok-hold-in-Some-clause-due
-returns-in_ok-hold-in-Some-clause-due g c =
-    if_ok_map c.meet.result c.meet.ensures.due
+pub returns-in_ok-hold-in-Some-clause-expected : goal.returns-in_ok-hold-in-Some-clause-expected
+returns-in_ok-hold-in-Some-clause-expected g c =
+    if_ok_map c.meet.result c.meet.ensures.expected
     (λ x h. placed c.args.routine.now (line_at c.args.routine.now c.args.run.now.running.line) c.in-Some.place c.args.condition.now (machine_of (g.S.Store.tables c.args.store.now) (g.S.Store.at c.args.store.now) c.args.run.now) (machine_of (g.S.Store.tables c.args.store.now) (g.S.Store.at c.args.store.now) c.hold.new.run) (machine_of (g.S.Store.tables c.meet.new.store) (g.S.Store.at c.meet.new.store) c.meet.new.run) x
     c.in-Some.ensures (c.in_ok-hold-in-Some.ensures.held (g.S.Store.tables c.args.store.now) (g.S.Store.at c.args.store.now)) h)

@@ -10,8 +10,8 @@ use Rattle.psm_unwind.proofs.raising.meet_none.Goals as goal
 pub leave_until-requires : goal.leave_until-requires
 leave_until-requires g c = running_nested (g.S.Store.holds c.args.store.now) c.args.run.now c.requires.nested
 
-pub returns-then-is_exception-clause-due : goal.returns-then-is_exception-clause-due
-returns-then-is_exception-clause-due g c =
+pub returns-then-is_exception-clause-expected : goal.returns-then-is_exception-clause-expected
+returns-then-is_exception-clause-expected g c =
     goes_outside c.args.routine.now c.args.resume c.args.condition.now (machine_of (g.S.Store.tables c.args.store.now) (g.S.Store.at c.args.store.now) c.args.run.now)
     c.leave_until.new.cursors.items (frames_of (g.S.Store.at c.leave_until.new.store) (reverse c.leave_until.new.frames.items))
     (callers_of (g.S.Store.at c.leave_until.new.store) c.args.run.now.operands.callers (reverse c.args.run.now.callers.items)) (g.S.Store.tables c.leave_until.new.store)
@@ -31,10 +31,10 @@ returns-then-is_exception-clause-unwinds g c =
     (g.S.Store.holds c.leave_until.new.store) (g.S.Store.at c.leave_until.new.store) (g.S.Store.marks c.leave_until.new.store) (g.S.Store.tables c.leave_until.new.store) (record c.args.run.now { running = record c.args.run.now.running { cursors = c.leave_until.new.cursors; frames = c.leave_until.new.frames } })
     c.requires.nested c.leave_until.ensures.leaves c.leave_until.ensures.deepest c.leave_until.ensures.defs refl refl refl
 
-pub returns-else-is_exception-clause-due : goal.returns-else-is_exception-clause-due
-returns-else-is_exception-clause-due g c =
+pub returns-else-is_exception-clause-expected : goal.returns-else-is_exception-clause-expected
+returns-else-is_exception-clause-expected g c =
     goes_on c.args.routine.now c.args.resume c.args.condition.now (machine_of (g.S.Store.tables c.args.store.now) (g.S.Store.at c.args.store.now) c.args.run.now) c.pass_over.result (machine_of (g.S.Store.tables c.args.store.now) (g.S.Store.at c.args.store.now) c.pass_over.new.run)
-    (ap is_exception (sym c.kind.ensures) ∙ sym c.is_exception.ensures ∙ c.if-is_exception.false) (c.pass_over.ensures.due (g.S.Store.tables c.args.store.now) (g.S.Store.at c.args.store.now))
+    (ap is_exception (sym c.kind.ensures) ∙ sym c.is_exception.ensures ∙ c.if-is_exception.false) (c.pass_over.ensures.expected (g.S.Store.tables c.args.store.now) (g.S.Store.at c.args.store.now))
 
 pub returns-else-is_exception-clause-unwinds : goal.returns-else-is_exception-clause-unwinds
 returns-else-is_exception-clause-unwinds g c = unwinds_same (g.S.Store.holds c.args.store.now) (g.S.Store.at c.args.store.now) (g.S.Store.marks c.args.store.now) (g.S.Store.tables c.args.store.now) c.args.run.now c.pass_over.new.run c.requires.nested c.pass_over.ensures.same

@@ -15,7 +15,7 @@ use Rattle.psm_unwind.proofs.Unwinding.{callers_now, nested_unwound, stand_unwou
 use Rattle.psm_unwind.proofs.raising.raise.Goals as goal
 
 pub loop-condition-init : goal.loop-condition-init
-loop-condition-init g c = record { due = refl; unwinds = unwinds_none (g.S.Store.holds c.args.store.now) (g.S.Store.at c.args.store.now) (g.S.Store.marks c.args.store.now) (g.S.Store.tables c.args.store.now) c.args.run.now c.args.run.now c.requires.stand.nested refl refl refl refl }
+loop-condition-init g c = record { expected = refl; unwinds = unwinds_none (g.S.Store.holds c.args.store.now) (g.S.Store.at c.args.store.now) (g.S.Store.marks c.args.store.now) (g.S.Store.tables c.args.store.now) c.args.run.now c.args.run.now c.requires.stand.nested refl refl refl refl }
 
 pub ask-requires-clause-nested : goal.ask-requires-clause-nested
 ask-requires-clause-nested g c = nested_unwound (g.S.Store.holds c.args.store.now) (g.S.Store.at c.args.store.now) (g.S.Store.marks c.args.store.now) (g.S.Store.tables c.args.store.now) c.args.run.now (g.S.Store.holds c.loop-condition.store) (g.S.Store.at c.loop-condition.store) (g.S.Store.marks c.loop-condition.store) (g.S.Store.tables c.loop-condition.store) c.loop-condition.run c.requires.stand.nested c.loop-condition.invariant.unwinds
@@ -32,11 +32,11 @@ returns-in-Here-clause-unwinds g c = unwinds_then (g.S.Store.holds c.args.store.
 pub returns-in-Here-clause-stand : goal.returns-in-Here-clause-stand
 returns-in-Here-clause-stand g c = stand_unwound (g.S.Store.holds c.args.store.now) (g.S.Store.at c.args.store.now) (g.S.Store.marks c.args.store.now) (g.S.Store.tables c.args.store.now) c.args.run.now (g.S.Store.holds c.ask.new.store) (g.S.Store.at c.ask.new.store) (g.S.Store.marks c.ask.new.store) (g.S.Store.tables c.ask.new.store) c.ask.new.run c.requires.stand (returns-in-Here-clause-unwinds g c)
 
-pub returns-in-Here-clause-due : goal.returns-in-Here-clause-due
-returns-in-Here-clause-due g c =
-    subst (λ t. LeadsTo t c.in-Here.outcome (machine_of (g.S.Store.tables c.ask.new.store) (g.S.Store.at c.ask.new.store) c.ask.new.run)) (sym c.loop-condition.invariant.due)
+pub returns-in-Here-clause-expected : goal.returns-in-Here-clause-expected
+returns-in-Here-clause-expected g c =
+    subst (λ t. LeadsTo t c.in-Here.outcome (machine_of (g.S.Store.tables c.ask.new.store) (g.S.Store.at c.ask.new.store) c.ask.new.run)) (sym c.loop-condition.invariant.expected)
     (raised_here c.args.code.now c.loop-condition.condition (machine_of (g.S.Store.tables c.loop-condition.store) (g.S.Store.at c.loop-condition.store) c.loop-condition.run) c.in-Here.outcome (machine_of (g.S.Store.tables c.ask.new.store) (g.S.Store.at c.ask.new.store) c.ask.new.run)
-    (subst (λ x. Meets (λ outside. asked (routine_at c.args.code.now c.loop-condition.run.running.routine) c.loop-condition.condition outside (machine_of (g.S.Store.tables c.loop-condition.store) (g.S.Store.at c.loop-condition.store) c.loop-condition.run)) x (machine_of (g.S.Store.tables c.ask.new.store) (g.S.Store.at c.ask.new.store) c.ask.new.run)) c.in-Here.is c.in_ok-outcome.ensures.due))
+    (subst (λ x. Meets (λ outside. asked (routine_at c.args.code.now c.loop-condition.run.running.routine) c.loop-condition.condition outside (machine_of (g.S.Store.tables c.loop-condition.store) (g.S.Store.at c.loop-condition.store) c.loop-condition.run)) x (machine_of (g.S.Store.tables c.ask.new.store) (g.S.Store.at c.ask.new.store) c.ask.new.run)) c.in-Here.is c.in_ok-outcome.ensures.expected))
 
 pub returns-in-None-clause-unwinds : goal.returns-in-None-clause-unwinds
 returns-in-None-clause-unwinds g c =
@@ -56,23 +56,23 @@ returns-in_err-last-in-None-clause-unwinds g c =
 pub returns-in_err-last-in-None-clause-stand : goal.returns-in_err-last-in-None-clause-stand
 returns-in_err-last-in-None-clause-stand g c = stand_unwound (g.S.Store.holds c.args.store.now) (g.S.Store.at c.args.store.now) (g.S.Store.marks c.args.store.now) (g.S.Store.tables c.args.store.now) c.args.run.now (g.S.Store.holds c.ask.new.store) (g.S.Store.at c.ask.new.store) (g.S.Store.marks c.ask.new.store) (g.S.Store.tables c.ask.new.store) (record c.ask.new.run { callers = c.pop.new.self }) c.requires.stand (returns-in_err-last-in-None-clause-unwinds g c)
 
-pub returns-in-None-clause-due : goal.returns-in-None-clause-due
-returns-in-None-clause-due g c =
+pub returns-in-None-clause-expected : goal.returns-in-None-clause-expected
+returns-in-None-clause-expected g c =
     let none : c.pop.new.self.items ≡ [] = c.in-None.ensures.rest ∙ ap (λ n. take (n - 1) c.ask.new.run.callers.items) c.in-None.ensures.cases.0 in
     let callers : c.loop-condition.run.callers.items ≡ [] = ap (λ (v : Vec Activation Global). v.items) (sym c.ask.ensures.callers) ∙ c.in-None.ensures.items ∙ ap (λ xs. xs ++ []) none in
     subst (λ e. LeadsTo (raised c.args.code.now c.args.condition (machine_of (g.S.Store.tables c.args.store.now) (g.S.Store.at c.args.store.now) c.args.run.now)) (Over (Raised e)) (machine_of (g.S.Store.tables c.ask.new.store) (g.S.Store.at c.ask.new.store) (record c.ask.new.run { callers = c.pop.new.self }))) (sym (c.in_ok-last-in-None.ensures ∙ c.by_state.ensures))
-    (subst (λ t. LeadsTo t (Over (Raised (by_state c.loop-condition.condition))) (machine_of (g.S.Store.tables c.ask.new.store) (g.S.Store.at c.ask.new.store) (record c.ask.new.run { callers = c.pop.new.self }))) (sym c.loop-condition.invariant.due)
+    (subst (λ t. LeadsTo t (Over (Raised (by_state c.loop-condition.condition))) (machine_of (g.S.Store.tables c.ask.new.store) (g.S.Store.at c.ask.new.store) (record c.ask.new.run { callers = c.pop.new.self }))) (sym c.loop-condition.invariant.expected)
     (raised_out c.args.code.now c.loop-condition.condition (machine_of (g.S.Store.tables c.loop-condition.store) (g.S.Store.at c.loop-condition.store) c.loop-condition.run) (machine_of (g.S.Store.tables c.ask.new.store) (g.S.Store.at c.ask.new.store) c.ask.new.run) (machine_of (g.S.Store.tables c.ask.new.store) (g.S.Store.at c.ask.new.store) (record c.ask.new.run { callers = c.pop.new.self })) (ap (λ xs. callers_of (g.S.Store.at c.loop-condition.store) c.loop-condition.run.operands.callers (reverse xs)) callers)
-    (subst (λ x. Meets (λ outside. asked (routine_at c.args.code.now c.loop-condition.run.running.routine) c.loop-condition.condition outside (machine_of (g.S.Store.tables c.loop-condition.store) (g.S.Store.at c.loop-condition.store) c.loop-condition.run)) x (machine_of (g.S.Store.tables c.ask.new.store) (g.S.Store.at c.ask.new.store) c.ask.new.run)) c.in-Outside.is c.in_ok-outcome.ensures.due)
+    (subst (λ x. Meets (λ outside. asked (routine_at c.args.code.now c.loop-condition.run.running.routine) c.loop-condition.condition outside (machine_of (g.S.Store.tables c.loop-condition.store) (g.S.Store.at c.loop-condition.store) c.loop-condition.run)) x (machine_of (g.S.Store.tables c.ask.new.store) (g.S.Store.at c.ask.new.store) c.ask.new.run)) c.in-Outside.is c.in_ok-outcome.ensures.expected)
     (ap (λ xs. at_end (record (machine_of (g.S.Store.tables c.ask.new.store) (g.S.Store.at c.ask.new.store) c.ask.new.run) { callers = callers_of (g.S.Store.at c.ask.new.store) c.ask.new.run.operands.callers (reverse xs) })) (c.in-None.ensures.items ∙ append-nil c.pop.new.self.items))))
 
 pub loop-condition-preserved : goal.loop-condition-preserved
 loop-condition-preserved g c = record {
-  due =
-      c.loop-condition.invariant.due
+  expected =
+      c.loop-condition.invariant.expected
       ∙ raised_again c.args.code.now c.loop-condition.condition (machine_of (g.S.Store.tables c.loop-condition.store) (g.S.Store.at c.loop-condition.store) c.loop-condition.run) (machine_of (g.S.Store.tables c.ask.new.store) (g.S.Store.at c.ask.new.store) c.ask.new.run) (activation_of (g.S.Store.at c.ask.new.store) (first_of c.ask.new.run.operands.callers) c.in-Some.caller) (callers_of (g.S.Store.at c.ask.new.store) (drop 1 c.ask.new.run.operands.callers) (reverse c.pop.new.self.items))
       (callers_now (g.S.Store.holds c.loop-condition.store) (g.S.Store.at c.loop-condition.store) (g.S.Store.marks c.loop-condition.store) (g.S.Store.tables c.loop-condition.store) c.loop-condition.run (g.S.Store.holds c.ask.new.store) (g.S.Store.at c.ask.new.store) (g.S.Store.marks c.ask.new.store) (g.S.Store.tables c.ask.new.store) c.ask.new.run c.pop.new.self.items c.in-Some.caller c.ask.ensures.unwinds c.ask.ensures.callers c.ask.ensures.below c.in-Some.ensures.items)
-      (subst (λ x. Meets (λ outside. asked (routine_at c.args.code.now c.loop-condition.run.running.routine) c.loop-condition.condition outside (machine_of (g.S.Store.tables c.loop-condition.store) (g.S.Store.at c.loop-condition.store) c.loop-condition.run)) x (machine_of (g.S.Store.tables c.ask.new.store) (g.S.Store.at c.ask.new.store) c.ask.new.run)) c.in-Outside.is c.in_ok-outcome.ensures.due)
+      (subst (λ x. Meets (λ outside. asked (routine_at c.args.code.now c.loop-condition.run.running.routine) c.loop-condition.condition outside (machine_of (g.S.Store.tables c.loop-condition.store) (g.S.Store.at c.loop-condition.store) c.loop-condition.run)) x (machine_of (g.S.Store.tables c.ask.new.store) (g.S.Store.at c.ask.new.store) c.ask.new.run)) c.in-Outside.is c.in_ok-outcome.ensures.expected)
       ∙ ap (λ operands. raised c.args.code.now (by_state c.loop-condition.condition) (machine_of (g.S.Store.tables c.ask.new.store) (g.S.Store.at c.ask.new.store) (record c.ask.new.run { running = c.in-Some.caller; callers = c.pop.new.self; operands = operands }))) (sym c.end.ensures)
       ∙ ap (λ e. raised c.args.code.now e (machine_of (g.S.Store.tables c.ask.new.store) (g.S.Store.at c.ask.new.store) (record c.ask.new.run { running = c.in-Some.caller; callers = c.pop.new.self; operands = c.end.new.self }))) (sym c.by_state-condition.ensures);
   unwinds =

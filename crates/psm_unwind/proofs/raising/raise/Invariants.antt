@@ -6,7 +6,7 @@ use Rattle.psm_unwind.proofs.raising.raise.Given as goal
 
 abbrev pub invariant-loop-condition : goal.invariant-loop-condition
 invariant-loop-condition g l = record {
-  due : raised l.code l.initial.condition (machine_of (g.S.Store.tables l.initial.store) (g.S.Store.at l.initial.store) l.initial.run) ≡ raised l.code l.condition (machine_of (g.S.Store.tables l.store) (g.S.Store.at l.store) l.run);
+  expected : raised l.code l.initial.condition (machine_of (g.S.Store.tables l.initial.store) (g.S.Store.at l.initial.store) l.initial.run) ≡ raised l.code l.condition (machine_of (g.S.Store.tables l.store) (g.S.Store.at l.store) l.run);
   unwinds : Unwinds (g.S.Store.holds l.initial.store) (g.S.Store.at l.initial.store) (g.S.Store.marks l.initial.store) (g.S.Store.tables l.initial.store) l.initial.run
       (g.S.Store.holds l.store) (g.S.Store.at l.store) (g.S.Store.marks l.store) (g.S.Store.tables l.store) l.run;
 }

@@ -18,8 +18,8 @@ returns-clause-unwinds g c =
     (subst (λ (fs : List Frame). StayDeepest (marks_in (reverse fs)) (g.S.Store.marks c.args.store.now) (marks_in (reverse fs)) (g.S.Store.marks c.restore.new.store)) c.as_slice.ensures.value c.restore.ensures.deepest)
     c.restore.ensures.defs refl refl refl
 
-pub returns-clause-due : goal.returns-clause-due
-returns-clause-due g c =
+pub returns-clause-expected : goal.returns-clause-expected
+returns-clause-expected g c =
     let u : Unwinds (g.S.Store.holds c.args.store.now) (g.S.Store.at c.args.store.now) (g.S.Store.marks c.args.store.now) (g.S.Store.tables c.args.store.now) c.args.run.now (g.S.Store.holds c.restore.new.store) (g.S.Store.at c.restore.new.store) (g.S.Store.marks c.restore.new.store) (g.S.Store.tables c.restore.new.store) c.args.run.now = returns-clause-unwinds g c in
     ap (λ t. record (machine_of (g.S.Store.tables c.args.store.now) (g.S.Store.at c.args.store.now) c.args.run.now) { tables = t }) (ap (λ fs. put_back true (found_first (frames_of (g.S.Store.at c.args.store.now) (reverse fs))) (g.S.Store.tables c.args.store.now)) (sym c.as_slice.ensures.value) ∙ sym c.restore.ensures.tables)
     ∙ sym (machine_stays (g.S.Store.at c.args.store.now) (g.S.Store.holds c.restore.new.store) (g.S.Store.at c.restore.new.store) (g.S.Store.tables c.restore.new.store) c.args.run.now u.leaves.stay)

@@ -8,5 +8,5 @@ pub returns : goal.returns
 returns c =
     let scale : c.args.number.scale ≤ 18 = omega (arith, c.scale-scale.ensures.value, c.scale-scale.ensures.bound) in
     let digits : unsigned_abs c.args.number.coef < 10 ^ 18 = subst (λ (z : ℤ). unsigned_abs z < 10 ^ 18) c.coef-coef.ensures.value c.coef-coef.ensures.digits in
-    let P : Result (List ℕ) TextFault → Type 0 = λ due. Gives due c.make.result in
+    let P : Result (List ℕ) TextFault → Type 0 = λ expected. Gives expected c.make.result in
     subst P (made_printed c.args.number c.as_str.result.now scale digits (c.as_str.ensures.value ∙ c.in_ok-digits.ensures)) c.make.ensures.answer

@@ -3,5 +3,5 @@ use Rattle.psm_code.specs.TableRules.{unique_fault}
 use Rattle.psm_verify.specs.Checked.{checked}
 use Rattle.psm_verify.proofs.tables.uniques.Given as goal
 
-abbrev pub invariant-loop-places : goal.invariant-loop-places
-invariant-loop-places l = checked l.fn.line (map (unique_fault l.def) l.def.unique) ≡ checked l.line (map (unique_fault l.def) (drop l.places-index l.def.unique))
+abbrev pub invariant-loop-indexes : goal.invariant-loop-indexes
+invariant-loop-indexes l = checked l.fn.line (map (unique_fault l.def) l.def.unique) ≡ checked l.line (map (unique_fault l.def) (drop l.indexes-index l.def.unique))

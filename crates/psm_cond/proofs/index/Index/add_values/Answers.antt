@@ -7,11 +7,11 @@ loop-value-init c = notes_first c.args.self.now c.add.new.self c.args.context c.
 
 pub loop-value-preserved : goal.loop-value-preserved
 loop-value-preserved c =
-    let place = c.loop-value in
-    notes_next c.args.self.now place.self c.add-in-loop-value.new.self c.args.context c.args.number place.value-index c.args.first c.value-item.result c.args.rest.now
-    (grind arith) (grind arith) place.invariant c.in_ok-add-2.ensures
+    let position = c.loop-value in
+    notes_next c.args.self.now position.self c.add-in-loop-value.new.self c.args.context c.args.number position.value-index c.args.first c.value-item.result c.args.rest.now
+    (grind arith) (grind arith) position.invariant c.in_ok-add-2.ensures
 
 pub returns : goal.returns
 returns c =
-    let place = c.loop-value in
-    notes_all c.args.self.now place.self c.args.context c.args.number place.value-index c.args.first c.args.rest.now (grind arith) place.invariant
+    let position = c.loop-value in
+    notes_all c.args.self.now position.self c.args.context c.args.number position.value-index c.args.first c.args.rest.now (grind arith) position.invariant

@@ -21,8 +21,8 @@ returns-clause-fetches c =
       | in-Insensitive w ↦ fetches_same query t c.args.self.now (Insensitive w.in-Insensitive.rows.items) (cursor_of c.match-self.self-inside.state) (Insensitive w.pop_front.new.self.items)
           c.match-self.result (Ok w.pop_front.result) (sym c.self.view_is ∙ ap cursor_of w.in-Insensitive.is) (ap viewed w.self-inside-is) w.result-is
           (fetches_next query t w.in-Insensitive.rows.items w.pop_front.new.self.items w.pop_front.result w.pop_front.ensures.items w.pop_front.ensures.rest)
-      | in-Plain w ↦ fetches_same query t c.args.self.now (Plain w.in-Plain.place w.in-Plain.vars.items) (cursor_of c.match-self.self-inside.state) (Plain w.fetch.new.place w.in-Plain.vars.items)
+      | in-Plain w ↦ fetches_same query t c.args.self.now (Plain w.in-Plain.position w.in-Plain.vars.items) (cursor_of c.match-self.self-inside.state) (Plain w.fetch.new.position w.in-Plain.vars.items)
           c.match-self.result w.fetch.result (sym c.self.view_is ∙ ap cursor_of w.in-Plain.is) (ap viewed w.self-inside-is) w.result-is
-          (fetches_plain query t w.in-Plain.vars.items w.in-Plain.place w.fetch.new.place w.fetch.result
-          (subst (λ (vars : List Datum). Fetches (moved query t vars w.in-Plain.place) w.in-Plain.place w.fetch.new.place w.fetch.result) w.as_slice.ensures.value w.fetch.ensures.fetches))
+          (fetches_plain query t w.in-Plain.vars.items w.in-Plain.position w.fetch.new.position w.fetch.result
+          (subst (λ (vars : List Datum). Fetches (moved query t vars w.in-Plain.position) w.in-Plain.position w.fetch.new.position w.fetch.result) w.as_slice.ensures.value w.fetch.ensures.fetches))
     ]

@@ -8,9 +8,9 @@ pub invariant_of-self : goal.invariant_of-self
 invariant_of-self c =
     (done c.args.op.now c.args.row.now c.args.vars.now c.self.inside.bases.items c.self.inside.operands.items c.args.self.now c.self.view_is c.self.invariant c.requires c.apply.result c.apply.new.operands.items c.apply.ensures).falls_now
 
-pub returns-clause-due : goal.returns-clause-due
-returns-clause-due c =
-    (done c.args.op.now c.args.row.now c.args.vars.now c.self.inside.bases.items c.self.inside.operands.items c.args.self.now c.self.view_is c.self.invariant c.requires c.apply.result c.apply.new.operands.items c.apply.ensures).due
+pub returns-clause-expected : goal.returns-clause-expected
+returns-clause-expected c =
+    (done c.args.op.now c.args.row.now c.args.vars.now c.self.inside.bases.items c.self.inside.operands.items c.args.self.now c.self.view_is c.self.invariant c.requires c.apply.result c.apply.new.operands.items c.apply.ensures).expected
 
 pub returns-clause-callers : goal.returns-clause-callers
 returns-clause-callers c =

@@ -4,7 +4,7 @@ use Rattle.std.specs.Int.{trailing_zeros, w64}
 use Rattle.std.specs.List.{filter}
 use Rattle.psm_scope.specs.Choice.{Candidate, all_go, narrowed}
 use Rattle.psm_scope.specs.Blocks.{members}
-use Rattle.psm_scope.proofs.Places.{best_is, best_within, none_best}
+use Rattle.psm_scope.proofs.Indexes.{best_is, best_within, none_best}
 use Rattle.psm_scope.proofs.blocks.Block.best.Goals as goal
 
 pub returns-then-set-eq0 : goal.returns-then-set-eq0

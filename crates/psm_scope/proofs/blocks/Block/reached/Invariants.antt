@@ -4,8 +4,8 @@ use Rattle.psm_scope.specs.Blocks.{HaveCount, IsBlock, members}
 use Rattle.psm_scope.proofs.Narrowed.{going}
 use Rattle.psm_scope.proofs.blocks.Block.reached.Given as goal
 
-abbrev pub invariant-loop-place : goal.invariant-loop-place
-invariant-loop-place l = record {
-  members : (cs : List Candidate) → IsBlock cs l.self → going l.place (drop l.place l.args) (members l.set cs) ≡ going 0 l.args cs;
+abbrev pub invariant-loop-index : goal.invariant-loop-index
+invariant-loop-index l = record {
+  members : (cs : List Candidate) → IsBlock cs l.self → going l.index (drop l.index l.args) (members l.set cs) ≡ going 0 l.args cs;
   within : l.set ≤ l.self.all;
 }

@@ -3,7 +3,7 @@ use Rattle.std.specs.Prelude.{slice_index_or}
 use Rattle.psm_scope.specs.declared.blocks.Block.{Block}
 use Rattle.psm_scope.specs.Choice.{Candidate}
 use Rattle.psm_scope.specs.Blocks.{AreBlocks, IsBlock}
-use Rattle.psm_scope.proofs.Places.{err_then, last_more, last_same, ok_then, one_after, places_at}
+use Rattle.psm_scope.proofs.Indexes.{err_then, last_more, last_same, ok_then, one_after, sets_at}
 use Rattle.psm_scope.proofs.blocks.Group.push.Goals as goal
 
 pub push-requires-clause-count : goal.push-requires-clause-count
@@ -14,7 +14,7 @@ push-requires-clause-count c =
     let len : c.len-count.result ≡ length blocks = grind (arith, c.len-count.ensures) in
     let got : block ≡ slice_index_or blocks last block = grind (arith, c.index_mut.ensures.value) in
     let within : last < length blocks = omega (arith, len, c.if-count-gt0.true) in
-    sym (ap (λ (b : Block). length b.places.items) got ∙ places_at (length c.args.kinds.now) c.requires.0 blocks last block c.requires.1 within)
+    sym (ap (λ (b : Block). length b.parameter_sets.items) got ∙ sets_at (length c.args.kinds.now) c.requires.0 blocks last block c.requires.1 within)
 
 pub returns-then-not-is_full-clause-ok : goal.returns-then-not-is_full-clause-ok
 returns-then-not-is_full-clause-ok c =
@@ -28,11 +28,11 @@ returns-then-not-is_full-clause-ok c =
     let got : block ≡ slice_index_or blocks last block = grind (arith, c.index_mut.ensures.value) in
     let within : last < length blocks = omega (arith, len, c.if-count-gt0.true) in
     let at : suc last ≡ length blocks = omega (arith, len, c.if-count-gt0.true) in
-    let places : length new.places.items ≡ count =
-    c.push.ensures.places ∙ ap (λ (b : Block). length b.places.items) got ∙ places_at count c.requires.0 blocks last block c.requires.1 within in
+    let parameter_sets : length new.parameter_sets.items ≡ count =
+    c.push.ensures.parameter_sets ∙ ap (λ (b : Block). length b.parameter_sets.items) got ∙ sets_at count c.requires.0 blocks last block c.requires.1 within in
     ok_then c.push.result
     (λ (grows : (ds : List Candidate) → IsBlock ds block → IsBlock (ds ++ one ∷ []) new). λ (cs : List Candidate) (are : AreBlocks count cs blocks).
-    last_more count cs (one ∷ []) blocks last new block are at (λ ds is. grows ds (subst (λ (b : Block). IsBlock ds b) (sym got) is)) places)
+    last_more count cs (one ∷ []) blocks last new block are at (λ ds is. grows ds (subst (λ (b : Block). IsBlock ds b) (sym got) is)) parameter_sets)
     c.push.ensures.ok
 
 pub returns-then-not-is_full-clause-err : goal.returns-then-not-is_full-clause-err
@@ -46,11 +46,11 @@ returns-then-not-is_full-clause-err c =
     let got : block ≡ slice_index_or blocks last block = grind (arith, c.index_mut.ensures.value) in
     let within : last < length blocks = omega (arith, len, c.if-count-gt0.true) in
     let at : suc last ≡ length blocks = omega (arith, len, c.if-count-gt0.true) in
-    let places : length new.places.items ≡ count =
-    c.push.ensures.places ∙ ap (λ (b : Block). length b.places.items) got ∙ places_at count c.requires.0 blocks last block c.requires.1 within in
+    let parameter_sets : length new.parameter_sets.items ≡ count =
+    c.push.ensures.parameter_sets ∙ ap (λ (b : Block). length b.parameter_sets.items) got ∙ sets_at count c.requires.0 blocks last block c.requires.1 within in
     err_then c.push.result
     (λ (keeps : (ds : List Candidate) → IsBlock ds block → IsBlock ds new). λ (cs : List Candidate) (are : AreBlocks count cs blocks).
-    last_same count cs blocks last new block are at (λ ds is. keeps ds (subst (λ (b : Block). IsBlock ds b) (sym got) is)) places)
+    last_same count cs blocks last new block are at (λ ds is. keeps ds (subst (λ (b : Block). IsBlock ds b) (sym got) is)) parameter_sets)
     c.push.ensures.err
 
 pub returns-clause-ok : goal.returns-clause-ok
@@ -60,4 +60,4 @@ returns-clause-ok c = λ cs are.
     let one : Candidate = (c.args.number, c.args.kinds.now) in
     let pushed : c.push-3.new.self.items ≡ blocks ++ new ∷ [] = grind (arith, c.in_ok-push-2.ensures.items) in
     subst (λ (l : List Block). AreBlocks (length c.args.kinds.now) (cs ++ one ∷ []) l) (sym pushed)
-    (one_after (length c.args.kinds.now) cs (one ∷ []) blocks new are (c.in_ok-push.ensures.ok [] c.in_ok-block.ensures.block) (c.in_ok-push.ensures.places ∙ c.in_ok-block.ensures.places))
+    (one_after (length c.args.kinds.now) cs (one ∷ []) blocks new are (c.in_ok-push.ensures.ok [] c.in_ok-block.ensures.block) (c.in_ok-push.ensures.parameter_sets ∙ c.in_ok-block.ensures.parameter_sets))

@@ -6,5 +6,5 @@ returns-in-None g c = index_absent c.args.name.now c.self.inside.known.entries c
 
 pub returns-in-Some : goal.returns-in-Some
 returns-in-Some g c =
-    index_present c.args.name.now c.self.inside.known.entries c.args.self.now c.self.view_is c.in-Some.place c.in-Some.known.now
+    index_present c.args.name.now c.self.inside.known.entries c.args.self.now c.self.view_is c.in-Some.index c.in-Some.known.now
     c.in-Some.ensures.index c.in-Some.ensures.value

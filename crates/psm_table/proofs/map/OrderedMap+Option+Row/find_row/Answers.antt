@@ -3,7 +3,7 @@ use Rattle.std.specs.Prelude.{Option, is_some}
 use Rattle.psm_value.specs.declared.datum.Datum.{Datum}
 use Rattle.psm_table.specs.Held.{row_of, the_row}
 use Rattle.psm_table.specs.Mapped.{Mapped}
-use Rattle.psm_table.specs.Place.{probe_key, StandsAt}
+use Rattle.psm_table.specs.PairPosition.{probe_key, StandsAt}
 use Rattle.psm_table.specs.Runs.{IsIn}
 use Rattle.psm_table.proofs.Joined.{stands_at, value-in}
 use Rattle.psm_table.proofs.map.OrderedMap+Option+Row.find_row.Goals as goal

@@ -3,7 +3,7 @@ use Rattle.psm_value.specs.declared.datum.Datum.{Datum}
 use Rattle.psm_table.specs.Held.{row_of, the_row}
 use Rattle.psm_table.specs.Map.{with_value, AreAscending}
 use Rattle.psm_table.specs.Mapped.{Mapped}
-use Rattle.psm_table.specs.Place.{StandsAt}
+use Rattle.psm_table.specs.PairPosition.{StandsAt}
 use Rattle.psm_table.specs.Runs.{joined, IsRun}
 use Rattle.std.specs.Prelude.{Option}
 use Rattle.std.proofs.lemmas.List.Elements.{All-set}

@@ -10,14 +10,14 @@ use Rattle.psm_table.specs.Runs.{joined, IsIn, IsRun}
 use Rattle.psm_table.proofs.Joined.{ascending-with_value, run_exchanged, value-in, with_value-in}
 use Rattle.psm_table.proofs.map.OrderedMap+Option+Row.replace_row.Goals as goal
 
-pub replace_row-requires-clause-place : goal.replace_row-requires-clause-place
-replace_row-requires-clause-place c =
+pub replace_row-requires-clause-slot : goal.replace_row-requires-clause-slot
+replace_row-requires-clause-slot c =
     let same : joined c.self.inside.runs.items ≡ c.args.self.now.pairs = ap (λ (m : Mapped (Option (List Datum))). m.pairs) c.self.view_is in
     let some : 0 < length c.self.inside.runs.items = search rules in
     let here : IsIn (values_at c.args.columns.now c.args.row) c.self.inside.runs.items c.locate-at.result =
     subst (λ r. IsIn (values_at c.args.columns.now r) c.self.inside.runs.items c.locate-at.result) c.values.ensures
     (subst (λ l. IsIn (values_at c.args.columns.now c.values.result.now) l c.locate-at.result) c.as_slice.ensures.value (c.locate-at.ensures (subst (λ l. 0 < length l) (sym c.as_slice.ensures.value) some))) in
-    subst IsSome (ap (value_of (values_at c.args.columns.now c.args.row)) (sym same) ∙ value-in (values_at c.args.columns.now c.args.row) c.self.inside.runs.items c.locate-at.result c.index_mut.result.now here ∙ ap (value_of (values_at c.args.columns.now c.args.row)) (sym c.index_mut.ensures.value)) c.requires.place
+    subst IsSome (ap (value_of (values_at c.args.columns.now c.args.row)) (sym same) ∙ value-in (values_at c.args.columns.now c.args.row) c.self.inside.runs.items c.locate-at.result c.index_mut.result.now here ∙ ap (value_of (values_at c.args.columns.now c.args.row)) (sym c.index_mut.ensures.value)) c.requires.slot
 
 pub invariant_of-self : goal.invariant_of-self
 invariant_of-self c =

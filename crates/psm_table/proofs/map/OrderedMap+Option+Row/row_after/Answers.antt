@@ -3,7 +3,7 @@ use Rattle.std.specs.Prelude.{slice_get}
 use Rattle.std.specs.Ordering.{is_gt}
 use Rattle.psm_table.specs.Held.{live_rows}
 use Rattle.psm_table.specs.Key.{key_order}
-use Rattle.psm_table.specs.Place.{ahead, pairs_past, probe_key}
+use Rattle.psm_table.specs.PairPosition.{ahead, pairs_past, probe_key}
 use Rattle.psm_table.proofs.Lives.{Slot}
 use Rattle.psm_table.proofs.Walks.{ahead-all, ahead-filter, up-above}
 use Rattle.psm_table.proofs.map.OrderedMap+Option+Row.row_after.Goals as goal

@@ -5,7 +5,7 @@ use Rattle.std.specs.Ordering.{is_gt}
 use Rattle.psm_table.specs.Held.{live_rows}
 use Rattle.psm_table.specs.Key.{key_order}
 use Rattle.psm_table.specs.Map.{pairs_above}
-use Rattle.psm_table.specs.Place.{ahead, probe_key}
+use Rattle.psm_table.specs.PairPosition.{ahead, probe_key}
 use Rattle.psm_table.proofs.Lives.{flagged-ahead, Slot}
 use Rattle.psm_table.proofs.Walks.{ahead-filter, next_less, up-above}
 use Rattle.psm_table.proofs.map.OrderedMap+Option+Row.row_ahead.Goals as goal

@@ -2,7 +2,7 @@ use Rattle.std.proofs.Common.{◌≡◌, length}
 use Rattle.std.specs.Prelude.{slice_get}
 use Rattle.std.specs.Option.{option_copied}
 use Rattle.psm_table.specs.Held.{live_rows}
-use Rattle.psm_table.specs.Place.{ahead}
+use Rattle.psm_table.specs.PairPosition.{ahead}
 use Rattle.psm_table.proofs.map.OrderedMap+Option+Row.row_ahead.Given as goal
 
 abbrev pub invariant-loop-next : goal.invariant-loop-next

@@ -5,7 +5,7 @@ use Rattle.psm_value.specs.declared.datum.Datum.{Datum}
 use Rattle.psm_table.specs.Held.{row_of, the_row}
 use Rattle.psm_table.specs.Map.{with_value, AreAscending}
 use Rattle.psm_table.specs.Mapped.{Mapped}
-use Rattle.psm_table.specs.Place.{probe_key}
+use Rattle.psm_table.specs.PairPosition.{probe_key}
 use Rattle.psm_table.specs.Runs.{joined, IsIn, IsRun}
 use Rattle.psm_table.proofs.Joined.{ascending-with_value, run_exchanged, value-in, with_value-in}
 use Rattle.psm_table.proofs.map.OrderedMap+Option+Row.take_row.Goals as goal

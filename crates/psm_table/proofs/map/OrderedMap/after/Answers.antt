@@ -1,7 +1,7 @@
 use Rattle.std.proofs.Common.{◌≡◌, ◌<◌, length, get_or, ap, sym, subst, ◌∙◌, rules, Some, None}
 use Rattle.std.specs.Option.{option_copied}
 use Rattle.psm_table.specs.Mapped.{Mapped}
-use Rattle.psm_table.specs.Place.{probe_key}
+use Rattle.psm_table.specs.PairPosition.{probe_key}
 use Rattle.std.specs.Prelude.{drop, slice_get}
 use Rattle.std.proofs.Common.{◌+◌}
 use Rattle.psm_table.specs.Map.{pairs_above}

@@ -1,7 +1,7 @@
 use Rattle.std.proofs.Common.{◌≡◌, ◌<◌, length, get_or, ap, sym, subst, ◌∙◌, rules}
 use Rattle.psm_table.specs.Map.{value_of}
 use Rattle.psm_table.specs.Mapped.{Mapped}
-use Rattle.psm_table.specs.Place.{probe_key}
+use Rattle.psm_table.specs.PairPosition.{probe_key}
 use Rattle.psm_table.specs.Runs.{joined, IsIn}
 use Rattle.psm_table.proofs.Joined.{value-in}
 use Rattle.psm_table.proofs.map.OrderedMap.get.Goals as goal

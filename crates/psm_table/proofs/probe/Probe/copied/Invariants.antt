@@ -1,5 +1,5 @@
 use Rattle.std.proofs.Common.{◌≡◌, take}
-use Rattle.psm_table.specs.Place.{probe_key}
+use Rattle.psm_table.specs.PairPosition.{probe_key}
 use Rattle.psm_table.proofs.probe.Probe.copied.Given as goal
 
 abbrev pub invariant-loop-i : goal.invariant-loop-i

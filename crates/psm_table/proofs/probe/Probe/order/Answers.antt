@@ -1,6 +1,6 @@
 use Rattle.std.proofs.Common.{sym, ◌∙◌, ◌≡◌, length, arith}
 use Rattle.std.specs.Prelude.{min}
-use Rattle.psm_table.specs.Place.{probe_key}
+use Rattle.psm_table.specs.PairPosition.{probe_key}
 use Rattle.psm_table.proofs.Orders.{key_order-end}
 use Rattle.psm_table.proofs.probe.Probe.order.Goals as goal
 

@@ -1,6 +1,6 @@
 use Rattle.std.proofs.Common.{◌≡◌, drop}
 use Rattle.psm_table.specs.Key.{key_order}
-use Rattle.psm_table.specs.Place.{probe_key}
+use Rattle.psm_table.specs.PairPosition.{probe_key}
 use Rattle.psm_table.proofs.probe.Probe.order.Given as goal
 
 abbrev pub invariant-loop-i : goal.invariant-loop-i

@@ -1,7 +1,7 @@
 use Rattle.std.proofs.Common.{◌≡◌, ap, sym, subst, ◌∙◌, Some}
 use Rattle.psm_table.specs.Held.{row_of, the_row}
 use Rattle.psm_table.specs.Map.{with_value}
-use Rattle.psm_table.specs.Place.{IsAt}
+use Rattle.psm_table.specs.PairPosition.{IsAt}
 use Rattle.psm_table.proofs.Pairs.{replaced, value_found}
 use Rattle.psm_table.proofs.run.Run+Option+Row.replace_at.Goals as goal
 

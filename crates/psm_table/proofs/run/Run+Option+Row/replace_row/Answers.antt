@@ -3,7 +3,7 @@ use Rattle.psm_value.specs.declared.datum.Datum.{Datum}
 use Rattle.psm_table.specs.Held.{row_of, the_row}
 use Rattle.psm_table.specs.Key.{values_at}
 use Rattle.psm_table.specs.Map.{with_value}
-use Rattle.psm_table.specs.Place.{IsAt, IsGap}
+use Rattle.psm_table.specs.PairPosition.{IsAt, IsGap}
 use Rattle.psm_table.proofs.Pairs.{replaced, value_found, with_value-absent}
 use Rattle.psm_table.proofs.run.Run+Option+Row.replace_row.Goals as goal
 

@@ -1,6 +1,6 @@
 use Rattle.std.proofs.Common.{◌≡◌, ap, sym, subst, ◌∙◌, None}
 use Rattle.psm_table.specs.Map.{with_value}
-use Rattle.psm_table.specs.Place.{probe_key, IsAt}
+use Rattle.psm_table.specs.PairPosition.{probe_key, IsAt}
 use Rattle.psm_table.proofs.Pairs.{replaced, with_value-absent}
 use Rattle.psm_table.proofs.run.Run+Option+Row.take_row.Goals as goal
 

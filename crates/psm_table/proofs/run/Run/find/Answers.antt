@@ -1,7 +1,7 @@
 use Rattle.std.proofs.Common.{◌≡◌, ap, sym, subst, ◌∙◌, arith, get_or, ◌+◌, ◌-◌, ◌/◌}
 use Rattle.psm_table.specs.Key.{key_order}
 use Rattle.psm_table.specs.Map.{AreAscending}
-use Rattle.psm_table.specs.Place.{probe_key}
+use Rattle.psm_table.specs.PairPosition.{probe_key}
 use Rattle.psm_table.proofs.Searches.{between_less, between_greater, is_at, is_gap}
 use Rattle.psm_table.proofs.run.Run.find.Goals as goal
 

@@ -1,7 +1,7 @@
 use Rattle.std.proofs.Common.{◌-◌}
 use Rattle.psm_table.specs.Key.{key_order}
-use Rattle.psm_table.specs.Place.{probe_key}
-use Rattle.psm_table.proofs.Places.{Between}
+use Rattle.psm_table.specs.PairPosition.{probe_key}
+use Rattle.psm_table.proofs.PairPositions.{Between}
 use Rattle.psm_table.proofs.run.Run.find.Given as goal
 
 abbrev pub invariant-loop-low : goal.invariant-loop-low

@@ -1,7 +1,7 @@
 use Rattle.std.proofs.Common.{ap, ◌∙◌}
 use Rattle.std.specs.Prelude.{slice_get}
 use Rattle.psm_table.specs.Map.{pairs_from}
-use Rattle.psm_table.specs.Place.{probe_key}
+use Rattle.psm_table.specs.PairPosition.{probe_key}
 use Rattle.psm_table.proofs.Filters.{copied-get}
 use Rattle.psm_table.proofs.Halves.{first_left}
 use Rattle.psm_table.proofs.run.Run.from.Goals as goal

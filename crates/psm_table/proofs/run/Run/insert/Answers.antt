@@ -3,7 +3,7 @@ use Rattle.std.proofs.lemmas.List.{length-set}
 use Rattle.std.specs.Prelude.{nat_eq, if◌then◌else◌}
 use Rattle.psm_table.specs.declared.map.Pair.{Pair}
 use Rattle.psm_table.specs.Map.{AreAscending, with_pair}
-use Rattle.psm_table.specs.Place.{IsAt, IsGap}
+use Rattle.psm_table.specs.PairPosition.{IsAt, IsGap}
 use Rattle.psm_table.specs.Leading.{leading_of}
 use Rattle.psm_table.specs.Runs.{head_of, most_pairs}
 use Rattle.psm_table.proofs.Heads.{head-insert, head-write}

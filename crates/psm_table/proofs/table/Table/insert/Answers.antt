@@ -17,13 +17,13 @@ pub insert_first-requires-clause-absent : goal.insert_first-requires-clause-abse
 insert_first-requires-clause-absent g c =
     let val : None ≡ value_of (values_at c.self.inside.def.key c.args.row) c.self.inside.rows.pairs =
     c.in-None.ensures ∙ ap (λ (r : List Datum). value_of (values_at c.items.result.now r) c.self.inside.rows.pairs) c.values.ensures ∙ ap (λ (k : List ℕ). value_of (values_at k c.args.row) c.self.inside.rows.pairs) c.items.ensures in
-    subst (λ (s : State). has_key s.places (values_at s.contents.def.key c.args.row) ≡ false) c.self.view_is (sym (has_value (values_at c.self.inside.def.key c.args.row) c.self.inside.rows.pairs) ∙ ap is_some (sym val))
+    subst (λ (s : State). has_key s.slots (values_at s.contents.def.key c.args.row) ≡ false) c.self.view_is (sym (has_value (values_at c.self.inside.def.key c.args.row) c.self.inside.rows.pairs) ∙ ap is_some (sym val))
 
-pub insert_again-requires-clause-place : goal.insert_again-requires-clause-place
-insert_again-requires-clause-place g c =
+pub insert_again-requires-clause-slot : goal.insert_again-requires-clause-slot
+insert_again-requires-clause-slot g c =
     let val : Some c.in-Some.held.now ≡ value_of (values_at c.self.inside.def.key c.args.row) c.self.inside.rows.pairs =
     c.in-Some.ensures ∙ ap (λ (r : List Datum). value_of (values_at c.items.result.now r) c.self.inside.rows.pairs) c.values.ensures ∙ ap (λ (k : List ℕ). value_of (values_at k c.args.row) c.self.inside.rows.pairs) c.items.ensures in
-    subst (λ (s : State). has_key s.places (values_at s.contents.def.key c.args.row) ≡ true) c.self.view_is (sym (has_value (values_at c.self.inside.def.key c.args.row) c.self.inside.rows.pairs) ∙ ap is_some (sym val))
+    subst (λ (s : State). has_key s.slots (values_at s.contents.def.key c.args.row) ≡ true) c.self.view_is (sym (has_value (values_at c.self.inside.def.key c.args.row) c.self.inside.rows.pairs) ∙ ap is_some (sym val))
 
 pub insert_again-requires-clause-absent : goal.insert_again-requires-clause-absent
 insert_again-requires-clause-absent g c =

@@ -27,7 +27,7 @@ invariant_of-self-2 g c =
     let room : length (contents_of c.self.inside.def c.self.inside.rows).rows < most_rows = subst (λ (s : State). length s.contents.rows < most_rows) (sym c.self.view_is) c.requires.room in
     let key : c.in_ok-key.key ≡ values_at c.self.inside.def.key c.args.row = c.in_ok-key.ensures ∙ ap (λ (k : List ℕ). values_at k c.args.row) c.items.ensures in
     let absent : value_of (values_at c.self.inside.def.key c.args.row) c.self.inside.rows.pairs ≡ None =
-    none_there (values_at c.self.inside.def.key c.args.row) c.self.inside.rows.pairs (subst (λ (s : State). has_key s.places (values_at s.contents.def.key c.args.row) ≡ false) (sym c.self.view_is) c.requires.absent) in
+    none_there (values_at c.self.inside.def.key c.args.row) c.self.inside.rows.pairs (subst (λ (s : State). has_key s.slots (values_at s.contents.def.key c.args.row) ≡ false) (sym c.self.view_is) c.requires.absent) in
     let e : c.insert.new.self.pairs ≡ with_pair (record { key = values_at c.self.inside.def.key c.args.row; value = Some c.args.row }) c.self.inside.rows.pairs =
     c.insert.ensures.pairs ∙ ap (λ k. with_pair (record { key = k; value = Some c.args.row }) c.reserve.new.self.pairs) key
     ∙ ap (with_pair (record { key = values_at c.self.inside.def.key c.args.row; value = Some c.args.row })) c.reserve.ensures.pairs in
@@ -41,7 +41,7 @@ returns-clause-answer g c =
     let fits : IsRow c.self.inside.def c.args.row = subst (λ (s : State). IsRow s.contents.def c.args.row) (sym c.self.view_is) c.requires.fits in
     let key : c.in_ok-key.key ≡ values_at c.self.inside.def.key c.args.row = c.in_ok-key.ensures ∙ ap (λ (k : List ℕ). values_at k c.args.row) c.items.ensures in
     let absent : value_of (values_at c.self.inside.def.key c.args.row) c.self.inside.rows.pairs ≡ None =
-    none_there (values_at c.self.inside.def.key c.args.row) c.self.inside.rows.pairs (subst (λ (s : State). has_key s.places (values_at s.contents.def.key c.args.row) ≡ false) (sym c.self.view_is) c.requires.absent) in
+    none_there (values_at c.self.inside.def.key c.args.row) c.self.inside.rows.pairs (subst (λ (s : State). has_key s.slots (values_at s.contents.def.key c.args.row) ≡ false) (sym c.self.view_is) c.requires.absent) in
     let e : c.insert.new.self.pairs ≡ with_pair (record { key = values_at c.self.inside.def.key c.args.row; value = Some c.args.row }) c.self.inside.rows.pairs =
     c.insert.ensures.pairs ∙ ap (λ k. with_pair (record { key = k; value = Some c.args.row }) c.reserve.new.self.pairs) key
     ∙ ap (with_pair (record { key = values_at c.self.inside.def.key c.args.row; value = Some c.args.row })) c.reserve.ensures.pairs in
@@ -55,7 +55,7 @@ returns-clause-keeps g c =
     let fits : IsRow c.self.inside.def c.args.row = subst (λ (s : State). IsRow s.contents.def c.args.row) (sym c.self.view_is) c.requires.fits in
     let key : c.in_ok-key.key ≡ values_at c.self.inside.def.key c.args.row = c.in_ok-key.ensures ∙ ap (λ (k : List ℕ). values_at k c.args.row) c.items.ensures in
     let absent : value_of (values_at c.self.inside.def.key c.args.row) c.self.inside.rows.pairs ≡ None =
-    none_there (values_at c.self.inside.def.key c.args.row) c.self.inside.rows.pairs (subst (λ (s : State). has_key s.places (values_at s.contents.def.key c.args.row) ≡ false) (sym c.self.view_is) c.requires.absent) in
+    none_there (values_at c.self.inside.def.key c.args.row) c.self.inside.rows.pairs (subst (λ (s : State). has_key s.slots (values_at s.contents.def.key c.args.row) ≡ false) (sym c.self.view_is) c.requires.absent) in
     let e : c.insert.new.self.pairs ≡ with_pair (record { key = values_at c.self.inside.def.key c.args.row; value = Some c.args.row }) c.self.inside.rows.pairs =
     c.insert.ensures.pairs ∙ ap (λ k. with_pair (record { key = k; value = Some c.args.row }) c.reserve.new.self.pairs) key
     ∙ ap (with_pair (record { key = values_at c.self.inside.def.key c.args.row; value = Some c.args.row })) c.reserve.ensures.pairs in
@@ -77,7 +77,7 @@ returns-clause-tidy g c tidy =
     let fits : IsRow c.self.inside.def c.args.row = subst (λ (s : State). IsRow s.contents.def c.args.row) (sym c.self.view_is) c.requires.fits in
     let key : c.in_ok-key.key ≡ values_at c.self.inside.def.key c.args.row = c.in_ok-key.ensures ∙ ap (λ (k : List ℕ). values_at k c.args.row) c.items.ensures in
     let absent : value_of (values_at c.self.inside.def.key c.args.row) c.self.inside.rows.pairs ≡ None =
-    none_there (values_at c.self.inside.def.key c.args.row) c.self.inside.rows.pairs (subst (λ (s : State). has_key s.places (values_at s.contents.def.key c.args.row) ≡ false) (sym c.self.view_is) c.requires.absent) in
+    none_there (values_at c.self.inside.def.key c.args.row) c.self.inside.rows.pairs (subst (λ (s : State). has_key s.slots (values_at s.contents.def.key c.args.row) ≡ false) (sym c.self.view_is) c.requires.absent) in
     let e : c.insert.new.self.pairs ≡ with_pair (record { key = values_at c.self.inside.def.key c.args.row; value = Some c.args.row }) c.self.inside.rows.pairs =
     c.insert.ensures.pairs ∙ ap (λ k. with_pair (record { key = k; value = Some c.args.row }) c.reserve.new.self.pairs) key
     ∙ ap (with_pair (record { key = values_at c.self.inside.def.key c.args.row; value = Some c.args.row })) c.reserve.ensures.pairs in

@@ -5,13 +5,13 @@ use Rattle.psm_table.specs.Definition.{IsRow}
 use Rattle.psm_table.specs.Held.{entries_of, row_of, state_of, IsEntered}
 use Rattle.psm_table.specs.Key.{values_at}
 use Rattle.psm_table.specs.Map.{value_of, with_value}
-use Rattle.psm_table.specs.Place.{StandsAt}
+use Rattle.psm_table.specs.PairPosition.{StandsAt}
 use Rattle.psm_table.specs.declared.map.Pair.{Pair}
 use Rattle.psm_table.specs.declared.map.Position.{Position}
 use Rattle.psm_table.specs.State.{State, StillKeeps}
 use Rattle.psm_table.specs.Table.{namesake, with_row}
 use Rattle.psm_table.proofs.Entered.{no_value}
-use Rattle.psm_table.proofs.Holds.{counted-over, contents-put, has_place, held-over, its_row, keeps-put, keeps-same, kept-over, state-same}
+use Rattle.psm_table.proofs.Holds.{counted-over, contents-put, has_slot, held-over, its_row, keeps-put, keeps-same, kept-over, state-same}
 use Rattle.psm_table.proofs.Tables.{held-find}
 use Rattle.psm_table.proofs.table.Table.swap.Goals as goal
 
@@ -39,11 +39,11 @@ invariant_of-self-in-Some-replace_at g c =
     let fits : IsRow c.self.inside.def c.args.row = subst (λ (s : State). IsRow s.contents.def c.args.row) (sym c.self.view_is) c.requires in
     let stands = stands_by c.items.result.now c.self.inside.def.key c.values.result.now c.args.row c.self.inside.rows.runs c.in-Some.position c.items.ensures c.values.ensures c.in-Some.ensures.at in
     let some : row_of (values_at c.self.inside.def.key c.args.row) c.self.inside.rows.pairs ≡ Some c.in-Some-replace_at.was = sym (c.in-Some-replace_at.ensures.row (values_at c.self.inside.def.key c.args.row) stands) in
-    let place : IsSome (value_of (values_at c.self.inside.def.key c.args.row) c.self.inside.rows.pairs) = has_place (value_of (values_at c.self.inside.def.key c.args.row) c.self.inside.rows.pairs) c.in-Some-replace_at.was some in
+    let slot : IsSome (value_of (values_at c.self.inside.def.key c.args.row) c.self.inside.rows.pairs) = has_slot (value_of (values_at c.self.inside.def.key c.args.row) c.self.inside.rows.pairs) c.in-Some-replace_at.was some in
     let e : c.replace_at.new.self.pairs ≡ with_value (values_at c.self.inside.def.key c.args.row) (Some c.args.row) c.self.inside.rows.pairs = c.replace_at.ensures.pairs (values_at c.self.inside.def.key c.args.row) stands in
     let entered : IsEntered c.self.inside.def c.self.inside.lists.items (entries_of c.enter.new.indexes.items) c.args.row = subst (λ (r : List Datum). IsEntered c.self.inside.def c.self.inside.lists.items (entries_of c.enter.new.indexes.items) r) c.values-2.ensures (subst (λ (ls : List (List ℕ)). IsEntered c.self.inside.def ls (entries_of c.enter.new.indexes.items) c.values-2.result.now) c.as_slice.ensures.value c.in_ok-enter.ensures.entered) in (
-      held-over c.self.inside.def c.self.inside.lists.items c.self.inside.rows c.self.inside.live c.self.inside.indexes.items c.self.invariant.0 c.args.row c.replace_at.new.self c.enter.new.indexes.items fits place e c.enter.ensures.lists c.enter.ensures.grow entered c.replace_at.ensures.ordered c.in-Some-replace_at.was some,
-      counted-over c.self.inside.def c.self.inside.lists.items c.self.inside.rows c.self.inside.live c.self.inside.indexes.items c.self.invariant.0 c.args.row c.replace_at.new.self c.enter.new.indexes.items fits place e c.enter.ensures.lists c.enter.ensures.grow entered c.replace_at.ensures.ordered c.in-Some-replace_at.was some c.enter.ensures.one c.self.inside.left c.saturating_add-self-inside.result (λ l. omega (arith, l, c.saturating_add-self-inside.ensures)) c.self.invariant.1,
+      held-over c.self.inside.def c.self.inside.lists.items c.self.inside.rows c.self.inside.live c.self.inside.indexes.items c.self.invariant.0 c.args.row c.replace_at.new.self c.enter.new.indexes.items fits slot e c.enter.ensures.lists c.enter.ensures.grow entered c.replace_at.ensures.ordered c.in-Some-replace_at.was some,
+      counted-over c.self.inside.def c.self.inside.lists.items c.self.inside.rows c.self.inside.live c.self.inside.indexes.items c.self.invariant.0 c.args.row c.replace_at.new.self c.enter.new.indexes.items fits slot e c.enter.ensures.lists c.enter.ensures.grow entered c.replace_at.ensures.ordered c.in-Some-replace_at.was some c.enter.ensures.one c.self.inside.left c.saturating_add-self-inside.result (λ l. omega (arith, l, c.saturating_add-self-inside.ensures)) c.self.invariant.1,
     )
 
 pub invariant_of-self-in-None : goal.invariant_of-self-in-None
@@ -60,11 +60,11 @@ returns-in-Some-replace_at-clause-answer g c =
     let fits : IsRow c.self.inside.def c.args.row = subst (λ (s : State). IsRow s.contents.def c.args.row) (sym c.self.view_is) c.requires in
     let stands = stands_by c.items.result.now c.self.inside.def.key c.values.result.now c.args.row c.self.inside.rows.runs c.in-Some.position c.items.ensures c.values.ensures c.in-Some.ensures.at in
     let some : row_of (values_at c.self.inside.def.key c.args.row) c.self.inside.rows.pairs ≡ Some c.in-Some-replace_at.was = sym (c.in-Some-replace_at.ensures.row (values_at c.self.inside.def.key c.args.row) stands) in
-    let place : IsSome (value_of (values_at c.self.inside.def.key c.args.row) c.self.inside.rows.pairs) = has_place (value_of (values_at c.self.inside.def.key c.args.row) c.self.inside.rows.pairs) c.in-Some-replace_at.was some in
+    let slot : IsSome (value_of (values_at c.self.inside.def.key c.args.row) c.self.inside.rows.pairs) = has_slot (value_of (values_at c.self.inside.def.key c.args.row) c.self.inside.rows.pairs) c.in-Some-replace_at.was some in
     let e : c.replace_at.new.self.pairs ≡ with_value (values_at c.self.inside.def.key c.args.row) (Some c.args.row) c.self.inside.rows.pairs = c.replace_at.ensures.pairs (values_at c.self.inside.def.key c.args.row) stands in
     let entered : IsEntered c.self.inside.def c.self.inside.lists.items (entries_of c.enter.new.indexes.items) c.args.row = subst (λ (r : List Datum). IsEntered c.self.inside.def c.self.inside.lists.items (entries_of c.enter.new.indexes.items) r) c.values-2.ensures (subst (λ (ls : List (List ℕ)). IsEntered c.self.inside.def ls (entries_of c.enter.new.indexes.items) c.values-2.result.now) c.as_slice.ensures.value c.in_ok-enter.ensures.entered) in (
       subst (λ (s : State). namesake s.contents c.args.row ≡ Some c.in-Some-replace_at.was) c.self.view_is (sym (held-find c.self.inside.def c.self.inside.lists.items c.self.inside.rows c.self.inside.live c.self.inside.indexes.items c.self.invariant.0 (values_at c.self.inside.def.key c.args.row)) ∙ some),
-      contents-put c.self.inside.def c.self.inside.lists.items c.self.inside.rows c.self.inside.live c.self.inside.indexes.items c.self.invariant.0 c.args.row c.replace_at.new.self c.enter.new.indexes.items fits place e c.enter.ensures.lists c.enter.ensures.grow entered c.replace_at.ensures.ordered ∙ ap (λ (s : State). with_row s.contents c.args.row) c.self.view_is,
+      contents-put c.self.inside.def c.self.inside.lists.items c.self.inside.rows c.self.inside.live c.self.inside.indexes.items c.self.invariant.0 c.args.row c.replace_at.new.self c.enter.new.indexes.items fits slot e c.enter.ensures.lists c.enter.ensures.grow entered c.replace_at.ensures.ordered ∙ ap (λ (s : State). with_row s.contents c.args.row) c.self.view_is,
       c.tick.ensures,
     )
 
@@ -79,20 +79,20 @@ returns-in-Some-replace_at-clause-kept g c =
     let fits : IsRow c.self.inside.def c.args.row = subst (λ (s : State). IsRow s.contents.def c.args.row) (sym c.self.view_is) c.requires in
     let stands = stands_by c.items.result.now c.self.inside.def.key c.values.result.now c.args.row c.self.inside.rows.runs c.in-Some.position c.items.ensures c.values.ensures c.in-Some.ensures.at in
     let some : row_of (values_at c.self.inside.def.key c.args.row) c.self.inside.rows.pairs ≡ Some c.in-Some-replace_at.was = sym (c.in-Some-replace_at.ensures.row (values_at c.self.inside.def.key c.args.row) stands) in
-    let place : IsSome (value_of (values_at c.self.inside.def.key c.args.row) c.self.inside.rows.pairs) = has_place (value_of (values_at c.self.inside.def.key c.args.row) c.self.inside.rows.pairs) c.in-Some-replace_at.was some in
+    let slot : IsSome (value_of (values_at c.self.inside.def.key c.args.row) c.self.inside.rows.pairs) = has_slot (value_of (values_at c.self.inside.def.key c.args.row) c.self.inside.rows.pairs) c.in-Some-replace_at.was some in
     let e : c.replace_at.new.self.pairs ≡ with_value (values_at c.self.inside.def.key c.args.row) (Some c.args.row) c.self.inside.rows.pairs = c.replace_at.ensures.pairs (values_at c.self.inside.def.key c.args.row) stands in
     let entered : IsEntered c.self.inside.def c.self.inside.lists.items (entries_of c.enter.new.indexes.items) c.args.row = subst (λ (r : List Datum). IsEntered c.self.inside.def c.self.inside.lists.items (entries_of c.enter.new.indexes.items) r) c.values-2.ensures (subst (λ (ls : List (List ℕ)). IsEntered c.self.inside.def ls (entries_of c.enter.new.indexes.items) c.values-2.result.now) c.as_slice.ensures.value c.in_ok-enter.ensures.entered) in
-    kept-over c.self.inside.def c.self.inside.lists.items c.self.inside.rows c.self.inside.live c.self.inside.indexes.items c.self.invariant.0 c.args.row c.replace_at.new.self c.enter.new.indexes.items fits place e c.enter.ensures.lists c.enter.ensures.grow entered c.replace_at.ensures.ordered c.in-Some-replace_at.was some
+    kept-over c.self.inside.def c.self.inside.lists.items c.self.inside.rows c.self.inside.live c.self.inside.indexes.items c.self.invariant.0 c.args.row c.replace_at.new.self c.enter.new.indexes.items fits slot e c.enter.ensures.lists c.enter.ensures.grow entered c.replace_at.ensures.ordered c.in-Some-replace_at.was some
 
 pub returns-in-Some-replace_at-clause-keeps : goal.returns-in-Some-replace_at-clause-keeps
 returns-in-Some-replace_at-clause-keeps g c =
     let fits : IsRow c.self.inside.def c.args.row = subst (λ (s : State). IsRow s.contents.def c.args.row) (sym c.self.view_is) c.requires in
     let stands = stands_by c.items.result.now c.self.inside.def.key c.values.result.now c.args.row c.self.inside.rows.runs c.in-Some.position c.items.ensures c.values.ensures c.in-Some.ensures.at in
     let some : row_of (values_at c.self.inside.def.key c.args.row) c.self.inside.rows.pairs ≡ Some c.in-Some-replace_at.was = sym (c.in-Some-replace_at.ensures.row (values_at c.self.inside.def.key c.args.row) stands) in
-    let place : IsSome (value_of (values_at c.self.inside.def.key c.args.row) c.self.inside.rows.pairs) = has_place (value_of (values_at c.self.inside.def.key c.args.row) c.self.inside.rows.pairs) c.in-Some-replace_at.was some in
+    let slot : IsSome (value_of (values_at c.self.inside.def.key c.args.row) c.self.inside.rows.pairs) = has_slot (value_of (values_at c.self.inside.def.key c.args.row) c.self.inside.rows.pairs) c.in-Some-replace_at.was some in
     let e : c.replace_at.new.self.pairs ≡ with_value (values_at c.self.inside.def.key c.args.row) (Some c.args.row) c.self.inside.rows.pairs = c.replace_at.ensures.pairs (values_at c.self.inside.def.key c.args.row) stands in
     let entered : IsEntered c.self.inside.def c.self.inside.lists.items (entries_of c.enter.new.indexes.items) c.args.row = subst (λ (r : List Datum). IsEntered c.self.inside.def c.self.inside.lists.items (entries_of c.enter.new.indexes.items) r) c.values-2.ensures (subst (λ (ls : List (List ℕ)). IsEntered c.self.inside.def ls (entries_of c.enter.new.indexes.items) c.values-2.result.now) c.as_slice.ensures.value c.in_ok-enter.ensures.entered) in
-    subst (λ s. StillKeeps s (state_of c.self.inside.def c.self.inside.lists.items c.replace_at.new.self c.enter.new.indexes.items)) c.self.view_is (keeps-put c.self.inside.def c.self.inside.lists.items c.self.inside.rows c.self.inside.live c.self.inside.indexes.items c.self.invariant.0 c.args.row c.replace_at.new.self c.enter.new.indexes.items fits place e c.enter.ensures.lists c.enter.ensures.grow entered c.replace_at.ensures.ordered)
+    subst (λ s. StillKeeps s (state_of c.self.inside.def c.self.inside.lists.items c.replace_at.new.self c.enter.new.indexes.items)) c.self.view_is (keeps-put c.self.inside.def c.self.inside.lists.items c.self.inside.rows c.self.inside.live c.self.inside.indexes.items c.self.invariant.0 c.args.row c.replace_at.new.self c.enter.new.indexes.items fits slot e c.enter.ensures.lists c.enter.ensures.grow entered c.replace_at.ensures.ordered)
 
 pub returns-in-None-clause-answer : goal.returns-in-None-clause-answer
 returns-in-None-clause-answer g c =

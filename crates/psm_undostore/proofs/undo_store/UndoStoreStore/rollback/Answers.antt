@@ -6,21 +6,21 @@ use Rattle.psm_undostore.specs.Touched.{IsNoted}
 use Rattle.psm_undostore.specs.Undo.{IsHeld, IsUndo, stands_for}
 use Rattle.psm_undostore.specs.Undone.{contents_of}
 use Rattle.psm_undostore.proofs.Calls.{written}
-use Rattle.psm_undostore.proofs.Held.{place_in, rolled_defs, rolled_held, rolled_keeps, rolled_undo, undo_of}
+use Rattle.psm_undostore.proofs.Held.{position_in, rolled_defs, rolled_held, rolled_keeps, rolled_undo, undo_of}
 use Rattle.psm_undostore.proofs.Noted.{noted_back}
 use Rattle.psm_undostore.proofs.undo_store.UndoStoreStore.rollback.Goals as goal
 
-pub undo-requires-clause-place : goal.undo-requires-clause-place
-undo-requires-clause-place g c = place_in c.self.inside.tables.items c.self.inside.journal c.self.inside.marks c.args.self.now c.self.view_is c.args.mark c.requires
+pub undo-requires-clause-position : goal.undo-requires-clause-position
+undo-requires-clause-position g c = position_in c.self.inside.tables.items c.self.inside.journal c.self.inside.marks c.args.self.now c.self.view_is c.args.mark c.requires
 
 pub invariant_of-self : goal.invariant_of-self
 invariant_of-self g c =
     subst (λ (s : List State). IsUndo (undo_of s c.undo.new.self (c.args.mark.depth + 1)) × IsNoted c.self.inside.touched (undo_of s c.undo.new.self (c.args.mark.depth + 1)))
     (sym (written c.self.inside.tables.items c.undo.new.tables c.self.inside.tables.len c.self.inside.tables.ok.0 (c.undo.auto.tables ∙ ap length c.as_mut_slice.ensures.value))) (
       rolled_undo c.self.inside.tables.items c.self.inside.journal c.self.inside.marks c.args.self.now c.self.view_is c.as_mut_slice.result.now c.as_mut_slice.ensures.value c.args.mark c.requires c.undo.new.tables c.undo.new.self c.undo.ensures.tables c.undo.ensures.entries c.self.invariant.0 c.undo.ensures.undoable,
-      noted_back c.self.inside.touched c.self.inside.tables.items c.self.inside.journal c.self.inside.marks c.self.invariant.1 c.args.mark.place (c.args.mark.depth + 1) c.undo.new.tables c.undo.new.self (omega arith)
+      noted_back c.self.inside.touched c.self.inside.tables.items c.self.inside.journal c.self.inside.marks c.self.invariant.1 c.args.mark.position (c.args.mark.depth + 1) c.undo.new.tables c.undo.new.self (omega arith)
           (c.undo.auto.tables ∙ ap length c.as_mut_slice.ensures.value) c.undo.ensures.entries
-          (subst (λ (s : List State). OthersStay (drop c.args.mark.place c.self.inside.journal) s c.undo.new.tables) c.as_mut_slice.ensures.value c.undo.ensures.others),
+          (subst (λ (s : List State). OthersStay (drop c.args.mark.position c.self.inside.journal) s c.undo.new.tables) c.as_mut_slice.ensures.value c.undo.ensures.others),
     )
 
 pub returns-clause-defs : goal.returns-clause-defs
