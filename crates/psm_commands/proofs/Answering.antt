@@ -21,10 +21,10 @@ use Rattle.psm_files.specs.declared.status.Status.TheVariants as status
 use Rattle.psm_load.specs.Loading.{IsObject}
 use Rattle.psm_commands.specs.Command.{Files}
 use Rattle.psm_commands.specs.Compile.{ForCompile}
-use Rattle.psm_commands.specs.Exec.{ForExec, PlaysOver}
+use Rattle.psm_commands.specs.Exec.{ForExec, RunsScriptOver}
 use Rattle.psm_commands.specs.Reading.{GivesModule, GivesObject, GivesScript, IsMade, IsScriptBy, expected_of}
 use Rattle.psm_commands.specs.Report.{Reports, Runs}
-use Rattle.psm_commands.specs.Run.{ForRun, Plays, expected_for_session, status_at, with_status}
+use Rattle.psm_commands.specs.Run.{ForRun, RunsScript, expected_for_session, status_at, with_status}
 use Rattle.psm_commands.specs.Sources.{ForModule, ForObject, ForScript, IsObjectRefused, IsRefused}
 use Rattle.psm_commands.specs.declared.source.Refusal.{Refusal}
 use Rattle.psm_commands.specs.declared.source.Refusal.TheVariants as refusal
@@ -142,12 +142,12 @@ module _ (held held' : List ℕ → Option (List ℕ)) (before mid after : List 
   -- ---- run
 
   module _ (first : IsMade (between held before mid) f.for_code StandsFor code) (means : MeansModule first.bytes code) where
-    over_module : (expected : Expected) → ForScript (as_fetched (between held before after)) (IsScriptFault first.bytes) f.for_script (λ ss. Plays (as_fetched (between held before after)) first.bytes ss f.turns) expected
+    over_module : (expected : Expected) → ForScript (as_fetched (between held before after)) (IsScriptFault first.bytes) f.for_script (λ ss. RunsScript (as_fetched (between held before after)) first.bytes ss f.turns) expected
         → ForRun (as_fetched (between held before after)) f expected
     over_module expected h = inr (inr (record { bytes = first.bytes; gives = first.read.contents; short = first.read.short; for_bytes = inr (first.is.file, h) }))
 
     pub run_refuses : (r : Refusal) → GivesScript (between held' mid after) code f.for_script (Err r) → Reports r f.for_script sunk answer → Says (ForRun (as_fetched (between held before after)) f) sunk answer
-    run_refuses r h puts = refusal_over first.read.none_failed (IsScriptFault first.bytes) means.fault_over_file (λ ss. Plays (as_fetched (between held before after)) first.bytes ss f.turns)
+    run_refuses r h puts = refusal_over first.read.none_failed (IsScriptFault first.bytes) means.fault_over_file (λ ss. RunsScript (as_fetched (between held before after)) first.bytes ss f.turns)
         (ForRun (as_fetched (between held before after)) f) over_module r h puts
 
     pub run_runs : (script : ScriptCode) (second : IsMade (between held' mid after) f.for_script (IsScriptBy code) script) → ((ms ss : List ℕ) (turns : ℕ) (s : Session) → EndsIn ms ss turns s → IsEnd s.end)
@@ -163,12 +163,12 @@ module _ (held held' : List ℕ → Option (List ℕ)) (before mid after : List 
   -- ---- exec
 
   module _ (first : IsMade (between held before mid) f.for_code IsObject code) where
-    over_object : (expected : Expected) → ForScript (as_fetched (between held before after)) (IsScriptFaultOver code) f.for_script (λ ss. PlaysOver (as_fetched (between held before after)) code ss f.turns) expected
+    over_object : (expected : Expected) → ForScript (as_fetched (between held before after)) (IsScriptFaultOver code) f.for_script (λ ss. RunsScriptOver (as_fetched (between held before after)) code ss f.turns) expected
         → ForExec (as_fetched (between held before after)) f expected
     over_object expected h = inr (inr (record { bytes = first.bytes; gives = first.read.contents; short = first.read.short; for_bytes = inr (record { code = code; object = first.is; for_script = h }) }))
 
     pub exec_refuses : (r : Refusal) → GivesScript (between held' mid after) code f.for_script (Err r) → Reports r f.for_script sunk answer → Says (ForExec (as_fetched (between held before after)) f) sunk answer
-    exec_refuses r h puts = refusal_over first.read.none_failed (IsScriptFaultOver code) (λ ss l c g k. k) (λ ss. PlaysOver (as_fetched (between held before after)) code ss f.turns)
+    exec_refuses r h puts = refusal_over first.read.none_failed (IsScriptFaultOver code) (λ ss l c g k. k) (λ ss. RunsScriptOver (as_fetched (between held before after)) code ss f.turns)
         (ForExec (as_fetched (between held before after)) f) over_object r h puts
 
     pub exec_runs : (script : ScriptCode) (second : IsMade (between held' mid after) f.for_script (IsScriptBy code) script) (s : Session) → EndIn code script.commands f.turns s → IsEnd s.end

@@ -23,10 +23,10 @@ use Rattle.psm_files.specs.declared.status.Status.TheVariants.{Done}
 use Rattle.psm_commands.specs.Command.{Command, Files, Run, Compile, Exec, Generate}
 use Rattle.psm_commands.specs.Compile.{ForCompile, IsListed, StatusForCompile}
 use Rattle.psm_commands.specs.Contract.{AreFetched, CommandCompletes, CommandSays, ForCommand, StatusFor}
-use Rattle.psm_commands.specs.Exec.{ForExec, IsOver, PlaysOver}
+use Rattle.psm_commands.specs.Exec.{ForExec, IsOver, RunsScriptOver}
 use Rattle.psm_commands.specs.Generate.{ForGenerate, IsSummed, expected_at}
 use Rattle.psm_commands.specs.Generated.{generated_module, generated_script, generated_turns}
-use Rattle.psm_commands.specs.Run.{ForRun, Plays, expected_for_session}
+use Rattle.psm_commands.specs.Run.{ForRun, RunsScript, expected_for_session}
 use Rattle.psm_commands.specs.Sources.{ForScript, IsObjectRefused, IsRefused}
 use Rattle.psm_commands.specs.declared.source.Which.{Which}
 use Rattle.psm_commands.specs.declared.source.Which.TheVariants.{Module, Script}
@@ -71,14 +71,14 @@ pub record AreOneThing : Type 0 where
 module _ (one : AreOneThing) (fetches : Fetches) where
   -- ---- run
 
-  in_script : (ms ss : List ℕ) (turns : ℕ) (e d : Expected) → IsRefused (as_fetched fetches) Script (IsScriptFault ms ss) e ⊎ Plays (as_fetched fetches) ms ss turns e
-      → IsRefused (as_held fetches.held) Script (IsScriptFault ms ss) d ⊎ Plays (as_held fetches.held) ms ss turns d → e.status ≡ d.status
-  in_script ms ss turns e d h k = script_same (IsScriptFile ms ss) (IsScriptFault ms ss) (one.scripts ms ss) (Plays (as_fetched fetches) ms ss turns) (Plays (as_held fetches.held) ms ss turns)
+  in_script : (ms ss : List ℕ) (turns : ℕ) (e d : Expected) → IsRefused (as_fetched fetches) Script (IsScriptFault ms ss) e ⊎ RunsScript (as_fetched fetches) ms ss turns e
+      → IsRefused (as_held fetches.held) Script (IsScriptFault ms ss) d ⊎ RunsScript (as_held fetches.held) ms ss turns d → e.status ≡ d.status
+  in_script ms ss turns e d h k = script_same (IsScriptFile ms ss) (IsScriptFault ms ss) (one.scripts ms ss) (RunsScript (as_fetched fetches) ms ss turns) (RunsScript (as_held fetches.held) ms ss turns)
       (λ e p. p.ends_in.script) (λ d p. p.ends_in.script) (λ e d p q. session_same p.session q.session e d (one.sessions ms ss turns p.session q.session p.ends_in q.ends_in) p.expected_is q.expected_is) e d h k
 
   in_module : (f : Files) → Stayed (fetches.before f.for_script) (fetches.after f.for_script) → (ms : List ℕ) (e d : Expected)
-      → IsRefused (as_fetched fetches) Module (IsModuleFault ms) e ⊎ (IsModuleFile ms × ForScript (as_fetched fetches) (IsScriptFault ms) f.for_script (λ ss. Plays (as_fetched fetches) ms ss f.turns) e)
-      → IsRefused (as_held fetches.held) Module (IsModuleFault ms) d ⊎ (IsModuleFile ms × ForScript (as_held fetches.held) (IsScriptFault ms) f.for_script (λ ss. Plays (as_held fetches.held) ms ss f.turns) d)
+      → IsRefused (as_fetched fetches) Module (IsModuleFault ms) e ⊎ (IsModuleFile ms × ForScript (as_fetched fetches) (IsScriptFault ms) f.for_script (λ ss. RunsScript (as_fetched fetches) ms ss f.turns) e)
+      → IsRefused (as_held fetches.held) Module (IsModuleFault ms) d ⊎ (IsModuleFile ms × ForScript (as_held fetches.held) (IsScriptFault ms) f.for_script (λ ss. RunsScript (as_held fetches.held) ms ss f.turns) d)
       → e.status ≡ d.status
   in_module f stayed ms e d (inl h) (inl k) = refused_same Module _ _ e d h k
   in_module f stayed ms e d (inl h) (inr k) = absurd ((one.modules ms).file_or_fault h.line h.column h.fault k.0 h.is_fault)
@@ -103,9 +103,9 @@ module _ (one : AreOneThing) (fetches : Fetches) where
 
   -- ---- exec
 
-  in_script_over : (code : RawCode) → first_fault code ≡ None → (turns : ℕ) (ss : List ℕ) (e d : Expected) → IsRefused (as_fetched fetches) Script (IsScriptFaultOver code ss) e ⊎ PlaysOver (as_fetched fetches) code ss turns e
-      → IsRefused (as_held fetches.held) Script (IsScriptFaultOver code ss) d ⊎ PlaysOver (as_held fetches.held) code ss turns d → e.status ≡ d.status
-  in_script_over code well_formed turns ss e d h k = script_same (IsScriptOver code ss) (IsScriptFaultOver code ss) (one.scripts_over code ss) (PlaysOver (as_fetched fetches) code ss turns) (PlaysOver (as_held fetches.held) code ss turns)
+  in_script_over : (code : RawCode) → first_fault code ≡ None → (turns : ℕ) (ss : List ℕ) (e d : Expected) → IsRefused (as_fetched fetches) Script (IsScriptFaultOver code ss) e ⊎ RunsScriptOver (as_fetched fetches) code ss turns e
+      → IsRefused (as_held fetches.held) Script (IsScriptFaultOver code ss) d ⊎ RunsScriptOver (as_held fetches.held) code ss turns d → e.status ≡ d.status
+  in_script_over code well_formed turns ss e d h k = script_same (IsScriptOver code ss) (IsScriptFaultOver code ss) (one.scripts_over code ss) (RunsScriptOver (as_fetched fetches) code ss turns) (RunsScriptOver (as_held fetches.held) code ss turns)
       (λ e p. record { commands = p.ends_in.commands; script = p.ends_in.script }) (λ d p. record { commands = p.ends_in.commands; script = p.ends_in.script })
       (λ e d p q. session_same p.session q.session e d (one.sessions_over code well_formed ss turns p.session q.session p.ends_in q.ends_in) p.expected_is q.expected_is) e d h k
 
@@ -115,7 +115,7 @@ module _ (one : AreOneThing) (fetches : Fetches) where
   in_object f stayed os e d (inl h) (inr k) = absurd (one.objects os k.code k.object h.line h.fault h.is_fault)
   in_object f stayed os e d (inr h) (inl k) = absurd (one.objects os h.code h.object k.line k.fault k.is_fault)
   in_object f stayed os e d (inr h) (inr k) =
-      let for_script = subst (λ (c : RawCode). ForScript (as_held fetches.held) (IsScriptFaultOver c) f.for_script (λ ss. PlaysOver (as_held fetches.held) c ss f.turns) d) (one.codes os k.code h.code k.object h.object) k.for_script in
+      let for_script = subst (λ (c : RawCode). ForScript (as_held fetches.held) (IsScriptFaultOver c) f.for_script (λ ss. RunsScriptOver (as_held fetches.held) c ss f.turns) d) (one.codes os k.code h.code k.object h.object) k.for_script in
       for_file_same fetches f.for_script stayed _ _ (λ ss x y. in_script_over h.code h.object.well_formed f.turns ss x y) e d h.for_script for_script
 
   exec_same : (f : Files) → Stayed (fetches.before f.for_code) (fetches.after f.for_code) → Stayed (fetches.before f.for_script) (fetches.after f.for_script)

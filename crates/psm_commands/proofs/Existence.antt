@@ -23,9 +23,9 @@ use Rattle.psm_files.specs.Message.{too_long}
 use Rattle.psm_files.specs.declared.status.Status.TheVariants.{Done, TooLong}
 use Rattle.psm_commands.specs.Command.{Command, Files, Run, Compile, Exec, Generate, files_of}
 use Rattle.psm_commands.specs.Contract.{StatusFor}
-use Rattle.psm_commands.specs.Run.{ForRun, Plays}
+use Rattle.psm_commands.specs.Run.{ForRun, RunsScript}
 use Rattle.psm_commands.specs.Compile.{StatusForCompile}
-use Rattle.psm_commands.specs.Exec.{ForExec, IsOver, PlaysOver}
+use Rattle.psm_commands.specs.Exec.{ForExec, IsOver, RunsScriptOver}
 use Rattle.psm_commands.specs.Generate.{ForGenerate, IsSummed, expected_after, expected_at}
 use Rattle.psm_commands.specs.Generated.{generated_module, generated_script, generated_turns}
 use Rattle.psm_commands.specs.Sources.{ForScript, IsObjectRefused, IsRefused, with_object_refusal, with_refusal}
@@ -69,11 +69,11 @@ module _ (held : List ℕ → Option (List ℕ)) where
     pub ends_over : (code : RawCode) (ss : List ℕ) (turns : ℕ) (s : Session) → CodeEndsIn code ss turns s → IsEnd s.end
 
   module _ (all : AreSomething) where
-    for_script : (f : Files) (ms : List ℕ) → IsModuleFile ms → (ss : List ℕ) → Something (λ e. IsRefused (as_held held) Script (IsScriptFault ms ss) e ⊎ Plays (as_held held) ms ss f.turns e)
+    for_script : (f : Files) (ms : List ℕ) → IsModuleFile ms → (ss : List ℕ) → Something (λ e. IsRefused (as_held held) Script (IsScriptFault ms ss) e ⊎ RunsScript (as_held held) ms ss f.turns e)
     for_script f ms is ss = by (all.scripts ms ss is)
       where
-        by : Total (IsScriptFile ms ss) (IsScriptFault ms ss) → Something (λ e. IsRefused (as_held held) Script (IsScriptFault ms ss) e ⊎ Plays (as_held held) ms ss f.turns e)
-        by (inr h) = refused Script (IsScriptFault ms ss) (Plays (as_held held) ms ss f.turns) h
+        by : Total (IsScriptFile ms ss) (IsScriptFault ms ss) → Something (λ e. IsRefused (as_held held) Script (IsScriptFault ms ss) e ⊎ RunsScript (as_held held) ms ss f.turns e)
+        by (inr h) = refused Script (IsScriptFault ms ss) (RunsScript (as_held held) ms ss f.turns) h
         by (inl script) =
             let s = all.sessions ms ss f.turns script in
             let e = session_expected s.0 (all.ends ms ss f.turns s.0 s.1) in
@@ -83,7 +83,7 @@ module _ (held : List ℕ → Option (List ℕ)) where
     for_run f hm hs = for_file f.for_code hm _ (λ ms. by ms (all.modules ms))
       where
         by : (ms : List ℕ) → Total (IsModuleFile ms) (IsModuleFault ms)
-            → Something (λ e. IsRefused (as_held held) Module (IsModuleFault ms) e ⊎ (IsModuleFile ms × ForScript (as_held held) (IsScriptFault ms) f.for_script (λ ss. Plays (as_held held) ms ss f.turns) e))
+            → Something (λ e. IsRefused (as_held held) Module (IsModuleFault ms) e ⊎ (IsModuleFile ms × ForScript (as_held held) (IsScriptFault ms) f.for_script (λ ss. RunsScript (as_held held) ms ss f.turns) e))
         by ms (inr h) = refused Module (IsModuleFault ms) _ h
         by ms (inl is) = let s = for_file f.for_script hs _ (for_script f ms is) in (s.0, inr (is, s.1))
 
@@ -94,12 +94,12 @@ module _ (held : List ℕ → Option (List ℕ)) where
         by ms (inr h) = refused Module (IsModuleFault ms) _ h
         by ms (inl is) = (record { status = Done; pieces = [] }, inr (is, refl))
 
-    for_script_over : (f : Files) (os : List ℕ) (code : RawCode) → IsObject os code → (ss : List ℕ) → Something (λ e. IsRefused (as_held held) Script (IsScriptFaultOver code ss) e ⊎ PlaysOver (as_held held) code ss f.turns e)
+    for_script_over : (f : Files) (os : List ℕ) (code : RawCode) → IsObject os code → (ss : List ℕ) → Something (λ e. IsRefused (as_held held) Script (IsScriptFaultOver code ss) e ⊎ RunsScriptOver (as_held held) code ss f.turns e)
     for_script_over f os code is ss = by (all.scripts_over code ss)
       where
         by : Total (IsScriptOver code ss) (IsScriptFaultOver code ss)
-            → Something (λ e. IsRefused (as_held held) Script (IsScriptFaultOver code ss) e ⊎ PlaysOver (as_held held) code ss f.turns e)
-        by (inr h) = refused Script (IsScriptFaultOver code ss) (PlaysOver (as_held held) code ss f.turns) h
+            → Something (λ e. IsRefused (as_held held) Script (IsScriptFaultOver code ss) e ⊎ RunsScriptOver (as_held held) code ss f.turns e)
+        by (inr h) = refused Script (IsScriptFaultOver code ss) (RunsScriptOver (as_held held) code ss f.turns) h
         by (inl script) =
             let s = all.sessions_over code is.well_formed ss script.commands script.script f.turns in
             let in_session : CodeEndsIn code ss f.turns s.0 = record { commands = script.commands; script = script.script; session = s.1 } in

@@ -12,7 +12,7 @@ use Rattle.psm_commands.specs.Run.{expected_for_session}
 use Rattle.psm_commands.specs.Sources.{ForObject, ForScript}
 
 -- the script has a session over the code, for which this is expected
-pub record PlaysOver (given : Given) (code : RawCode) (ss : List ℕ) (turns : ℕ) (expected : Expected) : Type 0 where
+pub record RunsScriptOver (given : Given) (code : RawCode) (ss : List ℕ) (turns : ℕ) (expected : Expected) : Type 0 where
   pub session : Session
   pub ends_in : CodeEndsIn code ss turns session
   pub none_fails : given.NoneFails
@@ -22,7 +22,7 @@ pub record PlaysOver (given : Given) (code : RawCode) (ss : List ℕ) (turns : �
 pub record IsOver (given : Given) (f : Files) (os : List ℕ) (expected : Expected) : Type 0 where
   pub code : RawCode
   pub object : IsObject os code
-  pub for_script : ForScript given (IsScriptFaultOver code) f.for_script (λ ss. PlaysOver given code ss f.turns) expected
+  pub for_script : ForScript given (IsScriptFaultOver code) f.for_script (λ ss. RunsScriptOver given code ss f.turns) expected
 
 -- the first of the two files that isn't accepted decides, else the session of the script over the code that the object lists
 abbrev pub ForExec : Given → Files → Expected → Type 0

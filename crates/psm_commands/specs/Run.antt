@@ -26,7 +26,7 @@ abbrev pub expected_for_session : Session → Option Expected
 expected_for_session s = with_status s.pieces (status_at s.end)
 
 -- the two files end in a session, for which this is expected
-pub record Plays (given : Given) (ms ss : List ℕ) (turns : ℕ) (expected : Expected) : Type 0 where
+pub record RunsScript (given : Given) (ms ss : List ℕ) (turns : ℕ) (expected : Expected) : Type 0 where
   pub session : Session
   pub ends_in : EndsIn ms ss turns session
   pub none_fails : given.NoneFails
@@ -34,4 +34,4 @@ pub record Plays (given : Given) (ms ss : List ℕ) (turns : ℕ) (expected : Ex
 
 -- the first of the two files that isn't accepted decides, else the session that they end in
 abbrev pub ForRun : Given → Files → Expected → Type 0
-ForRun given f = ForModule given f.for_code (λ ms expected. IsModuleFile ms × ForScript given (IsScriptFault ms) f.for_script (λ ss. Plays given ms ss f.turns) expected)
+ForRun given f = ForModule given f.for_code (λ ms expected. IsModuleFile ms × ForScript given (IsScriptFault ms) f.for_script (λ ss. RunsScript given ms ss f.turns) expected)

@@ -7,8 +7,8 @@ ghost use Rattle.psm_commands.specs.Command.{named};
 ghost use Rattle.psm_commands.specs.Exec.{ForExec};
 
 use crate::command::Files;
-use crate::play::play;
 use crate::refusal::report;
+use crate::session_run::run_session;
 use crate::source::{object_code, script_over};
 use psm_code_session::{
     runs_over_well_formed_code_show_their_session, scripts_over_well_formed_code_have_one_session,
@@ -36,7 +36,7 @@ pub(crate) fn exec<F: Shelf, K: Sink>(
         Err(refusal) => return report(alloc, files.for_code, refusal, out),
     };
     match script_over(alloc, &code, files.for_script, shelf) {
-        Ok(script) => play(alloc, &code, &script, files.turns, out),
+        Ok(script) => run_session(alloc, &code, &script, files.turns, out),
         Err(refusal) => report(alloc, files.for_script, refusal, out),
     }
 }

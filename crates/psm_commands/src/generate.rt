@@ -13,8 +13,8 @@ ghost use Rattle.psm_commands.specs.Generated.{generated_call, generated_module,
 ghost use Rattle.psm_commands.specs.Reading.{Generates, IsFaultOf, IsScriptBy, Makes};
 ghost use Rattle.psm_commands.specs.declared.source.Which.TheVariants.{Module, Script};
 
-use crate::play::empty_store;
 use crate::refusal::report;
+use crate::session_run::empty_store;
 use crate::source::{Refusal, code_of, commands_of};
 use itoa::Buffer;
 use psm_build::{Code, ScriptCode, code_means_its_module};

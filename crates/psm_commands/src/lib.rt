@@ -8,9 +8,9 @@ mod compile;
 mod exec;
 mod generate;
 mod laws;
-mod play;
 mod refusal;
 mod run;
+mod session_run;
 mod source;
 
 pub use command::{Command, Files, perform};

@@ -7,8 +7,8 @@ ghost use Rattle.psm_commands.specs.Command.{named};
 ghost use Rattle.psm_commands.specs.Run.{ForRun};
 
 use crate::command::Files;
-use crate::play::play;
 use crate::refusal::report;
+use crate::session_run::run_session;
 use crate::source::{module_code, script_over};
 use psm_build::{code_means_its_module, files_are_one_thing};
 use psm_files::Status;
@@ -32,7 +32,7 @@ pub(crate) fn run<F: Shelf, K: Sink>(
         Err(refusal) => return report(alloc, files.for_code, refusal, out),
     };
     match script_over(alloc, &code, files.for_script, shelf) {
-        Ok(script) => play(alloc, &code, &script, files.turns, out),
+        Ok(script) => run_session(alloc, &code, &script, files.turns, out),
         Err(refusal) => report(alloc, files.for_script, refusal, out),
     }
 }

@@ -13,7 +13,7 @@ pub mod Misfits
 pub mod NumberedHandlers
 pub mod Objects
 pub mod OneThing
-pub mod Sound
+pub mod CleanCode
 pub mod Spelling
 pub mod TableTexts
 pub mod Texts

@@ -34,7 +34,7 @@ use Rattle.psm_load.specs.declared.tables.TableText.{TableText}
 use Rattle.psm_load.proofs.Conditions.{condition_again, condition_fits, condition_head, condition_line_is, condition_said, handler_again, handler_fits, handler_head, handler_line_is, handler_said}
 use Rattle.psm_load.proofs.DueLines.{head_is}
 use Rattle.psm_load.proofs.Following.{Lines}
-use Rattle.psm_load.proofs.Sound.{HasValues, IsSound, sound_code}
+use Rattle.psm_load.proofs.CleanCode.{HasValues, BreaksNoRule, clean_code}
 use Rattle.psm_load.proofs.Spelling.{Several, Spells, Valid, spells_as, spells_flat, spells_made, spells_map, spells_one, spells_then, spells_times}
 use Rattle.psm_load.proofs.TableTexts.{keys_again, tables_again, text_lines, texts_again, texts_length, texts_lines, turn_again}
 use Rattle.psm_load.proofs.WrittenParts.{length_map, spells_plan, spells_query, spells_table}
@@ -173,7 +173,7 @@ routine_counts t =
 regroup : (a b c d : Lines) → a ++ (b ++ (c ++ d)) ≡ ((a ++ b) ++ c) ++ d
 regroup a b c d = sym (append_assoc a b (c ++ d)) ∙ sym (append_assoc (a ++ b) c d)
 
-routine_said : (t : Routines) → IsSound (routine_by_trace t) → (routine_says t ≡ routine_lines (routine_by_trace t)) × IsListedRoutine (routine_by_trace t)
+routine_said : (t : Routines) → BreaksNoRule (routine_by_trace t) → (routine_says t ≡ routine_lines (routine_by_trace t)) × IsListedRoutine (routine_by_trace t)
 routine_said t s =
     let r = routine_by_trace t in
     let h = t.1.1.1.0 in
@@ -235,7 +235,7 @@ code_says t = first_head_line t.0.0 ∷ (flat_map text_lines t.1.0.0 ++ flat_map
 pub spells_code : Spells Codes code_of code_says code
 spells_code = spells_then (spells_one first_written) (λ c. spells_then (spells_made _ (spells_flat text_lines c.0 spells_table)) (λ ts. spells_made _ (spells_times routine_by_trace routine_says c.1 spells_routine)))
 
-routines_said : (ts : List Routines) → EachIs IsSound (map routine_by_trace ts) → (flat_map routine_says ts ≡ flat_map routine_lines (map routine_by_trace ts)) × EachIs IsListedRoutine (map routine_by_trace ts)
+routines_said : (ts : List Routines) → EachIs BreaksNoRule (map routine_by_trace ts) → (flat_map routine_says ts ≡ flat_map routine_lines (map routine_by_trace ts)) × EachIs IsListedRoutine (map routine_by_trace ts)
 routines_said [] s = (refl, tt)
 routines_said (t ∷ ts) s =
     let first = routine_said t s.0 in
@@ -251,7 +251,7 @@ routines_again (r ∷ rs) v =
 
 pub code_said : (t : Codes) → first_fault (code_of t) ≡ None → (code_says t ≡ lines_of (code_of t)) × IsListed (code_of t)
 code_said t e =
-    let routines = routines_said t.1.1.0 (sound_code (code_of t) e) in
+    let routines = routines_said t.1.1.0 (clean_code (code_of t) e) in
     let texts = t.1.0.0 in
     let long : length (tables_of texts) ≡ length texts = length_map (λ (x : TableText). x.table) texts in
     let counts : (length (tables_of texts), length (map routine_by_trace t.1.1.0)) ≡ t.0.0 = ap₂ paired (long ∙ t.1.0.1) (length_map routine_by_trace t.1.1.0 ∙ t.1.1.1) in

@@ -95,8 +95,8 @@ pub command-runs : (file : ResolvedFile) (code : RawCode) → FileStands file co
     → command_result file (meaning file h) (first_line k (command_name file c)) s c ≡ p
 command-runs file code stands well_typed h k s tables enough c d q p g = (command-does file code stands well_typed h s.turns enough k s tables (omega arith) c d p q g).same
 
-pub commands-play : (file : ResolvedFile) (code : RawCode) → FileStands file code → IsWellTyped file → (h k : ℕ) (s : Standing) → AreFilled file.tables s.tables → AreFilled file.tables s.committed → fuel_for file s.turns ≤ h → (cs : List Command) (ds : List ScriptCommand) → CommandsStand file code cs ds
+pub commands-run : (file : ResolvedFile) (code : RawCode) → FileStands file code → IsWellTyped file → (h k : ℕ) (s : Standing) → AreFilled file.tables s.tables → AreFilled file.tables s.committed → fuel_for file s.turns ≤ h → (cs : List Command) (ds : List ScriptCommand) → CommandsStand file code cs ds
     → (pieces : List (List ℕ)) (t : Standing) → Runs code k s ds pieces t → (later : List Command) → commands_from file (meaning file h) k (cs ++ later) s ≡ following pieces (commands_from file (meaning file h) (k + length cs) later t)
-commands-play file code stands well_typed h k s tables committed enough cs ds q pieces t g later =
+commands-run file code stands well_typed h k s tables committed enough cs ds q pieces t g later =
     let kept : IsKept file s.turns s = record { tables = tables; committed = committed; left = omega arith } in
     (leaves file code stands well_typed h s.turns enough k s t cs ds pieces q kept g).same later

@@ -3,8 +3,8 @@ ghost use Rattle.std.specs.Prelude.{IfSome};
 ghost use Rattle.psm_build.specs.Outcome.{CanRun};
 
 use crate::case::Case;
-use crate::play::play;
 use crate::program::{Program, Refusal, prepare};
+use crate::session_run::run_session;
 use anyhow::{Result, bail};
 use psm_build::definitions_of;
 use psm_store::CopyStore;
@@ -40,7 +40,7 @@ fn over_undoing(alloc: Global, case: &Case, program: &Program) -> Result<String>
 {
     let definitions = definitions_of(alloc, &program.code)?;
     let mut store = UndoStore::new(alloc, definitions, program.code.keys.items())?;
-    play(alloc, case, program, &mut store)
+    run_session(alloc, case, program, &mut store)
 }
 
 fn over_copying(alloc: Global, case: &Case, program: &Program) -> Result<String>
@@ -49,5 +49,5 @@ fn over_copying(alloc: Global, case: &Case, program: &Program) -> Result<String>
 {
     let definitions = definitions_of(alloc, &program.code)?;
     let mut store = CopyStore::new(alloc, definitions, program.code.keys.items())?;
-    play(alloc, case, program, &mut store)
+    run_session(alloc, case, program, &mut store)
 }

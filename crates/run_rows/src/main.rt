@@ -16,8 +16,8 @@
 mod answer;
 mod case;
 mod cases;
-mod play;
 mod program;
+mod session_run;
 mod sink;
 
 use anyhow::Result;

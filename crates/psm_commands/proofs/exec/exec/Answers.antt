@@ -4,8 +4,8 @@ use Rattle.psm_commands.proofs.exec.exec.Goals as goal
 pub returns-in-Err : goal.returns-in-Err
 returns-in-Err g c = says_object _ _ _ c.in-Err.refusal _ _ c.in-Err.ensures.gives c.report.ensures
 
-pub play-requires : goal.play-requires
-play-requires g c =
+pub run_session-requires : goal.run_session-requires
+run_session-requires g c =
     let first = c.in-Ok.ensures.gives in
     let second = c.in-Ok-script_over.ensures in
     let numbered = c.objects_have_numbered_handlers.ensures first.bytes c.in-Ok.code first.is in
@@ -21,7 +21,7 @@ returns-in-Ok-script_over g c =
     exec_runs (g.F.Shelf.held c.args.shelf.now) (g.F.Shelf.held c.object_code.new.shelf) (g.F.Shelf.faults c.args.shelf.now) (g.F.Shelf.faults c.object_code.new.shelf) (g.F.Shelf.faults c.script_over.new.shelf) _
     c.in-Ok.code _ _ c.in-Ok.ensures.held first c.in-Ok-script_over.script second has.0 has.1
     (law.ends c.in-Ok.code second.bytes c.args.files.turns has.0 (record { commands = c.in-Ok-script_over.script.commands; script = second.is; session = has.1 }))
-    (c.play.ensures has.0 shown.following shown.runs_as)
+    (c.run_session.ensures has.0 shown.following shown.runs_as)
 
 pub returns : goal.returns
 returns g c =

@@ -13,7 +13,7 @@ use psm_store::Store;
 use std::alloc::{AllocError, Global};
 
 /// What the scripts of a case write, and how they end, over the tables of a store.
-pub fn play<S: Store>(
+pub fn run_session<S: Store>(
     alloc: Global,
     case: &Case,
     program: &Program,

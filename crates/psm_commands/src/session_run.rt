@@ -20,7 +20,7 @@ use std::alloc::{AllocError, Global};
 const MOST_OF_A_TABLE: usize = 256;
 
 /// Runs the script over the code and empty tables, with n turns, and puts the piece of each command.
-pub(crate) fn play<K: Sink>(
+pub(crate) fn run_session<K: Sink>(
     alloc: Global,
     code: &Code,
     script: &ScriptCode,

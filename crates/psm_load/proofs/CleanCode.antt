@@ -19,16 +19,16 @@ abbrev pub HasValues : RawRoutine → Handler → Type 0
 HasValues r h = list_all (is_value_well_formed r) (values_of h) ≡ true
 
 -- each condition that a routine declares or that a handler is for is an SQLSTATE that isn't success, or has a name
-pub record IsSound (r : RawRoutine) : Type 0 where
+pub record BreaksNoRule (r : RawRoutine) : Type 0 where
   pub declared : EachIs (λ d. declared_fault d ≡ None) r.handlers.declared
   pub handlers : EachIs (HasValues r) r.handlers.handlers
 
-sound_declared : (ds : List Declared) → Clean (map declared_fault ds) → EachIs (λ d. declared_fault d ≡ None) ds
-sound_declared [] h = tt
-sound_declared (d ∷ ds) h = (clean_head (declared_fault d) (map declared_fault ds) h, sound_declared ds (clean_tail (declared_fault d) (map declared_fault ds) h))
+clean_declared : (ds : List Declared) → Clean (map declared_fault ds) → EachIs (λ d. declared_fault d ≡ None) ds
+clean_declared [] h = tt
+clean_declared (d ∷ ds) h = (clean_head (declared_fault d) (map declared_fault ds) h, clean_declared ds (clean_tail (declared_fault d) (map declared_fault ds) h))
 
-sound_handler : (r : RawRoutine) (before : List Handler) (h : Handler) → Clean (handler_fault r before h) → HasValues r h
-sound_handler r before h c =
+clean_handler : (r : RawRoutine) (before : List Handler) (h : Handler) → Clean (handler_fault r before h) → HasValues r h
+clean_handler r before h c =
     let there = context_there r h.context && list_all (value_there r) (values_of h) in
     let each = list_all (is_value_well_formed r) (values_of h) in
     let new = are_new (values_in h.context before) (values_of h) in
@@ -37,14 +37,14 @@ sound_handler r before h c =
     (clean_head (first_of (unless there Range ∷ unless (is_there r.lines h.pc) Target ∷ unless action Context ∷ unless (may_undo r h && (each && new)) Definition ∷ [])) [] c) in
     and_first each new (and_second (may_undo r h) (each && new) holds.3)
 
-sound_handlers : (r : RawRoutine) (before hs : List Handler) → Clean (each_after (handler_fault r) before hs) → EachIs (HasValues r) hs
-sound_handlers r before [] c = tt
-sound_handlers r before (h ∷ hs) c =
+clean_handlers : (r : RawRoutine) (before hs : List Handler) → Clean (each_after (handler_fault r) before hs) → EachIs (HasValues r) hs
+clean_handlers r before [] c = tt
+clean_handlers r before (h ∷ hs) c =
     let others = each_after (handler_fault r) (before ++ h ∷ []) hs in
-    (sound_handler r before h (clean_first (handler_fault r before h) others c), sound_handlers r (before ++ h ∷ []) hs (clean_second (handler_fault r before h) others c))
+    (clean_handler r before h (clean_first (handler_fault r before h) others c), clean_handlers r (before ++ h ∷ []) hs (clean_second (handler_fault r before h) others c))
 
-sound_routine : (code : RawCode) (before : List RawRoutine) (r : RawRoutine) → Clean (routine_faults code before r) → IsSound r
-sound_routine code before r h =
+clean_routine : (code : RawCode) (before : List RawRoutine) (r : RawRoutine) → Clean (routine_faults code before r) → BreaksNoRule r
+clean_routine code before r h =
     let t5 = each_after (parameter_fault r) [] r.parameters ++ map type_fault r.variables ++ flat_map (query_faults code r) r.queries ++ map (cursor_fault r) r.cursors ++ flat_map (plan_faults code r) r.plans in
     let t6 = t5 ++ map declared_fault r.handlers.declared in
     let t7 = t6 ++ context_faults r 1 r.handlers.contexts in
@@ -54,18 +54,18 @@ sound_routine code before r h =
     let h7 = clean_first t7 (each_after (handler_fault r) [] r.handlers.handlers) h8 in
     let h6 = clean_first t6 (context_faults r 1 r.handlers.contexts) h7 in
     record {
-      declared = sound_declared r.handlers.declared (clean_second t5 (map declared_fault r.handlers.declared) h6);
-      handlers = sound_handlers r [] r.handlers.handlers (clean_second t7 (each_after (handler_fault r) [] r.handlers.handlers) h8);
+      declared = clean_declared r.handlers.declared (clean_second t5 (map declared_fault r.handlers.declared) h6);
+      handlers = clean_handlers r [] r.handlers.handlers (clean_second t7 (each_after (handler_fault r) [] r.handlers.handlers) h8);
     }
 
-sound_routines : (code : RawCode) (before rs : List RawRoutine) → Clean (each_after (routine_faults code) before rs) → EachIs IsSound rs
-sound_routines code before [] c = tt
-sound_routines code before (r ∷ rs) c =
+clean_routines : (code : RawCode) (before rs : List RawRoutine) → Clean (each_after (routine_faults code) before rs) → EachIs BreaksNoRule rs
+clean_routines code before [] c = tt
+clean_routines code before (r ∷ rs) c =
     let others = each_after (routine_faults code) (before ++ r ∷ []) rs in
-    (sound_routine code before r (clean_first (routine_faults code before r) others c), sound_routines code (before ++ r ∷ []) rs (clean_second (routine_faults code before r) others c))
+    (clean_routine code before r (clean_first (routine_faults code before r) others c), clean_routines code (before ++ r ∷ []) rs (clean_second (routine_faults code before r) others c))
 
-pub sound_code : (code : RawCode) → first_fault code ≡ None → EachIs IsSound code.routines
-sound_code code e =
+pub clean_code : (code : RawCode) → first_fault code ≡ None → EachIs BreaksNoRule code.routines
+clean_code code e =
     let tables = each_after (table_faults code.keys) [] code.tables in
     let routines = each_after (routine_faults code) [] code.routines in
-    sound_routines code [] code.routines (clean_second tables routines (clean_tail (unless (are_in_turn 0 (length code.tables) code.keys) Definition) (tables ++ routines) (clean_of 1 (code_faults code) e)))
+    clean_routines code [] code.routines (clean_second tables routines (clean_tail (unless (are_in_turn 0 (length code.tables) code.keys) Definition) (tables ++ routines) (clean_of 1 (code_faults code) e)))
