@@ -80,7 +80,7 @@ opened ts us m n H K old new marks mark b e more made keeps = record {
         | inr q ↦ absurd (omega (arith, below, q.0, slice_get_within marks k y p))
       ]
       | inr p ↦ elim (get-following marks mark j x g) [
-        | inl q ↦ subst (λ (z : Mark). x.place ≤ z.place) p.1 (made.last x (b.held.held j x q))
+        | inl q ↦ subst (λ (z : Mark). x.position ≤ z.position) p.1 (made.last x (b.held.held j x q))
         | inr q ↦ absurd (omega (arith, below, q.0, p.0))
       ]
     ];

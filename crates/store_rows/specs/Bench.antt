@@ -5,11 +5,11 @@ use Rattle.psm_store.specs.declared.store.Mark.{Mark}
 use Rattle.psm_store.specs.Marks.{defs_of}
 use Rattle.store_rows.specs.Parts.{IsPartsTable}
 
--- each of the marks is held, its depth is its place in the list, and the places of marks don't fall
+-- each of the marks is held, its depth is its index in the list, and the positions of marks don't fall
 pub record AreHeld (holds : Mark → Type 0) (marks : List Mark) : Type 0 where
   pub held : (k : ℕ) (m : Mark) → slice_get marks k ≡ Some m → holds m
   pub deep : (k : ℕ) (m : Mark) → slice_get marks k ≡ Some m → m.depth ≡ k
-  pub rising : (j k : ℕ) (m n : Mark) → j < k → slice_get marks j ≡ Some m → slice_get marks k ≡ Some n → m.place ≤ n.place
+  pub rising : (j k : ℕ) (m n : Mark) → j < k → slice_get marks j ≡ Some m → slice_get marks k ≡ Some n → m.position ≤ n.position
 
 -- two tables, and all the marks that are open
 pub record IsBench (tables : List Contents) (count : ℕ) (holds : Mark → Type 0) (marks : List Mark) : Type 0 where
