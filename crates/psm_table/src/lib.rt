@@ -5,6 +5,7 @@ mod constraints;
 mod cut;
 mod definition;
 mod fault;
+mod hint;
 mod index;
 mod key;
 mod laws;
@@ -24,6 +25,7 @@ pub use constraints::ForeignKeys;
 pub use cut::Cut;
 pub use definition::{Column, ForeignKey, TableDef};
 pub use fault::RowFault;
+pub use hint::Hint;
 pub use key::{Key, Parts};
 pub use laws::{
     cursor_laws, foreign_keys_come_last, legal_rows_add_nothing, order_of_rows,

