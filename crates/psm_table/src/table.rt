@@ -121,6 +121,13 @@ impl Table {
         &self.def
     }
 
+    /// The rows ascend by the key, and fit the definition. It does nothing: a proof reads its clause.
+    pub fn ascends(&self)
+        ensures { IsTable self.now.contents }
+    {
+        let _live = self.live;
+    }
+
     /// The number of rows.
     pub fn len(&self) -> u32
         ensures value { result ≡ length self.now.contents.rows }
