@@ -39,13 +39,14 @@ use Rattle.psm_table.specs.Unique.{is_null}
 use Rattle.psm_table.proofs.Filters.{equal_is, filter-whole, filtered, AllPairs-first, AllPairs-rest}
 use Rattle.psm_table.proofs.Rules.{first_true, second_true}
 use Rattle.psm_table.proofs.Walks.{last-cons}
+use Rattle.psm_tablecode.specs.Beginnings.{firsts_for, rows_beginning}
 use Rattle.psm_tablecode.specs.Codes.{over, set_function, set_of, value_in}
 use Rattle.psm_tablecode.specs.Rows.{values_for}
+use Rattle.psm_tablecode.proofs.Beginnings.{and_assoc, and_true, begins_both, begins_next, if_some, unless_some, walked_beginning}
 use Rattle.psm_tablecode.proofs.Conjunctions.{says}
-use Rattle.psm_query.specs.Ends.{first_like, firsts_of, gathered_from_ends, in_column, is_column_alone, is_of_ends, is_from_ends, rows_beginning, sets_are_from_ends, ends_tally, beginning_for_ends, with_column, with_firsts, IsNext}
+use Rattle.psm_query.specs.Ends.{first_like, gathered_from_ends, in_column, is_column_alone, is_of_ends, is_from_ends, sets_are_from_ends, ends_tally, beginning_for_ends, with_column, with_firsts, IsNext}
 use Rattle.psm_query.specs.declared.ends.Beginning.{Beginning}
 use Rattle.psm_query.specs.Gathered.{nothing, with_rows, Gathered}
-use Rattle.psm_query.proofs.Beginnings.{and_assoc, and_true, begins_both, begins_next, if_some, unless_some, walked_beginning}
 use Rattle.psm_query.proofs.Tallied.{kept, kept-all, tallies, tally}
 use Rattle.psm_query.specs.declared.tally.Tally.{Tally}
 use Rattle.psm_query.specs.declared.tally.Tally.TheVariants as tally_of
@@ -384,7 +385,7 @@ module _ (key : List ℕ) (firsts : List Datum) (c : ℕ) (next : IsNext (length
 -- a query that is answered from the ends
 pub record IsFromEnds (key : List ℕ) (vars : List Datum) (downward : Bool) (test : Option (List Line)) (items : Items) (b : Beginning) : Type 0 where
   pub upward : downward ≡ false
-  pub firsts : firsts_of key vars test ≡ Some b.firsts
+  pub firsts : firsts_for key vars test ≡ Some b.firsts
   pub next : IsNext (length b.firsts) key b.column
   pub sets : sets_are_from_ends (is_none test) b.column items ≡ true
 
@@ -406,8 +407,8 @@ module _ (all : Bool) (key : List ℕ) (items : Items) where
 
 pub is_from_ends_of : (key : List ℕ) (vars : List Datum) (downward : Bool) (test : Option (List Line)) (items : Items) (b : Beginning) → beginning_for_ends key vars downward test items ≡ Some b → IsFromEnds key vars downward test items b
 is_from_ends_of key vars downward test items b e =
-    let k = unless_some downward (with_firsts (is_none test) key items (firsts_of key vars test)) b e in
-    let p = chosen (is_none test) key items b (firsts_of key vars test) k.1 in
+    let k = unless_some downward (with_firsts (is_none test) key items (firsts_for key vars test)) b e in
+    let p = chosen (is_none test) key items b (firsts_for key vars test) k.1 in
     record { upward = k.0; firsts = p.0; next = p.1; sets = p.2 }
 
 -- a set function that is answered from the ends may be answered from them
@@ -434,7 +435,7 @@ of_ends all (a ∷ sets) h c =
     (of_end all c a.function a.operand) (λ e. of_ends all sets e c) h
 
 -- without a test there are no values, so that all rows begin so
-all_of : (key : List ℕ) (vars : List Datum) (test : Option (List Line)) (firsts : List Datum) (rows : List (List Datum)) → firsts_of key vars test ≡ Some firsts → is_none test ≡ true → rows ≡ rows_beginning key firsts rows
+all_of : (key : List ℕ) (vars : List Datum) (test : Option (List Line)) (firsts : List Datum) (rows : List (List Datum)) → firsts_for key vars test ≡ Some firsts → is_none test ≡ true → rows ≡ rows_beginning key firsts rows
 all_of key vars None firsts rows f e = let same : [] ≡ firsts = cc in sym (begin_all key firsts rows (ap length (sym same)))
 all_of key vars (Some lines) firsts rows f e = absurd (cc)
 

@@ -1,6 +1,6 @@
 -- Queries that the ends of a walk and the length of a table answer: COUNT(*) without a test, and MIN and MAX of the column of the key
 -- that comes after those which the test makes equal to values.
-use Rattle.std.specs.Prelude.{◌≡◌, Bool, true, false, ℕ, List, [], ◌∷◌, drop, filter, is_none, length, map, slice_get, slice_index_or, Option, Some, None, option_map, if◌then◌else◌}
+use Rattle.std.specs.Prelude.{◌≡◌, Bool, true, false, ℕ, List, [], ◌∷◌, filter, is_none, length, map, slice_get, slice_index_or, Option, Some, None, option_map, if◌then◌else◌}
 use Rattle.std.specs.List.{list_all}
 use Rattle.std.specs.Option.{option_map_or}
 use Rattle.std.specs.Ordering.{is_eq}
@@ -13,50 +13,13 @@ use Rattle.psm_exprcode.specs.declared.aggregate.SetFunction.TheVariants.{Count,
 use Rattle.psm_exprcode.specs.declared.items.Items.{Items}
 use Rattle.psm_exprcode.specs.declared.items.Items.TheVariants.{Rows, Sets}
 use Rattle.psm_exprcode.specs.declared.op.Line.{Line}
-use Rattle.psm_table.specs.Key.{values_at}
-use Rattle.psm_table.specs.Map.{prefix_order}
 use Rattle.psm_table.specs.Rows.{last_of}
-use Rattle.psm_tablecode.specs.Asked.{filled}
-use Rattle.psm_tablecode.specs.Tests.{first_three, is_and, is_column, made_equal, with_first}
+use Rattle.psm_tablecode.specs.Beginnings.{firsts_for, rows_beginning}
+use Rattle.psm_tablecode.specs.Tests.{is_column}
 use Rattle.psm_query.specs.Gathered.{Gathered}
 use Rattle.psm_query.specs.declared.ends.Beginning.{Beginning}
 use Rattle.psm_query.specs.declared.tally.Tally.{Tally}
 use Rattle.psm_query.specs.declared.tally.Tally.TheVariants as tally_of
-
--- ---- the values to which a test makes the first columns of a key equal
-
--- the value, which isn't null, to which an equality at the beginning of lines makes a column equal
-abbrev pub equal_value : ℕ → List Datum → List Line → Option Datum
-equal_value c vars lines = filled (first_three (made_equal c vars) lines)
-
-abbrev pub is_and_first : List Line → Bool
-is_and_first [] = false
-is_and_first (l ∷ lines) = is_and l.op
-
--- the same of an equality with AND after it
-abbrev pub joined_value : ℕ → List Datum → List Line → Option Datum
-joined_value c vars lines = if is_and_first (drop 3 lines) then equal_value c vars lines else None
-
--- the values of further columns: the lines are an equality with each of the first of these, in order, and AND after each
-abbrev pub more_firsts : List ℕ → List Datum → List Line → Option (List Datum)
-more_firsts [] vars [] = Some []
-more_firsts [] vars (l ∷ lines) = None
-more_firsts (c ∷ columns) vars [] = Some []
-more_firsts (c ∷ columns) vars (l ∷ lines) = with_first (joined_value c vars (l ∷ lines)) (more_firsts columns vars (drop 4 (l ∷ lines)))
-
-abbrev pub firsts_in : List ℕ → List Datum → List Line → Option (List Datum)
-firsts_in [] vars lines = None
-firsts_in (c ∷ columns) vars lines = with_first (equal_value c vars lines) (more_firsts columns vars (drop 3 lines))
-
--- The values, none of them null, to which a test makes the first columns of a key equal, if it asks for nothing else. A test asks so
--- by equalities with the columns in order, joined by AND.
-abbrev pub firsts_of : List ℕ → List Datum → Option (List Line) → Option (List Datum)
-firsts_of columns vars None = Some []
-firsts_of columns vars (Some lines) = firsts_in columns vars lines
-
--- the rows whose key begins with some values
-abbrev pub rows_beginning : List ℕ → List Datum → List (List Datum) → List (List Datum)
-rows_beginning key firsts rows = filter (λ row. is_eq (prefix_order firsts (values_at key row))) rows
 
 -- ---- set functions
 
@@ -102,7 +65,7 @@ with_firsts all key items (Some firsts) = with_column all firsts items (slice_ge
 
 -- what the keys of the rows begin with, and the column after it, if the ends of these rows answer the query
 abbrev pub beginning_for_ends : List ℕ → List Datum → Bool → Option (List Line) → Items → Option Beginning
-beginning_for_ends key vars downward test items = if downward then None else with_firsts (is_none test) key items (firsts_of key vars test)
+beginning_for_ends key vars downward test items = if downward then None else with_firsts (is_none test) key items (firsts_for key vars test)
 
 -- the first row that has the value of a row in a column
 abbrev pub first_like : ℕ → Option (List Datum) → List (List Datum) → Option (List Datum)

@@ -7,13 +7,14 @@ ghost use Rattle.std.specs.Option.{option_copied, option_map_or};
 ghost use Rattle.psm_value.specs.declared.datum.Datum.TheVariants.{Null};
 ghost use Rattle.psm_table.specs.Queries.{in_walk};
 ghost use Rattle.psm_table.specs.Rows.{last_of};
+ghost use Rattle.psm_tablecode.specs.Beginnings.{rows_beginning};
 ghost use Rattle.psm_query.specs.Ends as ends;
-ghost use Rattle.psm_query.specs.Ends.{first_like, in_column, rows_beginning, beginning_tally, IsNext};
+ghost use Rattle.psm_query.specs.Ends.{first_like, in_column, beginning_tally, IsNext};
 
-use crate::firsts::{firsts_of, is_column};
 use crate::tally::Tally;
 use psm_exprcode::{Aggregate, ExprCode, Items, Query, SetFunction};
 use psm_table::{Cut, Key, Row, RowsLeft, Table};
+use psm_tablecode::{firsts_for, is_column};
 use psm_value::Datum;
 use std::alloc::{AllocError, Global};
 
@@ -37,7 +38,7 @@ pub(crate) fn beginning_for_ends(
     if query.downward || !are_of_ends(all, &query.items) {
         return Ok(None);
     }
-    match firsts_of(alloc, key, &query.test, vars)? {
+    match firsts_for(alloc, key, &query.test, vars)? {
         Some(firsts) => Ok(with_column(all, firsts, key, &query.items)),
         None => Ok(None),
     }

@@ -4,7 +4,6 @@
 mod answer;
 mod answering;
 mod ends;
-mod firsts;
 mod gathering;
 mod tally;
 mod total;

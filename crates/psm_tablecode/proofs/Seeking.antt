@@ -93,17 +93,32 @@ module _ (c : ℕ) (vars : List Datum) where
       (λ i. option_or (if nat_eq (free (drop 3 (l ∷ ls))) 0 then value_first (l ∷ ls) i else None) (value_made ls i))
       ∙ value_or (nat_eq (free (drop 3 (l ∷ ls))) 0) (Ends (l ∷ ls)) (made 3 (first_three (of_three Value c vars)) ls)
 
-  pub value_sought : (lines : List Line) (o : Option Found) → option_map seen o ≡ made_for Value c vars lines → option_map (λ (f : Found). f.value.now) o ≡ sought c vars lines
-  value_sought lines o e = seen_value o ∙ ap value_at e ∙ sym (value_made lines) where
-    seen_value : (o : Option Found) → option_map (λ (f : Found). f.value.now) o ≡ value_at (option_map seen o)
-    seen_value None = refl
-    seen_value (Some f) = refl
+  seen_value : (o : Option Found) → option_map (λ (f : Found). f.value.now) o ≡ value_at (option_map seen o)
+  seen_value None = refl
+  seen_value (Some f) = refl
 
-  pub value_some : (lines : List Line) (o : Option Found) (f : Found) → option_map seen o ≡ made_for Value c vars lines → o ≡ Some f → Some f.value.now ≡ sought c vars lines
-  value_some lines o f e i = sym (ap (λ (p : Option Found). option_map (λ (f : Found). f.value.now) p) i) ∙ value_sought lines o e
+  module _ (lines : List Line) (o : Option Found) where
+    -- what is found in all lines
+    module _ (e : option_map seen o ≡ made_for Value c vars lines) where
+      value_sought : option_map (λ (f : Found). f.value.now) o ≡ sought c vars lines
+      value_sought = seen_value o ∙ ap value_at e ∙ sym (value_made lines)
 
-  pub value_none : (lines : List Line) (o : Option Found) → option_map seen o ≡ made_for Value c vars lines → o ≡ None → None ≡ sought c vars lines
-  value_none lines o e i = sym (ap (λ (p : Option Found). option_map (λ (f : Found). f.value.now) p) i) ∙ value_sought lines o e
+      pub value_some : (f : Found) → o ≡ Some f → Some f.value.now ≡ sought c vars lines
+      value_some f i = sym (ap (λ (p : Option Found). option_map (λ (f : Found). f.value.now) p) i) ∙ value_sought
+
+      pub value_none : o ≡ None → None ≡ sought c vars lines
+      value_none i = sym (ap (λ (p : Option Found). option_map (λ (f : Found). f.value.now) p) i) ∙ value_sought
+
+    -- what the first lines make
+    module _ (e : option_map seen o ≡ Ends lines) where
+      first_value : option_map (λ (f : Found). f.value.now) o ≡ first_three (made_equal c vars) lines
+      first_value = seen_value o ∙ ap value_at e ∙ sym (value_first lines)
+
+      pub first_some : (f : Found) → o ≡ Some f → Some f.value.now ≡ first_three (made_equal c vars) lines
+      first_some f i = sym (ap (λ (p : Option Found). option_map (λ (f : Found). f.value.now) p) i) ∙ first_value
+
+      pub first_none : o ≡ None → None ≡ first_three (made_equal c vars) lines
+      first_none i = sym (ap (λ (p : Option Found). option_map (λ (f : Found). f.value.now) p) i) ∙ first_value
 
 -- ---- the values of some columns, one after another
 

@@ -1,12 +1,13 @@
 pub mod Aims
 pub mod Asked
+pub mod Beginnings
 pub mod Bounds
 pub mod Codes
 pub mod Edges
-pub mod RemainingRows
 pub mod Faults
 pub mod Folding
 pub mod NewRows
+pub mod RemainingRows
 pub mod Rows
 pub mod Tests
 pub mod TypeChecks

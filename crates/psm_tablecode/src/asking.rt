@@ -76,7 +76,7 @@ fn over_all(downward: bool) -> Walk
 }
 
 // Whether the lines raise nothing and go on from each to the next.
-fn are_quiet(lines: &RawExpr) -> bool
+pub(crate) fn are_quiet(lines: &RawExpr) -> bool
     ensures { result ≡ asked.are_quiet lines.now }
 {
     for at in 0..lines.len() {
@@ -254,7 +254,7 @@ fn one_filled(
 ) -> Result<Option<Key>, AllocError>
     ensures { IfOk result (λ values. values ≡ each_filled (column ∷ []) vars.now lines.now) }
 {
-    match filled(column, lines, vars) {
+    match filled_sought(column, lines, vars) {
         Some(value) => Ok(Some(Key::of_parts(Parts::One([value.copy(alloc)?])))),
         None => Ok(None),
     }
@@ -271,7 +271,7 @@ fn many_filled(
 {
     let mut values = Vec::new(alloc);
     for column in columns {
-        match filled(*column, lines, vars) {
+        match filled_sought(*column, lines, vars) {
             Some(value) => values.push(value.copy(alloc)?)?,
             None => return Ok(None),
         }
@@ -280,10 +280,16 @@ fn many_filled(
 }
 
 // The first value to which the lines make a column equal, unless it is null.
-fn filled<'a>(column: u32, lines: &'a RawExpr, vars: &'a [Datum]) -> Option<&'a Datum>
+fn filled_sought<'a>(column: u32, lines: &'a RawExpr, vars: &'a [Datum]) -> Option<&'a Datum>
     ensures { option_copied result ≡ filled (asked.sought column vars.now lines.now) }
 {
-    match sought(column, lines, vars) {
+    filled(sought(column, lines, vars))
+}
+
+pub(crate) fn filled(value: Option<&Datum>) -> Option<&Datum>
+    ensures { option_copied result ≡ filled (option_copied value.entry) }
+{
+    match value {
         None | Some(Datum::Null) => None,
         Some(value) => Some(value),
     }
@@ -486,7 +492,7 @@ fn made_at<'a>(
     }
 }
 
-fn three_at<'a>(
+pub(crate) fn three_at<'a>(
     aim: Aim,
     column: u32,
     lines: &'a RawExpr,
@@ -545,7 +551,7 @@ fn free_before(op: &Op, free: u128) -> u128
     }
 }
 
-fn is_and(op: &Op) -> bool
+pub(crate) fn is_and(op: &Op) -> bool
     ensures { result ≡ asked.is_and op.now }
 {
     match op {
@@ -696,7 +702,8 @@ fn is_equality(op: &Op) -> bool
     }
 }
 
-fn is_column(column: u32, op: &Op) -> bool
+/// Whether an operation puts the column of that number.
+pub fn is_column(column: u32, op: &Op) -> bool
     ensures { result ≡ asked.is_column column op.now }
 {
     match op {

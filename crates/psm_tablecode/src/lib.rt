@@ -3,6 +3,7 @@
 #![tactic(auto)]
 
 mod asking;
+mod beginning;
 mod evaluating;
 mod folding;
 mod laws;
@@ -10,6 +11,8 @@ mod raising;
 mod typing;
 mod walking;
 
+pub use asking::is_column;
+pub use beginning::firsts_for;
 pub use evaluating::{meets, taken, truth, value, values};
 pub use laws::{access_between_bounds, access_by_key, access_by_unique, constant_folding};
 pub use psm_cond::DataFault;

@@ -1,6 +1,7 @@
 use Rattle.std.proofs.Common.{◌≡◌, ◌++◌, ◌∷◌, [], ap, sym, ◌∙◌, subst}
 use Rattle.std.specs.Prelude.{reverse, IfOk}
-use Rattle.psm_query.specs.Ends.{in_column, rows_beginning}
+use Rattle.psm_tablecode.specs.Beginnings.{rows_beginning}
+use Rattle.psm_query.specs.Ends.{in_column}
 use Rattle.psm_query.proofs.EndLaws.{at, found_greatest, next_first}
 use Rattle.psm_query.proofs.ends.greatest.Goals as goal
 

@@ -1,6 +1,7 @@
 use Rattle.std.proofs.Common.{◌≡◌, ap, ◌∙◌, subst}
 use Rattle.std.specs.Prelude.{slice_get, IfOk}
-use Rattle.psm_query.specs.Ends.{in_column, rows_beginning}
+use Rattle.psm_tablecode.specs.Beginnings.{rows_beginning}
+use Rattle.psm_query.specs.Ends.{in_column}
 use Rattle.psm_query.proofs.EndLaws.{next_first}
 use Rattle.psm_query.proofs.ends.least.Goals as goal
 

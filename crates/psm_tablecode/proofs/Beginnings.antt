@@ -32,11 +32,13 @@ use Rattle.psm_table.specs.Queries.{is_met, walked}
 use Rattle.psm_table.specs.Unique.{is_null}
 use Rattle.psm_table.proofs.Rules.{first_true, second_true}
 use Rattle.psm_tablecode.specs.Asked.{filled}
+use Rattle.psm_tablecode.specs.Beginnings.{firsts_asked, firsts_for, firsts_in, joined_value, more_firsts, rows_beginning}
 use Rattle.psm_tablecode.specs.Codes.{over, truth_in}
-use Rattle.psm_tablecode.specs.Tests.{fixed, is_and, is_column, is_equality, made_equal, opposite, with_first}
+use Rattle.psm_tablecode.specs.Folding.{folded_test}
+use Rattle.psm_tablecode.specs.Tests.{are_quiet, fixed, is_and, is_column, is_equality, made_equal, opposite, with_first}
 use Rattle.psm_tablecode.proofs.Conjunctions.{run, says}
+use Rattle.psm_tablecode.proofs.FoldLaws.{tests_same}
 use Rattle.psm_tablecode.proofs.Results.{mapped-same}
-use Rattle.psm_query.specs.Ends.{firsts_in, firsts_of, joined_value, more_firsts, rows_beginning}
 
 -- ---- the truth of an equality
 
@@ -139,48 +141,6 @@ module _ (row : List Datum) where
       let e = sym (begins_next v vs c columns) ∙ h in
       (first_true (is_eq (data_order (get_or row c Null) v)) (Begins vs columns) e, second_true (is_eq (data_order (get_or row c Null) v)) (Begins vs columns) e)
 
--- AND is one operation
-and_is : (o : Op) → is_and o ≡ true → o ≡ op.And
-and_is (op.Constant k d) h = absurd (cc)
-and_is (op.Variable i) h = absurd (cc)
-and_is (op.Column i) h = absurd (cc)
-and_is op.Duplicate h = absurd (cc)
-and_is op.Drop h = absurd (cc)
-and_is op.DropBelow h = absurd (cc)
-and_is op.Negate h = absurd (cc)
-and_is op.Add h = absurd (cc)
-and_is op.Subtract h = absurd (cc)
-and_is op.Multiply h = absurd (cc)
-and_is op.Divide h = absurd (cc)
-and_is (op.Rescale s) h = absurd (cc)
-and_is op.Concatenate h = absurd (cc)
-and_is op.CharacterLength h = absurd (cc)
-and_is op.Position h = absurd (cc)
-and_is op.SubstringFrom h = absurd (cc)
-and_is op.SubstringFromFor h = absurd (cc)
-and_is (op.Trim side) h = absurd (cc)
-and_is op.Upper h = absurd (cc)
-and_is op.Lower h = absurd (cc)
-and_is op.Equal h = absurd (cc)
-and_is op.NotEqual h = absurd (cc)
-and_is op.Less h = absurd (cc)
-and_is op.LessOrEqual h = absurd (cc)
-and_is op.Greater h = absurd (cc)
-and_is op.GreaterOrEqual h = absurd (cc)
-and_is op.And h = refl
-and_is op.Or h = absurd (cc)
-and_is op.Not h = absurd (cc)
-and_is op.IsNull h = absurd (cc)
-and_is op.Like h = absurd (cc)
-and_is op.LikeEscape h = absurd (cc)
-and_is op.Between h = absurd (cc)
-and_is (op.In n) h = absurd (cc)
-and_is op.NullIf h = absurd (cc)
-and_is (op.Cast to) h = absurd (cc)
-and_is (op.Jump p) h = absurd (cc)
-and_is (op.JumpUnlessTrue p) h = absurd (cc)
-and_is (op.JumpUnlessNull p) h = absurd (cc)
-
 -- ---- one row
 
 -- a test gives a truth value on a row, and whether it is true
@@ -243,7 +203,7 @@ module _ (row vars : List Datum) where
       let w : Datum = get_or row c Null in
       let here : slice_get row c ≡ Some w = slice_get-get_or row c Null (All-head (λ c. c < length row) c columns there) in
       let one = equality_ran c w k.0 a b e n (l ∷ lines) (Truth t ∷ []) here m.1 m.0 in
-      let went : applied l.op (Truth one.0 ∷ Truth t ∷ []) row vars ≡ Went FallThrough (Truth (both t one.0) ∷ []) = ap (λ (q : Op). applied q (Truth one.0 ∷ Truth t ∷ []) row vars) (and_is l.op j.0) in
+      let went : applied l.op (Truth one.0 ∷ Truth t ∷ []) row vars ≡ Went FallThrough (Truth (both t one.0) ∷ []) = ap (λ (q : Op). applied q (Truth one.0 ∷ Truth t ∷ []) row vars) ((says row vars l.op).joins j.0) in
       let rest = more_ran columns k.1 (suc (suc (suc (suc n)))) lines (both t one.0) (All-tail (λ c. c < length row) c columns there) k.3 in (
         rest.0,
         one.1 ∙ run_step (suc (suc (suc n))) l lines (Truth one.0 ∷ Truth t ∷ []) (Truth (both t one.0) ∷ []) went ∙ rest.1,
@@ -265,10 +225,11 @@ module _ (row vars : List Datum) where
       let rest = more_ran columns k.1 3 lines one.0 (All-tail (λ c. c < length row) c columns there) k.3 in
       (rest.0, one.1 ∙ rest.1, rest.2 ∙ ap (λ x. x && Begins row k.1 columns) one.2 ∙ sym (begins_next row k.0 k.1 c columns) ∙ ap (λ us. Begins row us (c ∷ columns)) k.4)
 
-  test_ran : (columns : List ℕ) (vs : List Datum) (test : Option (List Line)) → AreColumnsOf row columns → firsts_of columns vars test ≡ Some vs → Tested (test_of (over vars) test) row (Begins row vs columns)
+  test_ran : (columns : List ℕ) (vs : List Datum) (test : Option (List Line)) → AreColumnsOf row columns → firsts_asked columns vars test ≡ Some vs → Tested (test_of (over vars) test) row (Begins row vs columns)
   test_ran columns vs None there f = let same : [] ≡ vs = cc in (True, refl, ap (λ us. Begins row us columns) same)
   test_ran columns vs (Some lines) there f =
-      let d = in_ran columns vs lines there f in
+      let k = if_some (are_quiet lines) (firsts_in columns vars lines) vs f in
+      let d = in_ran columns vs lines there k.1 in
       (d.0, ap truth_in d.1, met_certain d.0 ∙ d.2)
 
 -- ---- all rows
@@ -297,8 +258,9 @@ module _ {A : Type 0} (P : List Datum → Bool) (judge always : List Datum → R
 
 -- a walk with such a test takes what a walk over the rows with the beginning takes
 pub walked_beginning : {A : Type 0} (vars : List Datum) (key : List ℕ) (firsts : List Datum) (test : Option (List Line)) (take : List Datum → Result A SqlState) (rows : List (List Datum))
-    → All (λ row. AreColumnsOf row key) rows → firsts_of key vars test ≡ Some firsts
+    → All (λ row. AreColumnsOf row key) rows → firsts_for key vars test ≡ Some firsts
     → walked (test_of (over vars) test) take rows ≡ walked (test_of (over vars) None) take (rows_beginning key firsts rows)
 walked_beginning vars key firsts test take rows there f =
-    walked_where (λ row. is_eq (prefix_order firsts (values_at key row))) (test_of (over vars) test) (test_of (over vars) None) take (λ row. refl) rows
-    (λ k d l. let t = test_ran (get_or rows k d) vars key firsts test (there k d l) f in (t.0, t.1, t.2))
+    ap (λ judge. walked judge take rows) (sym (tests_same vars test))
+    ∙ walked_where (λ row. is_eq (prefix_order firsts (values_at key row))) (test_of (over vars) (folded_test vars test)) (test_of (over vars) None) take (λ row. refl) rows
+    (λ k d l. let t = test_ran (get_or rows k d) vars key firsts (folded_test vars test) (there k d l) f in (t.0, t.1, t.2))

@@ -1,7 +1,7 @@
 use Rattle.std.proofs.Common.{sym, ap, ◌∙◌}
 use Rattle.std.specs.Option.{option_copied}
-use Rattle.psm_query.proofs.FirstLaws.{and_at, or_and}
-use Rattle.psm_query.proofs.firsts.is_and_at.Goals as goal
+use Rattle.psm_tablecode.proofs.FirstLaws.{and_at, or_and}
+use Rattle.psm_tablecode.proofs.beginning.is_and_at.Goals as goal
 
 pub returns-in-Some : goal.returns-in-Some
 returns-in-Some c = c.is_and.ensures ∙ ap or_and (sym (ap option_copied c.in-Some.is) ∙ c.op.ensures.op) ∙ and_at c.args.lines.now c.args.at

@@ -5,10 +5,10 @@ use Rattle.std.proofs.lemmas.List.{append-nil, drop-drop, drop_all}
 use Rattle.psm_value.specs.declared.datum.Datum.{Datum}
 use Rattle.psm_exprcode.specs.declared.op.Line.{Line}
 use Rattle.psm_exprcode.specs.declared.op.Op.{Op}
+use Rattle.psm_tablecode.specs.Beginnings.{equal_value, is_and_first, joined_value, more_firsts}
 use Rattle.psm_tablecode.specs.Tests.{is_and, with_first}
 use Rattle.psm_tablecode.proofs.Collecting.{first_of}
 use Rattle.psm_tablecode.proofs.Windows.{op_at}
-use Rattle.psm_query.specs.Ends.{equal_value, is_and_first, joined_value, more_firsts}
 
 -- ---- one line
 

@@ -1,8 +1,8 @@
 use Rattle.std.proofs.Common.{◌+◌, ◌≤◌, length, arith}
 use Rattle.std.specs.Option.{option_copied}
-use Rattle.psm_query.proofs.FirstLaws.{joined_is, joined_not, joined_short}
-use Rattle.psm_query.proofs.firsts.joined_at.Goals as goal
-use Rattle.psm_query.proofs.firsts.joined_at.Goals.{else-len-at-ge4-via-then-len-at-ge4+else-is_and_at, else-len-at-ge4-via-else-len-at-ge4}
+use Rattle.psm_tablecode.proofs.FirstLaws.{joined_is, joined_not, joined_short}
+use Rattle.psm_tablecode.proofs.beginning.joined_at.Goals as goal
+use Rattle.psm_tablecode.proofs.beginning.joined_at.Goals.{else-len-at-ge4-via-then-len-at-ge4+else-is_and_at, else-len-at-ge4-via-else-len-at-ge4}
 
 pub returns-then-is_and_at-clause-value : goal.returns-then-is_and_at-clause-value
 returns-then-is_and_at-clause-value c =
