@@ -51,11 +51,12 @@ fn advance(
     if position.is_past_last() {
         return Ok(None);
     }
-    let Some(row) = next_met(alloc, table, query, vars, position.reached())? else {
+    let mut hint = position.hint();
+    let Some(row) = next_met(alloc, table, query, vars, position.reached(), &mut hint)? else {
         position.pass_last();
         return Ok(None);
     };
-    position.stand_on(table.key_of(alloc, row)?);
+    position.stand_on(table.key_of(alloc, row)?, hint);
     Ok(Some(items_on(alloc, &query.items, row, vars)?))
 }
 

@@ -4,7 +4,7 @@ ghost use Rattle.std.specs.Option.{option_copied};
 ghost use Rattle.psm_table.specs.Cursors.{before_first as before_first_row, without_row};
 ghost use Rattle.psm_cursor.specs.Current.{key_on};
 
-use psm_table::Key;
+use psm_table::{Hint, Key};
 use std::marker::Model;
 
 /// Whether it stands on a row.
@@ -23,6 +23,8 @@ enum Standing {
 pub(crate) struct CursorPosition {
     reached: Option<Key>,
     standing: Standing,
+    /// Where the row of that key stood when it was found.
+    hint: Hint,
 }
 
 impl Model for CursorPosition {
@@ -42,6 +44,7 @@ impl CursorPosition {
         CursorPosition {
             reached: None,
             standing: Standing::OffRow,
+            hint: Hint::none(),
         }
     }
 
@@ -50,6 +53,11 @@ impl CursorPosition {
         ensures { option_copied result ≡ self.now.bound }
     {
         self.reached.as_ref()
+    }
+
+    /// Where the row of that key stood when it was found. It may be anywhere else by now.
+    pub(crate) fn hint(&self) -> Hint {
+        self.hint
     }
 
     /// The key of the row on which it stands.
@@ -72,12 +80,13 @@ impl CursorPosition {
         }
     }
 
-    /// Moves to the row that has a key.
-    pub(crate) fn stand_on(&mut self, key: Key)
+    /// Moves to the row that has a key, and keeps where it was found.
+    pub(crate) fn stand_on(&mut self, key: Key, hint: Hint)
         ensures { self.new ≡ record { bound = Some key; is_on_row = true; is_past_last = false } }
     {
         self.reached = Some(key);
         self.standing = Standing::OnRow;
+        self.hint = hint;
     }
 
     /// Moves after the last row.

@@ -14,20 +14,22 @@ ghost use Rattle.psm_cursor.specs.Fetching.{Finds};
 ghost use Rattle.psm_cursor.specs.Walking.{high_edge_past, is_past, low_edge_past, walk_past};
 
 use psm_exprcode::Query;
-use psm_table::{Cut, Key, Matching, Row, RowsLeft, Table};
+use psm_table::{Cut, Hint, Key, Matching, Row, RowsLeft, Table};
 use psm_tablecode::{Edge, Unique, Walk, meets, walk_of};
 use psm_value::{Datum, ValueFault};
 use std::alloc::{AllocError, Global};
 
 /// The first row after a key that meets the test of a query, in the order of its walk; without a key, of all rows. Where
 /// the test asks for a key of its own or for values in a UNIQUE list, no other row is looked at; where it asks for bounds, no
-/// row outside them.
+/// row outside them. The hint says where the row of the key stood, and then where the row stands that a walk has found: it
+/// saves a search, and changes nothing else.
 pub(crate) fn next_met<'a>(
     alloc: Global,
     table: &'a Table,
     query: &Query,
     vars: &[Datum],
     key: Option<&Key>,
+    hint: &mut Hint,
 ) -> Result<Option<&'a Row>, ValueFault>
     requires type_checks { TypeChecksTable query.now vars.now table.now.contents.def }
     requires key { ForSome key (λ k. IsKey table.now.contents.def k.now) }
@@ -39,7 +41,7 @@ pub(crate) fn next_met<'a>(
         Some(asked) => met_at_key(alloc, table, query, vars, key, asked),
         None => match &walk.unique {
             Some(unique) => met_by_unique(alloc, table, query, vars, &walk, unique, key),
-            None => met_past(alloc, table, query, vars, &walk, key),
+            None => met_past(alloc, table, query, vars, &walk, key, hint),
         },
     }
 }
@@ -124,7 +126,7 @@ fn met_by_unique<'a>(
     match table.by_unique(unique.list, unique.values.values()) {
         Matching::Nothing => Ok(None),
         Matching::One(row) => met_if_after(alloc, table, query, vars, row, key),
-        Matching::Several => met_past(alloc, table, query, vars, walk, key),
+        Matching::Several => met_past(alloc, table, query, vars, walk, key, &mut Hint::none()),
     }
 }
 
@@ -167,7 +169,8 @@ fn is_row_after(
 }
 
 // The same where the test asks for no key of its own: the first of the rows between the other key and the edges of the walk
-// that meets the test, as no row outside the edges does. It takes two searches, and goes on without a search.
+// that meets the test, as no row outside the edges does. It searches the two edges, the first of them only where the row of the
+// key doesn't stand where the hint says, and goes on without a search.
 fn met_past<'a>(
     alloc: Global,
     table: &'a Table,
@@ -175,6 +178,7 @@ fn met_past<'a>(
     vars: &[Datum],
     walk: &Walk,
     key: Option<&Key>,
+    hint: &mut Hint,
 ) -> Result<Option<&'a Row>, ValueFault>
     requires type_checks { TypeChecksTable query.now vars.now table.now.contents.def }
     requires key { ForSome key (λ k. IsKey table.now.contents.def k.now) }
@@ -184,9 +188,10 @@ fn met_past<'a>(
     ensures fits { IfOk result (λ o. IfSome o (λ row. IsRow table.now.contents.def row.now)) }
 {
     let mut stack = Vec::new(alloc);
-    let mut rows = rows_from(table, walk, key);
+    let mut rows = rows_from(table, walk, key, *hint);
     'rows: while let Some(row) = rows.next() {
         if meets(alloc, &mut stack, &query.test, row.values(), vars)? {
+            *hint = rows.hint();
             return Ok(Some(row));
         }
     }
@@ -195,11 +200,21 @@ fn met_past<'a>(
 
 // The rows of a walk that are past a key.
 #[tactic(auto, using(crate::proofs::Pasts::past_rows))]
-fn rows_from<'a>(table: &'a Table, walk: &Walk, key: Option<&Key>) -> RowsLeft<'a>
+fn rows_from<'a>(
+    table: &'a Table,
+    walk: &Walk,
+    key: Option<&Key>,
+    hint: Hint,
+) -> RowsLeft<'a>
     ensures rows { result ≡ rows_of table.now.contents (walk_past walk.now (option_copied key.entry)) }
     ensures fit { All (IsRow table.now.contents.def) result }
 {
-    table.rows_between(low_past(walk, key), high_past(walk, key), walk.downward)
+    table.rows_between_near(
+        low_past(walk, key),
+        high_past(walk, key),
+        walk.downward,
+        hint,
+    )
 }
 
 // The cut where they begin.
