@@ -200,12 +200,7 @@ fn met_past<'a>(
 
 // The rows of a walk that are past a key.
 #[tactic(auto, using(crate::proofs::Pasts::past_rows))]
-fn rows_from<'a>(
-    table: &'a Table,
-    walk: &Walk,
-    key: Option<&Key>,
-    hint: Hint,
-) -> RowsLeft<'a>
+fn rows_from<'a>(table: &'a Table, walk: &Walk, key: Option<&Key>, hint: Hint) -> RowsLeft<'a>
     ensures rows { result ≡ rows_of table.now.contents (walk_past walk.now (option_copied key.entry)) }
     ensures fit { All (IsRow table.now.contents.def) result }
 {
