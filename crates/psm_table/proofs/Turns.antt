@@ -11,8 +11,10 @@ use Rattle.psm_value.specs.declared.datum.Datum.{Datum}
 use Rattle.psm_table.specs.declared.map.Pair.{Pair}
 use Rattle.psm_table.specs.Key.{key_order}
 use Rattle.psm_table.specs.Map.{AreAscending}
-use Rattle.psm_table.specs.Runs.{begins, joined, IsCut, IsIn, IsRun, IsTurn}
+use Rattle.psm_table.specs.declared.place.Place.{Place}
+use Rattle.psm_table.specs.Runs.{begins, joined, IsCut, IsIn, IsParted, IsPlace, IsRun, IsTurn}
 use Rattle.psm_table.proofs.Filters.{greater_is, AllPairs-first}
+use Rattle.psm_table.proofs.Halves.{parted_drop, parted_take}
 use Rattle.psm_table.proofs.Joined.{across, all-second, ascending-second, drop-past, joined-drop, joined-parts}
 use Rattle.psm_table.proofs.Pairs.{Rises}
 use Rattle.psm_table.proofs.Searches.{less_before_equal, less_before_less}
@@ -22,6 +24,10 @@ module _ {V : Type 0} (t : Pair V → Bool) where
   begins-append : (r rs : List (Pair V)) → 0 < length r → begins t (r ++ rs) ≡ begins t r
   begins-append [] rs l = absurd (omega arith)
   begins-append (p ∷ ps) rs l = refl
+
+  begins_first : (r : List (Pair V)) → 0 < length r → ((d : Pair V) → t (get_or r 0 d) ≡ false) → begins t r ≡ false
+  begins_first [] l f = absurd (omega arith)
+  begins_first (p ∷ ps) l f = f p
 
   -- where the first pair passes, all do
   all_pass : Up t → (xs : List (Pair V)) → AreAscending xs → begins t xs ≡ true → All (λ p. t p ≡ true) xs
@@ -89,6 +95,24 @@ module _ {V : Type 0} (t : Pair V → Bool) where
       left = λ k. subst (λ j. begins t (get_or runs j []) ≡ false) (let same : m ≡ m + 1 - 1 = omega arith in same) e;
       right = h.right;
     }
+
+    -- a place between two pairs of one run, of which the first doesn't pass and the second does
+    pub place_between : Up t → (p : Place) → p.run < length runs → IsParted t (get_or runs p.run []) p.at p.at → 0 < p.at → p.at < length (get_or runs p.run []) → IsPlace t runs p
+    place_between closed p l h some more =
+        let run : List (Pair V) = get_or runs p.run [] in
+        let rest : List (Pair V) = joined (drop (suc p.run) runs) in
+        let after : All (λ x. All (Rises x) rest) run = across run rest (subst AreAscending (joined-drop runs p.run [] l) (rest_up p.run)) in
+        let later : All (λ q. t q ≡ true) rest = λ k d n. closed (get_or run p.at d) (get_or rest k d) (after p.at d more k d n) (h.pass p.at d (omega arith) more) in
+        record {
+          turn = record {
+            inside = l;
+            fail = before_fail closed p.run l (begins_first run (omega (arith, some, more)) (λ d. h.fail 0 d some));
+            pass = rw add-one later;
+          };
+          inside = omega (arith, more);
+          past = parted_drop t run p.at p.at h (omega arith);
+          others = parted_take t run p.at p.at h (omega arith);
+        }
 
 -- the search for a key ends at the run that it belongs to
 module _ {V : Type 0} (key : List Datum) where

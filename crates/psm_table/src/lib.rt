@@ -11,6 +11,7 @@ mod key;
 mod laws;
 mod leading;
 mod map;
+mod place;
 mod probe;
 mod referred;
 mod row;
@@ -35,7 +36,7 @@ pub use laws::{
 pub use psm_list::List;
 pub use psm_text::Name;
 pub use psm_value::{Datum, SqlType, Steps};
-pub use row::Row;
+pub use row::{Row, copied};
 pub use table::Table;
 pub use unique::Matching;
 pub use walk::RowsLeft;

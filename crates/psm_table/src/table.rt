@@ -121,6 +121,13 @@ impl Table {
         &self.def
     }
 
+    /// The rows ascend by the key, and fit the definition. It does nothing: a proof reads its clause.
+    pub fn ascends(&self)
+        ensures { IsTable self.now.contents }
+    {
+        let _live = self.live;
+    }
+
     /// The number of rows.
     pub fn len(&self) -> u32
         ensures value { result ≡ length self.now.contents.rows }
@@ -336,7 +343,7 @@ impl Table {
         ensures rows { result ≡ in_walk downward (rows_between self.now.contents.def.key low.entry high.entry self.now.contents.rows) }
         ensures table { IsTable self.now.contents }
     {
-        RowsLeft::between(&self.rows, low, high, downward)
+        self.rows_between_near(low, high, downward, Hint::none())
     }
 
     /// The same walk. Where it begins just behind the row at which a walk of its direction stood, and the hint is of that one,
@@ -346,12 +353,12 @@ impl Table {
         low: Option<Cut<'_>>,
         high: Option<Cut<'_>>,
         downward: bool,
-        _hint: Hint,
+        hint: Hint,
     ) -> RowsLeft<'_>
         ensures rows { result ≡ in_walk downward (rows_between self.now.contents.def.key low.entry high.entry self.now.contents.rows) }
         ensures table { IsTable self.now.contents }
     {
-        self.rows_between(low, high, downward)
+        RowsLeft::between(&self.rows, low, high, downward, hint)
     }
 
     /// Whether a row with another key agrees with the row in a UNIQUE list in which neither has a null
@@ -420,7 +427,7 @@ impl Table {
             values,
             is_after: true,
         };
-        let mut found = RowsLeft::between(&self.rows, Some(low), Some(high), false);
+        let mut found = RowsLeft::between(&self.rows, Some(low), Some(high), false, Hint::none());
         found.next().is_some()
     }
 
