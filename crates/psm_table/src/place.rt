@@ -19,6 +19,13 @@ pub(crate) struct Place {
     pub at: usize,
 }
 
+impl Place {
+    /// Before all pairs.
+    pub(crate) fn first() -> Place {
+        Place { run: 0, at: 0 }
+    }
+}
+
 /// Where the pairs begin whose keys are past a cut. That costs no search where it is the place that is tried, between
 /// two pairs of one run.
 pub(crate) fn place_of<V: Drop>(runs: &[Run<V>], cut: Cut<'_>, tried: Place) -> Place
@@ -42,10 +49,10 @@ fn is_place<V: Drop>(runs: &[Run<V>], cut: Cut<'_>, place: Place) -> bool
     requires runs { All IsRun runs.now }
     ensures { OnTrue result (IsPlace (λ p. lies_after cut.entry p.key) runs.now place) }
 {
-    match runs.get(place.run) {
-        Some(run) => is_between(run.pairs(), cut, place.at),
-        None => false,
+    if place.run >= runs.len() {
+        return false;
     }
+    is_between(runs[place.run].pairs(), cut, place.at)
 }
 
 /// Whether the pair before an index is there and not past a cut, and that at the index is.

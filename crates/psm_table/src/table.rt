@@ -19,6 +19,7 @@ use crate::hint::Hint;
 use crate::index::{enter, has_rival, settle_entries};
 use crate::key::Key;
 use crate::map::{HasRow, OrderedMap};
+use crate::place::Place;
 use crate::probe::Probe;
 use crate::referred::{begins, has_row_with, list_of};
 use crate::row::Row;
@@ -149,12 +150,12 @@ impl Table {
         if self.live == MOST_ROWS {
             return Err(RowFault::Full);
         }
-        let slot = self.rows.get(Probe::In {
+        let (slot, place) = self.rows.look_up(Probe::In {
             columns: self.def.key.items(),
             row: row.values(),
         });
         match slot {
-            None => self.insert_first(row, steps),
+            None => self.insert_first(row, place, steps),
             Some(held) => {
                 if held.is_some() {
                     return Err(RowFault::Duplicate);
@@ -479,8 +480,13 @@ impl Table {
         Ok(())
     }
 
-    /// Puts a row in whose key has no slot.
-    fn insert_first<L: Ledger>(&mut self, row: Row, steps: &mut Steps<L>) -> Result<(), RowFault>
+    /// Puts a row in whose key has no slot. The key is looked for at a place first.
+    fn insert_first<L: Ledger>(
+        &mut self,
+        row: Row,
+        place: Place,
+        steps: &mut Steps<L>,
+    ) -> Result<(), RowFault>
         requires fits { IsRow self.old.contents.def row }
         requires room { length self.old.contents.rows < most_rows }
         requires absent { has_key self.old.slots (values_at self.old.contents.def.key row) ≡ false }
@@ -498,7 +504,7 @@ impl Table {
             self.lists.as_slice(),
             row.values(),
         )?;
-        self.rows.insert(key, Some(row));
+        self.rows.insert(key, Some(row), place);
         self.live += 1;
         steps.tick();
         Ok(())
