@@ -13,8 +13,9 @@ pub mod Left
 pub mod Map
 pub mod Mapped
 pub mod Matching
-pub mod Parts
+pub mod MatchingEntries
 pub mod PairPosition
+pub mod Parts
 pub mod Queries
 pub mod Rows
 pub mod Runs
@@ -22,5 +23,4 @@ pub mod Side
 pub mod State
 pub mod Stored
 pub mod Table
-pub mod MatchingEntries
 pub mod Unique

@@ -5,11 +5,13 @@ mod constraints;
 mod cut;
 mod definition;
 mod fault;
+mod hint;
 mod index;
 mod key;
 mod laws;
 mod leading;
 mod map;
+mod place;
 mod probe;
 mod referred;
 mod row;
@@ -24,6 +26,7 @@ pub use constraints::ForeignKeys;
 pub use cut::Cut;
 pub use definition::{Column, ForeignKey, TableDef};
 pub use fault::RowFault;
+pub use hint::Hint;
 pub use key::{Key, Parts};
 pub use laws::{
     cursor_laws, foreign_keys_come_last, legal_rows_add_nothing, order_of_rows,
@@ -33,7 +36,7 @@ pub use laws::{
 pub use psm_list::List;
 pub use psm_text::Name;
 pub use psm_value::{Datum, SqlType, Steps};
-pub use row::Row;
+pub use row::{Row, copied};
 pub use table::Table;
 pub use unique::Matching;
 pub use walk::RowsLeft;

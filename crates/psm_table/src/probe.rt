@@ -233,10 +233,7 @@ impl<'a> Probe<'a> {
 pub(crate) fn order_of(a: &Datum, b: &Datum) -> Ordering
     ensures { result ≡ data_order a.now b.now }
 {
-    match (a, b) {
-        (Datum::Num(a), Datum::Num(b)) => order_of_numbers(*a, *b),
-        _ => a.total_cmp(b),
-    }
+    Side::of(a).order(Side::of(b))
 }
 
 /// The order of two numbers. Those of one scale are compared by their digits alone.

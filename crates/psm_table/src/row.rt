@@ -53,7 +53,7 @@ impl Row {
 }
 
 /// The same values in memory of their own.
-pub(crate) fn copied(alloc: Global, values: &[Datum]) -> Result<Vec<Datum>, AllocError>
+pub fn copied(alloc: Global, values: &[Datum]) -> Result<Vec<Datum>, AllocError>
     ensures { IfOk result (λ copy. copy.items ≡ values.now) }
 {
     let mut copy = Vec::with_capacity(alloc, values.len())?;
