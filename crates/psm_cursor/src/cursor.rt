@@ -16,7 +16,7 @@ use psm_cond::DataFault;
 use psm_exprcode::Query;
 use psm_query::rows;
 use psm_store::Store;
-use psm_table::{Key, Row, Table};
+use psm_table::{Key, Row, Table, copied};
 use psm_value::Datum;
 use std::alloc::{AllocError, Global};
 use std::collections::VecDeque;
@@ -185,15 +185,4 @@ impl Cursor {
             State::Plain(position, vars) => fetch(alloc, position, table, query, vars.as_slice()),
         }
     }
-}
-
-// The same values in memory of their own.
-fn copied(alloc: Global, values: &[Datum]) -> Result<Vec<Datum>, AllocError>
-    ensures { IfOk result (λ copy. copy.items ≡ values.now) }
-{
-    let mut copy = Vec::new(alloc);
-    for value in values {
-        copy.push(value.copy(alloc)?)?;
-    }
-    Ok(copy)
 }

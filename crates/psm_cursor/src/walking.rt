@@ -4,7 +4,6 @@ ghost use Rattle.std.specs.Option.{option_copied, option_map, ForSome};
 ghost use Rattle.psm_table.specs.Cursors.{first_met, lies_past, rows_past};
 ghost use Rattle.psm_table.specs.Definition.{HasColumns, IsKey, IsRow};
 ghost use Rattle.psm_table.specs.Evaluator.{test_of};
-ghost use Rattle.psm_table.specs.Table.{IsTable};
 ghost use Rattle.psm_tablecode.specs.Asked.{key_asked, rows_of, walk_for, IsLookUp};
 ghost use Rattle.psm_tablecode.specs.Codes.{over};
 ghost use Rattle.psm_tablecode.specs.Folding.{folded_test};
@@ -62,7 +61,7 @@ fn met_at_key<'a>(
     ensures row { Finds (first_met (test_of (over vars.now) query.now.test) (rows_past table.now.contents.def.key query.now.downward (option_copied key.entry) table.now.contents.rows)) result }
     ensures fits { IfOk result (λ o. IfSome o (λ row. IsRow table.now.contents.def row.now)) }
 {
-    ascends(table);
+    table.ascends();
     if !is_after(query.downward, key, asked) {
         return Ok(None);
     }
@@ -236,11 +235,4 @@ fn high_past<'a>(walk: &'a Walk, key: Option<&'a Key>) -> Option<Cut<'a>>
         }),
         Some(_) | None => walk.high.as_ref().map(Edge::cut),
     }
-}
-
-// The rows of a table ascend by its key.
-fn ascends(table: &Table)
-    ensures { IsTable table.now.contents }
-{
-    let _rows = table.len();
 }

@@ -5,7 +5,6 @@ ghost use Rattle.psm_exprcode.specs.declared.op.Line.{Line};
 ghost use Rattle.psm_table.specs.Changing.{deleted, IsLegal};
 ghost use Rattle.psm_table.specs.Definition.{IsKey};
 ghost use Rattle.psm_table.specs.Keyed.{are_keyed, defs_in, rows_in, IsKeyOf};
-ghost use Rattle.psm_table.specs.Table.{IsTable};
 ghost use Rattle.psm_store.specs.Marks.{AnyMark, Keeps, most_marks};
 ghost use Rattle.psm_tablecode.specs.Codes.{over};
 ghost use Rattle.psm_dml.specs.Ends.{keyed_schema, schema_of, Ends, ErasesByRules};
@@ -16,7 +15,7 @@ use crate::finding::met_keys;
 use psm_cond::DataFault;
 use psm_exprcode::ExprCode;
 use psm_row_changes::erase_keyed;
-use psm_store::{Key, Store, Table};
+use psm_store::{Key, Store};
 use psm_table::ForeignKeys;
 use psm_tablecode::raised;
 use psm_value::Datum;
@@ -83,17 +82,10 @@ pub fn delete_at<S: Store>(
     ensures marks { S.marks store.new ≡ S.marks store.old }
     ensures keeps { Keeps AnyMark (S.holds store.old) (S.at store.old) (S.holds store.new) (S.at store.new) }
 {
-    ascends(store.table(t));
+    store.table(t).ascends();
     if erase_keyed(alloc, store, t, constraints, slice::from_ref(key))? {
         Ok(())
     } else {
         Err(violated(alloc, store.table(t)))
     }
-}
-
-// The rows of a table ascend by its key.
-fn ascends(table: &Table)
-    ensures { IsTable table.now.contents }
-{
-    let _rows = table.len();
 }

@@ -13,7 +13,7 @@ ghost use Rattle.psm_query.specs.Ends.{first_like, in_column, beginning_tally, I
 
 use crate::tally::Tally;
 use psm_exprcode::{Aggregate, ExprCode, Items, Query, SetFunction};
-use psm_table::{Cut, Key, Row, RowsLeft, Table};
+use psm_table::{Cut, Key, Row, RowsLeft, Table, copied};
 use psm_tablecode::{firsts_for, is_column};
 use psm_value::Datum;
 use std::alloc::{AllocError, Global};
@@ -206,16 +206,6 @@ fn with_last(alloc: Global, firsts: &[Datum], value: Datum) -> Result<Vec<Datum>
     let mut values = copied(alloc, firsts)?;
     values.push(value)?;
     Ok(values)
-}
-
-fn copied(alloc: Global, values: &[Datum]) -> Result<Vec<Datum>, AllocError>
-    ensures { IfOk result (λ copy. copy.items ≡ values.now) }
-{
-    let mut copy = Vec::with_capacity(alloc, values.len())?;
-    for value in values {
-        copy.push(value.copy(alloc)?)?;
-    }
-    Ok(copy)
 }
 
 /// A walk over the rows whose key begins with some values.

@@ -12,7 +12,7 @@ ghost use Rattle.psm_tablecode.specs.Tests as asked;
 use crate::folding::folded;
 use crate::walking::{Edge, Unique, Walk};
 use psm_exprcode::{ExprCode, Op, RawExpr};
-use psm_table::{Key, List, Parts, TableDef};
+use psm_table::{Key, List, Parts, TableDef, copied};
 use psm_value::Datum;
 use std::alloc::{AllocError, Global};
 
@@ -379,16 +379,6 @@ fn with_one(alloc: Global, firsts: &[Datum], value: &Datum) -> Result<Vec<Datum>
     let mut values = copied(alloc, firsts)?;
     values.push(value.copy(alloc)?)?;
     Ok(values)
-}
-
-fn copied(alloc: Global, values: &[Datum]) -> Result<Vec<Datum>, AllocError>
-    ensures { IfOk result (λ copy. copy.items ≡ values.now) }
-{
-    let mut copy = Vec::with_capacity(alloc, values.len())?;
-    for value in values {
-        copy.push(value.copy(alloc)?)?;
-    }
-    Ok(copy)
 }
 
 // ---- what predicates make of a column

@@ -71,7 +71,7 @@ pub fn walk_of(
     ensures unique { IfOk result (λ walk. IfSome walk.unique (IsLookUp table.now.contents.def.unique)) }
     ensures table { IsTable table.now.contents }
 {
-    ascends(table);
+    table.ascends();
     walk_asked(alloc, downward, table.def(), test, vars)
 }
 
@@ -93,7 +93,7 @@ impl<'a> Coming<'a> {
         ensures rows { rows_coming result ≡ rows_of table.now.contents walk.now }
         ensures fit { All (IsRow table.now.contents.def) (rows_of table.now.contents walk.now) }
     {
-        ascends(table);
+        table.ascends();
         match &walk.key {
             Some(key) => Coming::One(table.get(key)),
             None => match &walk.unique {
@@ -137,11 +137,4 @@ fn cut_at(edge: &Option<Edge>) -> Option<Cut<'_>>
         Some(edge) => Some(edge.cut()),
         None => None,
     }
-}
-
-// The rows of a table ascend by its key.
-fn ascends(table: &Table)
-    ensures { IsTable table.now.contents }
-{
-    let _rows = table.len();
 }
