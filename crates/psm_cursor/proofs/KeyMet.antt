@@ -18,11 +18,13 @@ use Rattle.psm_table.specs.Rows.{row_with, IsAscending}
 use Rattle.psm_table.specs.Table.{keyed, Contents}
 use Rattle.psm_table.proofs.Filters.{equal_is, find_passes}
 use Rattle.psm_table.proofs.KeyLaws.{key_order-total}
-use Rattle.psm_tablecode.specs.Asked.{key_asked}
+use Rattle.psm_tablecode.specs.Asked.{key_asked, path_asked}
+use Rattle.psm_tablecode.specs.declared.walking.Path.TheVariants as path
 use Rattle.psm_tablecode.specs.Codes.{over}
 use Rattle.psm_tablecode.specs.Folding.{folded_test}
 use Rattle.psm_tablecode.proofs.FoldLaws.{tests_same}
 use Rattle.psm_tablecode.proofs.KeyWalks.{walked-key}
+use Rattle.psm_tablecode.proofs.Paths.{path_key}
 use Rattle.psm_tablecode.proofs.Results.{mapped-same}
 use Rattle.psm_tablecode.proofs.Sought.{asked_only, asked_quiet}
 use Rattle.psm_value.specs.declared.fault.ValueFault.{ValueFault}
@@ -147,7 +149,7 @@ pub met_by_key : (t : Contents) (vars : List Datum) (test : Option (List Line)) 
 met_by_key t vars test downward bound key up e = subst (FindsByKey t downward bound key) (tests_same vars test) (met_by_asked t vars (folded_test vars test) downward bound key up e)
 
 module _ (t : Contents) (vars : List Datum) (test : Option (List Line)) (downward : Bool) (bound : Option (List Datum)) (key : List Datum)
-    (up : IsAscending t.def.key t.rows) (asked : key_asked t.def.key vars (folded_test vars test) ≡ Some key) where
+    (up : IsAscending t.def.key t.rows) (asked : path_asked t.def vars (folded_test vars test) ≡ path.Key key) where
   abbrev expected : Result (Option (List Datum)) SqlState
   expected = first_met (test_of (over vars) test) (rows_past t.def.key downward bound t.rows)
 
@@ -155,7 +157,7 @@ module _ (t : Contents) (vars : List Datum) (test : Option (List Line)) (downwar
   expected_at b o = if b then first_met (test_of (over vars) test) (cons_option o []) else Ok None
 
   is_due : (b : Bool) (o : Option (List Datum)) → b ≡ is_past downward bound key → o ≡ keyed t key → expected ≡ expected_at b o
-  is_due b o e f = met_by_key t vars test downward bound key up asked ∙ sym (ap (expected_at b) f ∙ ap (λ c. expected_at c (keyed t key)) e)
+  is_due b o e f = met_by_key t vars test downward bound key up (path_key t.def vars (folded_test vars test) key asked) ∙ sym (ap (expected_at b) f ∙ ap (λ c. expected_at c (keyed t key)) e)
 
   pub expected_not_after : false ≡ is_past downward bound key → expected ≡ Ok None
   expected_not_after e = is_due false (keyed t key) e refl

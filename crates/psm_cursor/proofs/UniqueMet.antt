@@ -15,12 +15,12 @@ use Rattle.psm_table.specs.Queries.{in_walk, is_met}
 use Rattle.psm_table.specs.Table.{Contents, IsTable}
 use Rattle.psm_table.specs.Unique.{equal_values}
 use Rattle.psm_tablecode.specs.declared.walking.Unique.{Unique}
-use Rattle.psm_tablecode.specs.declared.walking.Walk.{Walk}
-use Rattle.psm_tablecode.specs.Asked.{columns_in, key_asked, unique_asked, walk_by, walk_for}
-use Rattle.psm_tablecode.specs.Bounds.{bounds_asked, Bounds}
+use Rattle.psm_tablecode.specs.declared.walking.Path.TheVariants as path
+use Rattle.psm_tablecode.specs.Asked.{columns_in, path_asked, unique_asked}
 use Rattle.psm_tablecode.specs.Codes.{over}
 use Rattle.psm_tablecode.specs.Folding.{folded_test}
 use Rattle.psm_tablecode.proofs.FoldLaws.{tests_same}
+use Rattle.psm_tablecode.proofs.Paths.{path_unique}
 use Rattle.psm_tablecode.proofs.UniqueWalks.{unique_only, unique_quiet}
 use Rattle.psm_cursor.specs.Fetching.{Finds}
 use Rattle.psm_cursor.specs.Walking.{is_past}
@@ -65,11 +65,6 @@ lies_by_own t downward None row = refl
 lies_by_own t true (Some b) row = refl
 lies_by_own t false (Some b) row = refl
 
--- the look-up of a walk is the one for which the test asks
-asked_by : (downward : Bool) (o : Option (List Datum)) (u : Option Unique) (b : Option Bounds) (walk : Walk) (unique : Unique) → walk ≡ walk_by downward o u b → walk.key ≡ None → walk.unique ≡ Some unique → u ≡ Some unique
-asked_by downward None u b walk unique w k e = sym (ap (λ (x : Walk). x.unique) w) ∙ e
-asked_by downward (Some key) u b walk unique w k e = let none : Some key ≡ None = sym (ap (λ (x : Walk). x.key) w) ∙ k in absurd cc
-
 module _ (t : Contents) (vars : List Datum) (test : Option (List Line)) (downward : Bool) (bound : Option (List Datum)) (unique : Unique) where
   abbrev columns : List ℕ
   columns = columns_in t.def.unique unique.list
@@ -96,11 +91,9 @@ module _ (t : Contents) (vars : List Datum) (test : Option (List Line)) (downwar
   abbrev past : List (List Datum) → List (List Datum)
   past rows = filter (lies_past t.def.key downward bound) (in_walk downward rows)
 
-  module _ (walk : Walk) (w : walk ≡ walk_for t downward vars test) (k : walk.key ≡ None) (u : walk.unique ≡ Some unique) where
+  module _ (p : path_asked t.def vars (folded_test vars test) ≡ path.Unique unique) where
     asked : unique_asked t.def.unique vars (folded_test vars test) ≡ Some unique
-    asked =
-        let lines : Option (List Line) = folded_test vars test in
-        asked_by downward (key_asked t.def.key vars lines) (unique_asked t.def.unique vars lines) (bounds_asked t.def.key vars lines) walk unique w k u
+    asked = path_unique t.def vars (folded_test vars test) unique p
 
     met_there : first_met (test_of (over vars) test) (past found) ≡ expected
     met_there = subst (λ (f : Test). first_met f (past found) ≡ first_met f (rows_past t.def.key downward bound t.rows)) (tests_same vars test) (met_with (folded_test vars test) asked)

@@ -1,5 +1,5 @@
 -- FETCH finds between a key and the edge of a walk what it finds among all rows past the key.
-use Rattle.std.proofs.Common.{◌≡◌, ℕ, Bool, true, false, ◌&&◌, List, [], ◌∷◌, length, arith, refl, ap, sym, subst, ◌∙◌, Option, Some, None, Result, Ok}
+use Rattle.std.proofs.Common.{◌≡◌, inl, inr, ℕ, Bool, true, false, ◌&&◌, List, [], ◌∷◌, length, arith, refl, ap, sym, subst, ◌∙◌, Option, Some, None, Result, Ok}
 use Rattle.std.specs.Prelude.{IfSome, cond, filter, not, if◌then◌else◌}
 use Rattle.std.specs.Ordering.{is_gt, is_lt, ordering_reverse}
 use Rattle.std.specs.declared.cmp.Ordering.{Ordering}
@@ -20,20 +20,21 @@ use Rattle.psm_table.specs.Queries.{in_walk, is_met}
 use Rattle.psm_table.specs.Table.{Contents}
 use Rattle.psm_table.proofs.KeyLaws.{key_order-total}
 use Rattle.psm_table.proofs.RowOrders.{length-values_at}
-use Rattle.psm_tablecode.specs.Asked.{key_asked, rows_of, unique_asked, walk_asked, walk_by, walk_for}
+use Rattle.psm_tablecode.specs.Asked.{between, each_sought, over_all, path_asked, path_by, path_in, rows_on, unique_in}
 use Rattle.psm_tablecode.specs.Bounds.{bounds_asked, bounds_of, is_between, Bounds}
 use Rattle.psm_tablecode.specs.Codes.{over}
 use Rattle.psm_tablecode.specs.Edges.{is_begun, is_not_ended, lies_within}
 use Rattle.psm_tablecode.specs.Folding.{folded_test}
 use Rattle.psm_tablecode.specs.Tests.{are_quiet}
 use Rattle.psm_tablecode.specs.declared.walking.Edge.{Edge}
+use Rattle.psm_tablecode.specs.declared.walking.Path.{Path}
+use Rattle.psm_tablecode.specs.declared.walking.Path.TheVariants as path
 use Rattle.psm_tablecode.specs.declared.walking.Unique.{Unique}
-use Rattle.psm_tablecode.specs.declared.walking.Walk.{Walk}
 use Rattle.psm_tablecode.proofs.EdgeLaws.{bounds_reach, lies_between}
 use Rattle.psm_tablecode.proofs.FoldLaws.{tests_same}
 use Rattle.psm_tablecode.proofs.Ranges.{bounds_only, bounds_quiet}
 use Rattle.psm_tablecode.proofs.Stepped.{filter-reverse}
-use Rattle.psm_cursor.specs.Walking.{high_edge_past, low_edge_past, walk_past}
+use Rattle.psm_cursor.specs.Walking.{high_edge_past, low_edge_past, path_past, AreEdges}
 use Rattle.psm_cursor.proofs.Meeting.{passed}
 
 abbrev pub Test : Type 0
@@ -70,31 +71,35 @@ module _ (t : Contents) (vars : List Datum) (row : List Datum) where
   abbrev its_key : List Datum
   its_key = values_at t.def.key row
 
-  abbrev Within : Walk → Bool
-  Within walk = lies_within walk.low walk.high its_key
+  abbrev Outside : Path → Type 0
+  Outside (path.Key key) = ⊥
+  Outside (path.Unique unique) = ⊥
+  Outside (path.Between low high) = lies_within low high its_key ≡ false
 
-  outside_bounds : (downward : Bool) (lines : List Line) (b : Bool) → are_quiet lines ≡ b → Within (walk_by downward None None (if b then Some (bounds_of t.def.key vars lines) else None)) ≡ false
-      → mapped is_met (test_of (over vars) (Some lines) row) ≡ Ok false
-  outside_bounds downward lines false e f = cc
-  outside_bounds downward lines true e f =
+  outside_bounds : (lines : List Line) → are_quiet lines ≡ true → Outside (between (bounds_of t.def.key vars lines)) → mapped is_met (test_of (over vars) (Some lines) row) ≡ Ok false
+  outside_bounds lines q f =
       let bounds : Bounds = bounds_of t.def.key vars lines in
-      let asks : bounds_asked t.def.key vars (Some lines) ≡ Some bounds = ap (λ (b : Bool). if b then Some (bounds_of t.def.key vars lines) else None) e in
+      let asks : bounds_asked t.def.key vars (Some lines) ≡ Some bounds = ap (λ (b : Bool). if b then Some (bounds_of t.def.key vars lines) else None) q in
       let out : is_between t.def.key bounds row ≡ false = sym (lies_between bounds.firsts bounds.low bounds.high its_key (bounds_reach t.def.key vars row lines)) ∙ f in
       let quiet = bounds_quiet vars t.def.key lines bounds asks row in
       unmet_by (test_of (over vars) (Some lines)) row (is_between t.def.key bounds row) quiet.0 quiet.1 (bounds_only vars t.def.key lines bounds asks row) out
 
-  outside_of : (walk : Walk) (downward : Bool) (lines : List Line) (o : Option (List Datum)) (u : Option Unique) → walk ≡ walk_by downward o u (bounds_asked t.def.key vars (Some lines)) → walk.key ≡ None → Within walk ≡ false
-      → mapped is_met (test_of (over vars) (Some lines) row) ≡ Ok false
-  outside_of walk downward lines None None w k e = outside_bounds downward lines (are_quiet lines) refl (sym (ap (λ (x : Walk). Within x) w) ∙ e)
-  outside_of walk downward lines None (Some unique) w k e = let all : true ≡ false = sym (ap (λ (x : Walk). Within x) w) ∙ e in cc
-  outside_of walk downward lines (Some asked) u w k e = let none : Some asked ≡ None = sym (ap (λ (x : Walk). x.key) w) ∙ k in cc
+  outside_by : (lines : List Line) (key : Option (List Datum)) (unique : Option Unique) → are_quiet lines ≡ true → Outside (path_by key unique (bounds_of t.def.key vars lines)) → mapped is_met (test_of (over vars) (Some lines) row) ≡ Ok false
+  outside_by lines (Some key) unique q f = absurd f
+  outside_by lines None (Some unique) q f = absurd f
+  outside_by lines None None q f = outside_bounds lines q f
 
-  outside_asked : (walk : Walk) (downward : Bool) (test : Option (List Line)) → walk ≡ walk_asked t.def downward vars test → walk.key ≡ None → Within walk ≡ false → mapped is_met (test_of (over vars) test row) ≡ Ok false
-  outside_asked walk downward None w k e = let all : true ≡ false = sym (ap (λ (x : Walk). Within x) w) ∙ e in cc
-  outside_asked walk downward (Some lines) w k e = outside_of walk downward lines (key_asked t.def.key vars (Some lines)) (unique_asked t.def.unique vars (Some lines)) w k e
+  outside_if : (lines : List Line) (b : Bool) → are_quiet lines ≡ b → Outside (if b then path_in t.def vars lines else over_all) → mapped is_met (test_of (over vars) (Some lines) row) ≡ Ok false
+  outside_if lines true q f = outside_by lines (each_sought t.def.key vars lines) (unique_in t.def.unique vars lines) q f
+  outside_if lines false q f = absurd (cc)
 
-  outside : (walk : Walk) (downward : Bool) (test : Option (List Line)) → walk ≡ walk_for t downward vars test → walk.key ≡ None → Within walk ≡ false → mapped is_met (test_of (over vars) test row) ≡ Ok false
-  outside walk downward test w k e = subst (λ (f : Test). mapped is_met (f row) ≡ Ok false) (tests_same vars test) (outside_asked walk downward (folded_test vars test) w k e)
+  outside_asked : (test : Option (List Line)) → Outside (path_asked t.def vars test) → mapped is_met (test_of (over vars) test row) ≡ Ok false
+  outside_asked None f = absurd (cc)
+  outside_asked (Some lines) f = outside_if lines (are_quiet lines) refl f
+
+  outside : (test : Option (List Line)) (low high : Option Edge) → AreEdges t.def vars test low high → lies_within low high its_key ≡ false → mapped is_met (test_of (over vars) test row) ≡ Ok false
+  outside test low high (inl e) f = subst (λ (g : Test). mapped is_met (g row) ≡ Ok false) (tests_same vars test) (outside_asked (folded_test vars test) (subst Outside (sym e) f))
+  outside test low high (inr e) f = let all : true ≡ false = (λ i. lies_within (sym e.0 i) (sym e.1 i) its_key) ∙ f in absurd (cc)
 
 -- ---- the cut at a key
 
@@ -168,12 +173,10 @@ module _ (columns : List ℕ) (low high : Option Edge) (row : List Datum) where
 -- ---- FETCH
 
 -- the first row that meets the test is found in the walk from the key on
-pub met_past : (t : Contents) (vars : List Datum) (test : Option (List Line)) (downward : Bool) (walk : Walk) (bound : Option (List Datum)) → walk ≡ walk_for t downward vars test → walk.key ≡ None → IfSome bound (IsKey t.def)
-    → first_met (test_of (over vars) test) (rows_of t (walk_past walk bound)) ≡ first_met (test_of (over vars) test) (rows_past t.def.key downward bound t.rows)
-met_past t vars test downward walk bound w k h =
-    let same : walk.downward ≡ downward = ap (λ (x : Walk). x.downward) w in
-    ap (first_met (test_of (over vars) test)) (filter-walk (λ row. Past t.def.key walk.low walk.high row walk.downward bound) walk.downward t.rows)
-    ∙ met-kept (test_of (over vars) test) (lies_past t.def.key walk.downward bound) (λ row. Past t.def.key walk.low walk.high row walk.downward bound)
-    (λ row e. is_past t.def.key walk.low walk.high row walk.downward bound h e)
-    (λ row p e. outside t vars row walk downward test w k (is_outside t.def.key walk.low walk.high row walk.downward bound h p e)) (in_walk walk.downward t.rows)
-    ∙ ap (λ (d : Bool). first_met (test_of (over vars) test) (rows_past t.def.key d bound t.rows)) same
+pub met_past : (t : Contents) (vars : List Datum) (test : Option (List Line)) (downward : Bool) (low high : Option Edge) (bound : Option (List Datum)) → AreEdges t.def vars test low high → IfSome bound (IsKey t.def)
+    → first_met (test_of (over vars) test) (rows_on t downward (path_past downward low high bound)) ≡ first_met (test_of (over vars) test) (rows_past t.def.key downward bound t.rows)
+met_past t vars test downward low high bound a h =
+    ap (first_met (test_of (over vars) test)) (filter-walk (λ row. Past t.def.key low high row downward bound) downward t.rows)
+    ∙ met-kept (test_of (over vars) test) (lies_past t.def.key downward bound) (λ row. Past t.def.key low high row downward bound)
+    (λ row e. is_past t.def.key low high row downward bound h e)
+    (λ row p e. outside t vars row test low high a (is_outside t.def.key low high row downward bound h p e)) (in_walk downward t.rows)

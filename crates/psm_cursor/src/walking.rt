@@ -5,17 +5,18 @@ ghost use Rattle.psm_table.specs.Cursors.{first_met, lies_past, rows_past};
 ghost use Rattle.psm_table.specs.Definition.{HasColumns, IsKey, IsRow};
 ghost use Rattle.psm_table.specs.Evaluator.{test_of};
 ghost use Rattle.psm_table.specs.Table.{IsTable};
-ghost use Rattle.psm_tablecode.specs.Asked.{key_asked, rows_of, walk_for, IsLookUp};
+ghost use Rattle.psm_tablecode.specs.Asked.{path_asked, rows_on, IsLookUp};
+ghost use Rattle.psm_tablecode.specs.declared.walking.Path.TheVariants as path;
 ghost use Rattle.psm_tablecode.specs.Codes.{over};
 ghost use Rattle.psm_tablecode.specs.Folding.{folded_test};
 ghost use Rattle.psm_tablecode.specs.RemainingRows.{cut_edge};
 ghost use Rattle.psm_tablecode.specs.TypeChecks.{Runs, TypeChecksTable};
 ghost use Rattle.psm_cursor.specs.Fetching.{Finds};
-ghost use Rattle.psm_cursor.specs.Walking.{high_edge_past, is_past, low_edge_past, walk_past};
+ghost use Rattle.psm_cursor.specs.Walking.{high_edge_past, is_past, low_edge_past, path_past, AreEdges};
 
 use psm_exprcode::Query;
 use psm_table::{Cut, Hint, Key, Matching, Row, RowsLeft, Table};
-use psm_tablecode::{Edge, Unique, Walk, meets, walk_of};
+use psm_tablecode::{Edge, Path, Unique, meets, walk_of};
 use psm_value::{Datum, ValueFault};
 use std::alloc::{AllocError, Global};
 
@@ -37,12 +38,10 @@ pub(crate) fn next_met<'a>(
     ensures fits { IfOk result (λ o. IfSome o (λ row. IsRow table.now.contents.def row.now)) }
 {
     let walk = walk_of(alloc, table, query.downward, query.test.as_ref(), vars)?;
-    match &walk.key {
-        Some(asked) => met_at_key(alloc, table, query, vars, key, asked),
-        None => match &walk.unique {
-            Some(unique) => met_by_unique(alloc, table, query, vars, &walk, unique, key),
-            None => met_past(alloc, table, query, vars, &walk, key, hint),
-        },
+    match &walk.path {
+        Path::Key(asked) => met_at_key(alloc, table, query, vars, key, asked),
+        Path::Unique(unique) => met_by_unique(alloc, table, query, vars, unique, key),
+        Path::Between(low, high) => met_past(alloc, table, query, vars, low, high, key, hint),
     }
 }
 
@@ -57,7 +56,7 @@ fn met_at_key<'a>(
     asked: &Key,
 ) -> Result<Option<&'a Row>, ValueFault>
     requires type_checks { TypeChecksTable query.now vars.now table.now.contents.def }
-    requires asked { key_asked table.now.contents.def.key vars.now (folded_test vars.now query.now.test) ≡ Some asked.now }
+    requires asked { path_asked table.now.contents.def vars.now (folded_test vars.now query.now.test) ≡ path.Key asked.now }
     requires fits { IsKey table.now.contents.def asked.now }
     ensures row { Finds (first_met (test_of (over vars.now) query.now.test) (rows_past table.now.contents.def.key query.now.downward (option_copied key.entry) table.now.contents.rows)) result }
     ensures fits { IfOk result (λ o. IfSome o (λ row. IsRow table.now.contents.def row.now)) }
@@ -110,15 +109,12 @@ fn met_by_unique<'a>(
     table: &'a Table,
     query: &Query,
     vars: &[Datum],
-    walk: &Walk,
     unique: &Unique,
     key: Option<&Key>,
 ) -> Result<Option<&'a Row>, ValueFault>
     requires type_checks { TypeChecksTable query.now vars.now table.now.contents.def }
     requires key { ForSome key (λ k. IsKey table.now.contents.def k.now) }
-    requires walk { walk.now ≡ walk_for table.now.contents query.now.downward vars.now query.now.test }
-    requires edges { walk.now.key ≡ None }
-    requires unique { walk.now.unique ≡ Some unique.now }
+    requires asked { path_asked table.now.contents.def vars.now (folded_test vars.now query.now.test) ≡ path.Unique unique.now }
     requires looks_up { IsLookUp table.now.contents.def.unique unique.now }
     ensures row { Finds (first_met (test_of (over vars.now) query.now.test) (rows_past table.now.contents.def.key query.now.downward (option_copied key.entry) table.now.contents.rows)) result }
     ensures fits { IfOk result (λ o. IfSome o (λ row. IsRow table.now.contents.def row.now)) }
@@ -126,7 +122,9 @@ fn met_by_unique<'a>(
     match table.by_unique(unique.list, unique.values.values()) {
         Matching::Nothing => Ok(None),
         Matching::One(row) => met_if_after(alloc, table, query, vars, row, key),
-        Matching::Several => met_past(alloc, table, query, vars, walk, key, &mut Hint::none()),
+        Matching::Several => {
+            met_past(alloc, table, query, vars, &None, &None, key, &mut Hint::none())
+        }
     }
 }
 
@@ -168,7 +166,7 @@ fn is_row_after(
     }
 }
 
-// The same where the test asks for no key of its own: the first of the rows between the other key and the edges of the walk
+// The same where the test asks for no row of its own: the first of the rows between the other key and the edges of the walk
 // that meets the test, as no row outside the edges does. It searches the two edges, the first of them only where the row of the
 // key doesn't stand where the hint says, and goes on without a search.
 fn met_past<'a>(
@@ -176,19 +174,19 @@ fn met_past<'a>(
     table: &'a Table,
     query: &Query,
     vars: &[Datum],
-    walk: &Walk,
+    low: &Option<Edge>,
+    high: &Option<Edge>,
     key: Option<&Key>,
     hint: &mut Hint,
 ) -> Result<Option<&'a Row>, ValueFault>
     requires type_checks { TypeChecksTable query.now vars.now table.now.contents.def }
     requires key { ForSome key (λ k. IsKey table.now.contents.def k.now) }
-    requires walk { walk.now ≡ walk_for table.now.contents query.now.downward vars.now query.now.test }
-    requires edges { walk.now.key ≡ None }
+    requires edges { AreEdges table.now.contents.def vars.now query.now.test low.now high.now }
     ensures row { Finds (first_met (test_of (over vars.now) query.now.test) (rows_past table.now.contents.def.key query.now.downward (option_copied key.entry) table.now.contents.rows)) result }
     ensures fits { IfOk result (λ o. IfSome o (λ row. IsRow table.now.contents.def row.now)) }
 {
     let mut stack = Vec::new(alloc);
-    let mut rows = rows_from(table, walk, key, *hint);
+    let mut rows = rows_from(table, query.downward, low, high, key, *hint);
     'rows: while let Some(row) = rows.next() {
         if meets(alloc, &mut stack, &query.test, row.values(), vars)? {
             *hint = rows.hint();
@@ -198,48 +196,50 @@ fn met_past<'a>(
     Ok(None)
 }
 
-// The rows of a walk that are past a key.
+// The rows between edges that are past a key.
 #[tactic(auto, using(crate::proofs::Pasts::past_rows))]
 fn rows_from<'a>(
     table: &'a Table,
-    walk: &Walk,
+    downward: bool,
+    low: &Option<Edge>,
+    high: &Option<Edge>,
     key: Option<&Key>,
     hint: Hint,
 ) -> RowsLeft<'a>
-    ensures rows { result ≡ rows_of table.now.contents (walk_past walk.now (option_copied key.entry)) }
+    ensures rows { result ≡ rows_on table.now.contents downward (path_past downward low.now high.now (option_copied key.entry)) }
     ensures fit { All (IsRow table.now.contents.def) result }
 {
     table.rows_between_near(
-        low_past(walk, key),
-        high_past(walk, key),
-        walk.downward,
+        low_past(downward, low, key),
+        high_past(downward, high, key),
+        downward,
         hint,
     )
 }
 
 // The cut where they begin.
-fn low_past<'a>(walk: &'a Walk, key: Option<&'a Key>) -> Option<Cut<'a>>
-    ensures { option_map cut_edge result ≡ low_edge_past walk.now.downward walk.now.low (option_copied key.entry) }
+fn low_past<'a>(downward: bool, low: &'a Option<Edge>, key: Option<&'a Key>) -> Option<Cut<'a>>
+    ensures { option_map cut_edge result ≡ low_edge_past downward low.now (option_copied key.entry) }
 {
     match key {
-        Some(key) if !walk.downward => Some(Cut {
+        Some(key) if !downward => Some(Cut {
             values: key.values(),
             is_after: true,
         }),
-        Some(_) | None => walk.low.as_ref().map(Edge::cut),
+        Some(_) | None => low.as_ref().map(Edge::cut),
     }
 }
 
 // The cut where they end.
-fn high_past<'a>(walk: &'a Walk, key: Option<&'a Key>) -> Option<Cut<'a>>
-    ensures { option_map cut_edge result ≡ high_edge_past walk.now.downward walk.now.high (option_copied key.entry) }
+fn high_past<'a>(downward: bool, high: &'a Option<Edge>, key: Option<&'a Key>) -> Option<Cut<'a>>
+    ensures { option_map cut_edge result ≡ high_edge_past downward high.now (option_copied key.entry) }
 {
     match key {
-        Some(key) if walk.downward => Some(Cut {
+        Some(key) if downward => Some(Cut {
             values: key.values(),
             is_after: false,
         }),
-        Some(_) | None => walk.high.as_ref().map(Edge::cut),
+        Some(_) | None => high.as_ref().map(Edge::cut),
     }
 }
 

@@ -20,17 +20,19 @@ use Rattle.psm_table.specs.Table.{Contents}
 use Rattle.psm_table.specs.Unique.{equal_values}
 use Rattle.psm_table.proofs.Filters.{AllPairs-rest, filter-empty}
 use Rattle.psm_table.proofs.Undo.{after_equal}
-use Rattle.psm_tablecode.specs.Asked.{columns_in, key_asked, rows_at, rows_from, rows_of, rows_or, unique_asked, walk_asked, walk_by, walk_for}
+use Rattle.psm_tablecode.specs.Asked.{columns_in, each_sought, key_asked, over_all, path_asked, path_by, path_in, rows_at, rows_of, rows_on, rows_or, unique_asked, unique_in, walk_for}
 use Rattle.psm_tablecode.specs.Bounds.{bounds_asked, bounds_of, rows_within, Bounds}
 use Rattle.psm_tablecode.specs.Codes.{over}
 use Rattle.psm_tablecode.specs.Edges.{lies_within, rows_between}
 use Rattle.psm_tablecode.specs.Folding.{folded_test}
 use Rattle.psm_tablecode.specs.Tests.{are_quiet}
-use Rattle.psm_tablecode.specs.declared.walking.Edge.{Edge}
+use Rattle.psm_tablecode.specs.declared.walking.Path.{Path}
+use Rattle.psm_tablecode.specs.declared.walking.Path.TheVariants as path
 use Rattle.psm_tablecode.specs.declared.walking.Unique.{Unique}
 use Rattle.psm_tablecode.specs.declared.walking.Walk.{Walk}
 use Rattle.psm_tablecode.proofs.EdgeLaws.{rows_all, rows_among}
 use Rattle.psm_tablecode.proofs.FoldLaws.{tests_same}
+use Rattle.psm_tablecode.proofs.LookUps.{asked_from}
 use Rattle.psm_tablecode.proofs.Ranges.{asked_by, walked-where, walked_within}
 use Rattle.psm_tablecode.proofs.Stepped.{filter-reverse}
 use Rattle.psm_tablecode.proofs.Sought.{asked_only, asked_quiet}
@@ -78,28 +80,24 @@ module _ {A : Type 0} (t : Contents) (vars : List Datum) (test : Option (List Li
   abbrev Walked : List Line → List (List Datum) → Result (List A) SqlState
   Walked lines rows = walked (test_of (over vars) (Some lines)) take rows
 
-  for_bounds : (downward : Bool) (lines : List Line) (b : Bool) → are_quiet lines ≡ b
-      → Walked lines (rows_of t (walk_by downward None None (if b then Some (bounds_of t.def.key vars lines) else None))) ≡ Walked lines (in_walk downward t.rows)
-  for_bounds downward lines false e = ap (λ rows. Walked lines (in_walk downward rows)) (rows_all t.def.key t.rows)
-  for_bounds downward lines true e =
+  for_lines : (downward : Bool) (lines : List Line) → are_quiet lines ≡ true → (key : Option (List Datum)) (unique : Option Unique) → each_sought t.def.key vars lines ≡ key → unique_in t.def.unique vars lines ≡ unique
+      → Walked lines (rows_on t downward (path_by key unique (bounds_of t.def.key vars lines))) ≡ Walked lines (in_walk downward t.rows)
+  for_lines downward lines q (Some key) unique e f =
+      let asks : key_asked t.def.key vars (Some lines) ≡ Some key = ap (λ (b : Bool). if b then each_sought t.def.key vars lines else None) q ∙ e in
+      walked-key t.def.key key (test_of (over vars) (Some lines)) take (λ row. asked_quiet row vars t.def.key lines key asks) (λ row. asked_only row vars t.def.key lines key asks) downward t.rows up
+  for_lines downward lines q None (Some unique) e f = walked_at t vars lines take downward unique (ap (λ (b : Bool). if b then unique_in t.def.unique vars lines else None) q ∙ f)
+  for_lines downward lines q None None e f =
       ap (Walked lines) (rows_among t.def.key vars lines downward t.rows)
-      ∙ sym (ap (λ (b : Bool). Walked lines (rows_within t downward (if b then Some (bounds_of t.def.key vars lines) else None))) e)
+      ∙ sym (ap (λ (b : Bool). Walked lines (rows_within t downward (if b then Some (bounds_of t.def.key vars lines) else None))) q)
       ∙ walked_within t vars take downward (Some lines)
 
-  for_unique : (downward : Bool) (lines : List Line) (o : Option Unique) → unique_asked t.def.unique vars (Some lines) ≡ o
-      → Walked lines (rows_of t (walk_by downward None o (bounds_asked t.def.key vars (Some lines)))) ≡ Walked lines (in_walk downward t.rows)
-  for_unique downward lines None e = for_bounds downward lines (are_quiet lines) refl
-  for_unique downward lines (Some unique) e = walked_at t vars lines take downward unique e
+  for_quiet : (downward : Bool) (lines : List Line) (b : Bool) → are_quiet lines ≡ b → Walked lines (rows_on t downward (if b then path_in t.def vars lines else over_all)) ≡ Walked lines (in_walk downward t.rows)
+  for_quiet downward lines true q = for_lines downward lines q (each_sought t.def.key vars lines) (unique_in t.def.unique vars lines) refl refl
+  for_quiet downward lines false q = ap (λ rows. Walked lines (in_walk downward rows)) (rows_all t.def.key t.rows)
 
-  for_key : (downward : Bool) (lines : List Line) (o : Option (List Datum)) → key_asked t.def.key vars (Some lines) ≡ o
-      → Walked lines (rows_of t (walk_by downward o (unique_asked t.def.unique vars (Some lines)) (bounds_asked t.def.key vars (Some lines)))) ≡ Walked lines (in_walk downward t.rows)
-  for_key downward lines None e = for_unique downward lines (unique_asked t.def.unique vars (Some lines)) refl
-  for_key downward lines (Some key) e =
-      walked-key t.def.key key (test_of (over vars) (Some lines)) take (λ row. asked_quiet row vars t.def.key lines key e) (λ row. asked_only row vars t.def.key lines key e) downward t.rows up
-
-  for_test : (downward : Bool) (o : Option (List Line)) → walked (test_of (over vars) o) take (rows_of t (walk_asked t.def downward vars o)) ≡ walked (test_of (over vars) o) take (in_walk downward t.rows)
+  for_test : (downward : Bool) (o : Option (List Line)) → walked (test_of (over vars) o) take (rows_on t downward (path_asked t.def vars o)) ≡ walked (test_of (over vars) o) take (in_walk downward t.rows)
   for_test downward None = ap (λ rows. walked (test_of (over vars) None) take (in_walk downward rows)) (rows_all t.def.key t.rows)
-  for_test downward (Some lines) = for_key downward lines (key_asked t.def.key vars (Some lines)) refl
+  for_test downward (Some lines) = for_quiet downward lines (are_quiet lines) refl
 
   pub walked_for : (downward : Bool) → walked (test_of (over vars) test) take (rows_of t (walk_for t downward vars test)) ≡ walked (test_of (over vars) test) take (in_walk downward t.rows)
   walked_for downward =
@@ -110,22 +108,27 @@ module _ {A : Type 0} (t : Contents) (vars : List Datum) (test : Option (List Li
   pub walked_by : (downward : Bool) (walk : Walk) → walk ≡ walk_for t downward vars test → walked (test_of (over vars) test) take (rows_of t walk) ≡ walked (test_of (over vars) test) take (in_walk downward t.rows)
   walked_by downward walk e = ap (λ (w : Walk). walked (test_of (over vars) test) take (rows_of t w)) e ∙ walked_for downward
 
--- where a test asks for bounds and for nothing else, the walk is over the rows between them
-bounded : (t : Contents) (vars : List Datum) (downward : Bool) (lines : List Line) (bounds : Bounds) → key_asked t.def.key vars (Some lines) ≡ None → unique_asked t.def.unique vars (Some lines) ≡ None
-    → bounds_asked t.def.key vars (Some lines) ≡ Some bounds → bounds_of t.def.key vars lines ≡ bounds → rows_of t (walk_asked t.def downward vars (Some lines)) ≡ rows_within t downward (Some bounds)
-bounded t vars downward lines bounds k u b e =
-    (λ i. rows_of t (walk_by downward (k i) (u i) (b i))) ∙ ap (λ (x : Bounds). rows_of t (walk_by downward None None (Some x))) (sym e)
-    ∙ rows_among t.def.key vars lines downward t.rows ∙ ap (λ (x : Bounds). rows_within t downward (Some x)) e
+module _ (t : Contents) (vars : List Datum) (downward : Bool) where
+  rows_by : (lines : List Line) (key : Option (List Datum)) (unique : Option Unique) (bounds : Bounds) → are_quiet lines ≡ true → key_asked t.def.key vars (Some lines) ≡ key → unique_asked t.def.unique vars (Some lines) ≡ unique
+      → bounds_of t.def.key vars lines ≡ bounds → rows_on t downward (path_asked t.def vars (Some lines)) ≡ rows_on t downward (path_by key unique bounds)
+  rows_by lines key unique bounds q k u e =
+      let key_is : each_sought t.def.key vars lines ≡ key = sym (ap (λ (b : Bool). if b then each_sought t.def.key vars lines else None) q) ∙ k in
+      let unique_is : unique_in t.def.unique vars lines ≡ unique = sym (ap (λ (b : Bool). if b then unique_in t.def.unique vars lines else None) q) ∙ u in
+      ap (λ (b : Bool). rows_on t downward (if b then path_in t.def vars lines else over_all)) q ∙ (λ i. rows_on t downward (path_by (key_is i) (unique_is i) (e i)))
 
-pub rows_bounded : (t : Contents) (vars : List Datum) (downward : Bool) (test : Option (List Line)) (bounds : Bounds) → key_asked t.def.key vars test ≡ None → unique_asked t.def.unique vars test ≡ None
-    → bounds_asked t.def.key vars test ≡ Some bounds → rows_of t (walk_asked t.def downward vars test) ≡ rows_within t downward (Some bounds)
-rows_bounded t vars downward None bounds k u b = absurd (cc)
-rows_bounded t vars downward (Some lines) bounds k u b = bounded t vars downward lines bounds k u b (asked_by (are_quiet lines) (bounds_of t.def.key vars lines) bounds b).1
+  -- where a test asks for bounds and for nothing else, the walk is over the rows between them
+  pub rows_bounded : (test : Option (List Line)) (bounds : Bounds) → key_asked t.def.key vars test ≡ None → unique_asked t.def.unique vars test ≡ None
+      → bounds_asked t.def.key vars test ≡ Some bounds → rows_on t downward (path_asked t.def vars test) ≡ rows_within t downward (Some bounds)
+  rows_bounded None bounds k u b = absurd (cc)
+  rows_bounded (Some lines) bounds k u b =
+      let quiet = asked_by (are_quiet lines) (bounds_of t.def.key vars lines) bounds b in
+      rows_by lines None None (bounds_of t.def.key vars lines) quiet.0 k u refl ∙ rows_among t.def.key vars lines downward t.rows ∙ ap (λ (x : Bounds). rows_within t downward (Some x)) quiet.1
 
--- where it asks for values in a UNIQUE list and for no key, the walk is over the row with them
-pub rows_looked : (t : Contents) (vars : List Datum) (downward : Bool) (test : Option (List Line)) (unique : Unique) → key_asked t.def.key vars test ≡ None → unique_asked t.def.unique vars test ≡ Some unique
-    → rows_of t (walk_asked t.def downward vars test) ≡ rows_at t downward unique
-rows_looked t vars downward test unique k u = λ i. rows_of t (walk_by downward (k i) (u i) (bounds_asked t.def.key vars test))
+  -- where it asks for values in a UNIQUE list and for no key, the walk is over the row with them
+  pub rows_looked : (test : Option (List Line)) (unique : Unique) → key_asked t.def.key vars test ≡ None → unique_asked t.def.unique vars test ≡ Some unique
+      → rows_on t downward (path_asked t.def vars test) ≡ rows_at t downward unique
+  rows_looked None unique k u = absurd (cc)
+  rows_looked (Some lines) unique k u = rows_by lines None (Some unique) (bounds_of t.def.key vars lines) (asked_from t.def.unique vars lines unique u).0 k u refl
 
 -- no walk has more rows than the table
 found_few : (p : List Datum → Bool) (row : List Datum) (rows : List (List Datum)) (b : Bool) → length (cons_option (find p rows) []) ≤ length rows → length (cons_option (cond b (Some row) (find p rows)) []) ≤ length (row ∷ rows)
@@ -153,14 +156,14 @@ rows_or-length n [] all h g = h
 rows_or-length n (row ∷ []) all h g = h
 rows_or-length n (row ∷ other ∷ xs) all h g = g
 
-from_few : (t : Contents) (downward : Bool) (o : Option (List Datum)) (u : Option Unique) (low high : Option Edge) → length (rows_from t downward o u low high) ≤ length t.rows
-from_few t downward None None low high =
-    omega (arith, walk_few downward (rows_between t.def.key low high t.rows), filter_few (λ row. lies_within low high (values_at t.def.key row)) t.rows)
-from_few t downward None (Some u) low high =
+on_few : (t : Contents) (downward : Bool) (p : Path) → length (rows_on t downward p) ≤ length t.rows
+on_few t downward (path.Key key) = find_few (λ row. is_eq (row_order t.def.key key row)) t.rows
+on_few t downward (path.Unique u) =
     let columns : List ℕ = columns_in t.def.unique u.list in
     let all : length (in_walk downward t.rows) ≡ length t.rows = walk_few downward t.rows in
     rows_or-length (length t.rows) (rows_with columns u.values t.rows) (in_walk downward t.rows) (filter_few (λ row. equal_values u.values (values_at columns row)) t.rows) (omega (arith, all))
-from_few t downward (Some key) u low high = find_few (λ row. is_eq (row_order t.def.key key row)) t.rows
+on_few t downward (path.Between low high) =
+    omega (arith, walk_few downward (rows_between t.def.key low high t.rows), filter_few (λ row. lies_within low high (values_at t.def.key row)) t.rows)
 
 pub rows_few : (t : Contents) (walk : Walk) → length (rows_of t walk) ≤ length t.rows
-rows_few t walk = from_few t walk.downward walk.key walk.unique walk.low walk.high
+rows_few t walk = on_few t walk.downward walk.path

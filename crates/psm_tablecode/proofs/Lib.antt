@@ -10,6 +10,7 @@ pub mod FoldSteps
 pub mod KeyWalks
 pub mod LookUps
 pub mod Made
+pub mod Paths
 pub mod Ranges
 pub mod RemainingRowsLaws
 pub mod Results

@@ -1,14 +1,16 @@
 -- What a test asks of a UNIQUE list: values that aren't null, and the first list for whose columns it has them.
-use Rattle.std.proofs.Common.{◌≡◌, ℕ, suc, ◌+◌, ◌<◌, Bool, true, false, ◌||◌, List, [], ◌∷◌, ◌++◌, length, drop, get_or, refl, ap, sym, subst, ◌∙◌, arith, Option, Some, None, Result, Ok, Err}
-use Rattle.std.specs.Prelude.{nat_le, IfOk, IfSome, if◌then◌else◌}
+use Rattle.std.proofs.Common.{◌≡◌, ℕ, suc, ◌+◌, ◌<◌, Bool, true, false, ◌||◌, List, [], ◌∷◌, ◌++◌, length, drop, get_or, refl, ap, sym, subst, ◌∙◌, arith, Option, Some, None}
+use Rattle.std.specs.Prelude.{nat_le, IfSome, if◌then◌else◌}
 use Rattle.std.proofs.Math.Seq.{drop-length}
 use Rattle.psm_value.specs.declared.datum.Datum.{Datum}
 use Rattle.psm_exprcode.specs.declared.op.Line.{Line}
+use Rattle.psm_table.specs.Definition.{IsKey}
 use Rattle.psm_table.specs.Unique.{has_null, is_null}
+use Rattle.psm_table.specs.declared.definition.TableDef.{TableDef}
 use Rattle.psm_tablecode.specs.declared.walking.Unique.{Unique}
-use Rattle.psm_tablecode.specs.declared.walking.Walk.{Walk}
-use Rattle.psm_tablecode.specs.Asked.{columns_in, each_filled, each_sought, filled, most_lists, unique_asked, unique_by, unique_from, unique_in, unique_or, unique_with, walk_by, IsLookUp}
-use Rattle.psm_tablecode.specs.Bounds.{Bounds}
+use Rattle.psm_tablecode.specs.declared.walking.Path.{Path}
+use Rattle.psm_tablecode.specs.Asked.{columns_in, each_filled, each_sought, filled, most_lists, over_all, path_asked, path_by, path_in, unique_asked, unique_from, unique_in, unique_or, unique_with, IsLookUp, IsPath}
+use Rattle.psm_tablecode.specs.Bounds.{bounds_of}
 use Rattle.psm_tablecode.specs.Tests.{are_quiet, sought, with_first}
 use Rattle.psm_tablecode.proofs.Collecting.{first_of}
 use Rattle.psm_tablecode.proofs.Seeking.{each_end, each_first, each_long, each_next, each_none, Seeks}
@@ -131,20 +133,21 @@ asked_from lists vars lines unique e =
     let quiet = if_some (are_quiet lines) (unique_in lists vars lines) unique e in
     (quiet.0, (if_some (nat_le (length lists) most_lists) (unique_from 0 lists vars lines) unique quiet.1).1)
 
--- ---- walks
+-- ---- paths
 
-asked_looks : (lists : List (List ℕ)) (vars : List Datum) (test : Option (List Line)) (o : Option Unique) → unique_asked lists vars test ≡ o → IfSome o (IsLookUp lists)
-asked_looks lists vars test None e = tt
-asked_looks lists vars None (Some unique) e = absurd (cc)
-asked_looks lists vars (Some lines) (Some unique) e = looks_up vars lines lists unique (asked_from lists vars lines unique e).1
+module _ (def : TableDef) (vars : List Datum) (lines : List Line) where
+  fits_by : (key : Option (List Datum)) (unique : Option Unique) → IfSome key (IsKey def) → unique_in def.unique vars lines ≡ unique → IsPath def (path_by key unique (bounds_of def.key vars lines))
+  fits_by (Some key) unique h e = h
+  fits_by None (Some unique) h e = looks_up vars lines def.unique unique (if_some (nat_le (length def.unique) most_lists) (unique_from 0 def.unique vars lines) unique e).1
+  fits_by None None h e = tt
 
-walked_looks : (lists : List (List ℕ)) (key : Option (List Datum)) (o : Option Unique) → IfSome o (IsLookUp lists) → IfSome (unique_by key o) (IsLookUp lists)
-walked_looks lists None o h = h
-walked_looks lists (Some key) o h = tt
+  fits_if : (b : Bool) → IsPath def (if b then path_in def vars lines else over_all)
+  fits_if true = fits_by (each_sought def.key vars lines) (unique_in def.unique vars lines) (each_long (λ c. sought c vars lines) def.key) refl
+  fits_if false = tt
 
-pub walk_looks : {E : Type 0} (lists : List (List ℕ)) (downward : Bool) (key : Option (List Datum)) (vars : List Datum) (test : Option (List Line)) (bounds : Option Bounds) (r : Result Walk E)
-    → IfOk r (λ walk. walk ≡ walk_by downward key (unique_asked lists vars test) bounds) → IfOk r (λ walk. IfSome walk.unique (IsLookUp lists))
-walk_looks lists downward key vars test bounds (Ok walk) h =
-    subst (λ (o : Option Unique). IfSome o (IsLookUp lists)) (sym (ap (λ (w : Walk). w.unique) h))
-    (walked_looks lists key (unique_asked lists vars test) (asked_looks lists vars test (unique_asked lists vars test) refl))
-walk_looks lists downward key vars test bounds (Err f) h = tt
+asked_fits : (def : TableDef) (vars : List Datum) (test : Option (List Line)) → IsPath def (path_asked def vars test)
+asked_fits def vars None = tt
+asked_fits def vars (Some lines) = fits_if def vars lines (are_quiet lines)
+
+pub path_fits : (def same : TableDef) (vars : List Datum) (test : Option (List Line)) (p : Path) → p ≡ path_asked same vars test → same ≡ def → IsPath def p
+path_fits def same vars test p e d = subst (λ (f : TableDef). IsPath f p) d (subst (IsPath same) (sym e) (asked_fits same vars test))

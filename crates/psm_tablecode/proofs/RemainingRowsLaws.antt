@@ -15,20 +15,22 @@ use Rattle.psm_table.specs.Matching.{at_most_one, rows_with}
 use Rattle.psm_table.specs.Queries.{in_walk}
 use Rattle.psm_table.specs.Table.{keyed, Contents, IsTable}
 use Rattle.psm_table.specs.Unique.{equal_values}
-use Rattle.psm_tablecode.specs.Asked.{columns_in, rows_at, rows_from, rows_of, rows_or}
+use Rattle.psm_tablecode.specs.Asked.{columns_in, rows_at, rows_of, rows_on, rows_or}
 use Rattle.psm_tablecode.specs.Edges.{lies_within, rows_between}
 use Rattle.psm_tablecode.specs.RemainingRows.{cut_edge}
 use Rattle.psm_tablecode.specs.declared.walking.Edge.{Edge}
+use Rattle.psm_tablecode.specs.declared.walking.Path.{Path}
+use Rattle.psm_tablecode.specs.declared.walking.Path.TheVariants as path
 use Rattle.psm_tablecode.specs.declared.walking.Unique.{Unique}
 use Rattle.psm_tablecode.specs.declared.walking.Walk.{Walk}
 
 -- ---- what is walked over
 
-pub of_key : (t : Contents) (walk : Walk) (key : List Datum) (o : Option (List Datum)) → walk.key ≡ Some key → o ≡ keyed t key → cons_option o [] ≡ rows_of t walk
-of_key t walk key o e f = ap (λ (r : Option (List Datum)). cons_option r []) f ∙ sym (ap (λ (k : Option (List Datum)). rows_from t walk.downward k walk.unique walk.low walk.high) e)
+pub of_key : (t : Contents) (walk : Walk) (key : List Datum) (o : Option (List Datum)) → walk.path ≡ path.Key key → o ≡ keyed t key → cons_option o [] ≡ rows_of t walk
+of_key t walk key o e f = ap (λ (r : Option (List Datum)). cons_option r []) f ∙ sym (ap (rows_on t walk.downward) e)
 
-pub of_unique : (t : Contents) (walk : Walk) (unique : Unique) (rows : List (List Datum)) → walk.key ≡ None → walk.unique ≡ Some unique → rows ≡ rows_at t walk.downward unique → rows ≡ rows_of t walk
-of_unique t walk unique rows e u f = f ∙ sym (λ i. rows_from t walk.downward (e i) (u i) walk.low walk.high)
+pub of_unique : (t : Contents) (walk : Walk) (unique : Unique) (rows : List (List Datum)) → walk.path ≡ path.Unique unique → rows ≡ rows_at t walk.downward unique → rows ≡ rows_of t walk
+of_unique t walk unique rows e f = f ∙ sym (ap (rows_on t walk.downward) e)
 
 -- rows between cuts are those between the edges that they are made from
 cut_rows : (columns : List ℕ) (low high : Option Cut) (rows : List (List Datum)) → cuts.rows_between columns low high rows ≡ rows_between columns (option_map cut_edge low) (option_map cut_edge high) rows
@@ -37,10 +39,13 @@ cut_rows columns None (Some h) rows = refl
 cut_rows columns (Some l) None rows = refl
 cut_rows columns (Some l) (Some h) rows = refl
 
-pub of_all : (t : Contents) (walk : Walk) (low high : Option Cut) (rows : List (List Datum)) → walk.key ≡ None → walk.unique ≡ None → option_map cut_edge low ≡ walk.low → option_map cut_edge high ≡ walk.high
-    → rows ≡ in_walk walk.downward (cuts.rows_between t.def.key low high t.rows) → rows ≡ rows_of t walk
-of_all t walk low high rows e u l h f =
-    f ∙ ap (λ rs. in_walk walk.downward rs) (cut_rows t.def.key low high t.rows) ∙ (λ i. rows_from t walk.downward None None (l i) (h i)) ∙ sym (λ i. rows_from t walk.downward (e i) (u i) walk.low walk.high)
+pub of_between : (t : Contents) (downward : Bool) (low high : Option Edge) (l h : Option Cut) (rows : List (List Datum)) → option_map cut_edge l ≡ low → option_map cut_edge h ≡ high
+    → rows ≡ in_walk downward (cuts.rows_between t.def.key l h t.rows) → rows ≡ rows_on t downward (path.Between low high)
+of_between t downward low high l h rows a b f = f ∙ ap (λ rs. in_walk downward rs) (cut_rows t.def.key l h t.rows) ∙ (λ i. rows_on t downward (path.Between (a i) (b i)))
+
+pub of_all : (t : Contents) (walk : Walk) (low high : Option Edge) (l h : Option Cut) (rows : List (List Datum)) → walk.path ≡ path.Between low high → option_map cut_edge l ≡ low → option_map cut_edge h ≡ high
+    → rows ≡ in_walk walk.downward (cuts.rows_between t.def.key l h t.rows) → rows ≡ rows_of t walk
+of_all t walk low high l h rows e a b f = of_between t walk.downward low high l h rows a b f ∙ sym (ap (rows_on t walk.downward) e)
 
 module _ (P : List Datum → Type 0) where
   all-reverse : (rows : List (List Datum)) → All P rows → All P (reverse rows)
@@ -74,15 +79,15 @@ rows_or-all P [] all h g = h
 rows_or-all P (row ∷ []) all h g = h
 rows_or-all P (row ∷ other ∷ xs) all h g = g
 
-from_fit : (t : Contents) (downward : Bool) (o : Option (List Datum)) (u : Option Unique) (low high : Option Edge) → All (IsRow t.def) t.rows → All (IsRow t.def) (rows_from t downward o u low high)
-from_fit t downward None None low high h = walk_all (IsRow t.def) downward (rows_between t.def.key low high t.rows) (filter_all (IsRow t.def) (λ row. lies_within low high (values_at t.def.key row)) t.rows h)
-from_fit t downward None (Some u) low high h =
+pub on_fit : (t : Contents) (downward : Bool) (p : Path) → All (IsRow t.def) t.rows → All (IsRow t.def) (rows_on t downward p)
+on_fit t downward (path.Key key) h = find_all (IsRow t.def) (λ row. is_eq (row_order t.def.key key row)) t.rows h
+on_fit t downward (path.Unique u) h =
     let columns : List ℕ = columns_in t.def.unique u.list in
     rows_or-all (IsRow t.def) (rows_with columns u.values t.rows) (in_walk downward t.rows) (filter_all (IsRow t.def) (λ row. equal_values u.values (values_at columns row)) t.rows h) (walk_all (IsRow t.def) downward t.rows h)
-from_fit t downward (Some key) u low high h = find_all (IsRow t.def) (λ row. is_eq (row_order t.def.key key row)) t.rows h
+on_fit t downward (path.Between low high) h = walk_all (IsRow t.def) downward (rows_between t.def.key low high t.rows) (filter_all (IsRow t.def) (λ row. lies_within low high (values_at t.def.key row)) t.rows h)
 
 pub coming_fit : (t : Contents) (walk : Walk) → IsTable t → All (IsRow t.def) (rows_of t walk)
-coming_fit t walk h = from_fit t walk.downward walk.key walk.unique walk.low walk.high h.fit
+coming_fit t walk h = on_fit t walk.downward walk.path h.fit
 
 -- ---- one row after another
 

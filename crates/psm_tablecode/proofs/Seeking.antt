@@ -1,6 +1,6 @@
 -- What a test asks of the columns of a key, column by column and line by line.
-use Rattle.std.proofs.Common.{◌≡◌, ℕ, ◌+◌, ◌-◌, ◌<◌, ◌≤◌, Bool, true, false, List, [], ◌∷◌, ◌++◌, length, drop, get_or, append_assoc, refl, ap, sym, subst, ◌∙◌, arith, Option, Some, None, Result, Ok, Err}
-use Rattle.std.specs.Prelude.{nat_eq, option_map, suc, IfOk, IfSome, if◌then◌else◌}
+use Rattle.std.proofs.Common.{◌≡◌, ℕ, ◌+◌, ◌-◌, ◌<◌, ◌≤◌, Bool, true, false, List, [], ◌∷◌, ◌++◌, length, drop, get_or, append_assoc, refl, ap, sym, subst, ◌∙◌, arith, Option, Some, None}
+use Rattle.std.specs.Prelude.{nat_eq, option_map, suc, IfSome, if◌then◌else◌}
 use Rattle.std.specs.Option.{option_or}
 use Rattle.std.proofs.Math.Seq.{drop-length}
 use Rattle.std.proofs.lemmas.List.{append-nil}
@@ -9,12 +9,12 @@ use Rattle.psm_exprcode.specs.declared.op.Line.{Line}
 use Rattle.psm_tablecode.specs.declared.asking.Aim.{Aim}
 use Rattle.psm_tablecode.specs.declared.asking.Aim.TheVariants.{Value}
 use Rattle.psm_tablecode.specs.declared.asking.Found.{Found}
-use Rattle.psm_tablecode.specs.declared.walking.Walk.{Walk}
+use Rattle.psm_tablecode.specs.declared.walking.Path.{Path}
+use Rattle.psm_tablecode.specs.declared.walking.Path.TheVariants as path
 use Rattle.psm_tablecode.specs.Aims.{is_of_two, made_for, maker, of_four, of_three, seen, width}
-use Rattle.psm_tablecode.specs.declared.walking.Unique.{Unique}
-use Rattle.psm_tablecode.specs.Asked.{each_of, each_sought, key_asked, unique_in, walk_by}
-use Rattle.psm_tablecode.specs.Bounds.{bounds_asked, bounds_by, bounds_of, bounds_with, end_of, high_sought, low_sought, of_range, Bounds, End}
-use Rattle.psm_tablecode.specs.Tests.{are_quiet, first_four, first_three, fixed, free, is_column, is_equality, made, made_equal, sought, with_first}
+use Rattle.psm_tablecode.specs.Asked.{each_of, each_sought, path_by, unique_in}
+use Rattle.psm_tablecode.specs.Bounds.{bounds_by, bounds_of, bounds_with, end_of, high_sought, low_sought, of_range, Bounds, End}
+use Rattle.psm_tablecode.specs.Tests.{first_four, first_three, fixed, free, is_column, is_equality, made, made_equal, sought, with_first}
 use Rattle.psm_tablecode.proofs.Collecting.{first_of}
 use Rattle.psm_tablecode.proofs.Windows as windows
 
@@ -189,17 +189,17 @@ module _ (vars : List Datum) (lines : List Line) (columns : List ℕ) where
   seeks_next at c d done more l e s m h =
       subst (Asks (at + 1)) (sym m) (record { key = each_next (λ c. sought c vars lines) columns at c l e d done (sym s) h.key; bounds = bounds_next at c l e d done (sym s) h.bounds })
 
-  pub seeks_none : (at c : ℕ) (done : List Datum) (downward : Bool) (lists : List (List ℕ)) (walk : Walk) → at < length columns → c ≡ get_or columns at c → None ≡ sought c vars lines
-      → walk ≡ walk_by downward None (unique_in lists vars lines) (Some (bounds_with done (low_sought c vars lines) (high_sought c vars lines))) → Asks at done
-      → walk ≡ walk_by downward (each_sought columns vars lines) (unique_in lists vars lines) (Some (bounds_of columns vars lines))
-  seeks_none at c done downward lists walk l e s w h =
-      w ∙ (λ i. walk_by downward (sym (each_none (λ c. sought c vars lines) columns at c l e done (sym s) h.key) i) (unique_in lists vars lines) (Some (bounds_with done (low_sought c vars lines) (high_sought c vars lines))))
-      ∙ ap (λ b. walk_by downward (each_sought columns vars lines) (unique_in lists vars lines) (Some b)) (sym (bounds_none at c l e done (sym s) h.bounds))
+  abbrev Path_by : List (List ℕ) → Option (List Datum) → Bounds → Path
+  Path_by lists key b = path_by key (unique_in lists vars lines) b
 
-  pub seeks_end : (done : List Datum) (downward : Bool) (lists : List (List ℕ)) → Asks (length columns) done
-      → walk_by downward (Some done) None None ≡ walk_by downward (each_sought columns vars lines) (unique_in lists vars lines) (Some (bounds_of columns vars lines))
-  seeks_end done downward lists h =
-      sym (ap (λ (o : Option (List Datum)). walk_by downward o (unique_in lists vars lines) (Some (bounds_of columns vars lines))) (each_end (λ c. sought c vars lines) columns done h.key))
+  pub seeks_none : (at c : ℕ) (done : List Datum) (lists : List (List ℕ)) (p : Path) → at < length columns → c ≡ get_or columns at c → None ≡ sought c vars lines
+      → p ≡ path_by None (unique_in lists vars lines) (bounds_with done (low_sought c vars lines) (high_sought c vars lines)) → Asks at done
+      → p ≡ path_by (each_sought columns vars lines) (unique_in lists vars lines) (bounds_of columns vars lines)
+  seeks_none at c done lists p l e s w h =
+      w ∙ (λ i. Path_by lists (sym (each_none (λ c. sought c vars lines) columns at c l e done (sym s) h.key) i) (sym (bounds_none at c l e done (sym s) h.bounds) i))
+
+  pub seeks_end : (done : List Datum) (lists : List (List ℕ)) → Asks (length columns) done → path.Key done ≡ path_by (each_sought columns vars lines) (unique_in lists vars lines) (bounds_of columns vars lines)
+  seeks_end done lists h = sym (ap (λ (o : Option (List Datum)). Path_by lists o (bounds_of columns vars lines)) (each_end (λ c. sought c vars lines) columns done h.key))
 
 -- a key has a value for each of its columns
 longer : (n : ℕ) (o : Option Datum) (rest : Option (List Datum)) → IfSome rest (λ key. length key ≡ n) → IfSome (with_first o rest) (λ key. length key ≡ suc n)
@@ -210,21 +210,3 @@ longer n (Some d) (Some ds) h = ap suc h
 pub each_long : (value : ℕ → Option Datum) (columns : List ℕ) → IfSome (each_of value columns) (λ key. length key ≡ length columns)
 each_long value [] = refl
 each_long value (c ∷ columns) = longer (length columns) (value c) (each_of value columns) (each_long value columns)
-
-long_if : (b : Bool) (n : ℕ) (o : Option (List Datum)) → IfSome o (λ key. length key ≡ n) → IfSome (if b then o else None) (λ key. length key ≡ n)
-long_if true n o h = h
-long_if false n o h = tt
-
-asked_long : (columns : List ℕ) (vars : List Datum) (test : Option (List Line)) → IfSome (key_asked columns vars test) (λ key. length key ≡ length columns)
-asked_long columns vars None = tt
-asked_long columns vars (Some lines) = long_if (are_quiet lines) (length columns) (each_sought columns vars lines) (each_long (λ c. sought c vars lines) columns)
-
-pub asked_fits : (columns : List ℕ) (vars : List Datum) (test : Option (List Line)) (n : ℕ) → length columns ≡ n → IfSome (key_asked columns vars test) (λ key. length key ≡ n)
-asked_fits columns vars test n e = subst (λ m. IfSome (key_asked columns vars test) (λ key. length key ≡ m)) e (asked_long columns vars test)
-
-pub walk_fits : {E : Type 0} (columns : List ℕ) (downward : Bool) (vars : List Datum) (test : Option (List Line)) (unique : Option Unique) (n : ℕ) → length columns ≡ n → (r : Result Walk E)
-    → IfOk r (λ walk. walk ≡ walk_by downward (key_asked columns vars test) unique (bounds_asked columns vars test)) → IfOk r (λ walk. IfSome walk.key (λ key. length key ≡ n))
-walk_fits columns downward vars test unique n e (Ok walk) h =
-    subst (λ (o : Option (List Datum)). IfSome o (λ key. length key ≡ n)) (sym (ap (λ (w : Walk). w.key) h))
-    (asked_fits columns vars test n e)
-walk_fits columns downward vars test unique n e (Err f) h = tt

@@ -6,14 +6,16 @@ use Rattle.std.specs.List.{cons_option}
 use Rattle.psm_value.specs.declared.datum.Datum.{Datum}
 use Rattle.psm_exprcode.specs.declared.op.Line.{Line}
 use Rattle.psm_table.specs.declared.definition.TableDef.{TableDef}
+use Rattle.psm_table.specs.Definition.{IsKey}
 use Rattle.psm_table.specs.Matching.{at_most_one, rows_with}
 use Rattle.psm_table.specs.Queries.{in_walk}
 use Rattle.psm_table.specs.Table.{keyed, Contents}
 use Rattle.psm_table.specs.Unique.{has_null, is_null}
-use Rattle.psm_tablecode.specs.declared.walking.Edge.{Edge}
+use Rattle.psm_tablecode.specs.declared.walking.Path.{Path}
+use Rattle.psm_tablecode.specs.declared.walking.Path.TheVariants as path
 use Rattle.psm_tablecode.specs.declared.walking.Unique.{Unique}
 use Rattle.psm_tablecode.specs.declared.walking.Walk.{Walk}
-use Rattle.psm_tablecode.specs.Bounds.{bounds_asked, Bounds}
+use Rattle.psm_tablecode.specs.Bounds.{bounds_of, Bounds}
 use Rattle.psm_tablecode.specs.Edges.{high_edge, low_edge, rows_between}
 use Rattle.psm_tablecode.specs.Folding.{folded_test}
 use Rattle.psm_tablecode.specs.Tests.{are_quiet, sought, with_first}
@@ -91,45 +93,42 @@ rows_or None all = all
 abbrev pub rows_at : Contents → Bool → Unique → List (List Datum)
 rows_at t downward unique = rows_or (at_most_one (rows_with (columns_in t.def.unique unique.list) unique.values t.rows)) (in_walk downward t.rows)
 
--- the row of a key alone, or that of a look-up, or the rows between edges from one side
-abbrev pub rows_from : Contents → Bool → Option (List Datum) → Option Unique → Option Edge → Option Edge → List (List Datum)
-rows_from t downward (Some key) unique low high = cons_option (keyed t key) []
-rows_from t downward None (Some unique) low high = rows_at t downward unique
-rows_from t downward None None low high = in_walk downward (rows_between t.def.key low high t.rows)
+-- the rows of a path from one side: that of a key, that of a look-up, or those between edges
+abbrev pub rows_on : Contents → Bool → Path → List (List Datum)
+rows_on t downward (path.Key key) = cons_option (keyed t key) []
+rows_on t downward (path.Unique unique) = rows_at t downward unique
+rows_on t downward (path.Between low high) = in_walk downward (rows_between t.def.key low high t.rows)
 
 -- the rows of a walk, in order
 abbrev pub rows_of : Contents → Walk → List (List Datum)
-rows_of t walk = rows_from t walk.downward walk.key walk.unique walk.low walk.high
+rows_of t walk = rows_on t walk.downward walk.path
 
-abbrev pub over_all : Bool → Walk
-over_all downward = record { downward = downward; key = None; unique = None; low = None; high = None }
+abbrev pub over_all : Path
+over_all = path.Between None None
 
--- the look-up of a walk, where it isn't to the row of a key
-abbrev pub unique_by : Option (List Datum) → Option Unique → Option Unique
-unique_by (Some key) unique = None
-unique_by None unique = unique
+abbrev pub between : Bounds → Path
+between bounds = path.Between (low_edge bounds.firsts bounds.low) (high_edge bounds.firsts bounds.high)
 
--- the edges of a walk: those of bounds, where it isn't to the row of a key or of a look-up
-abbrev pub low_by : Option (List Datum) → Option Unique → Option Bounds → Option Edge
-low_by (Some key) unique bounds = None
-low_by None (Some unique) bounds = None
-low_by None None (Some bounds) = low_edge bounds.firsts bounds.low
-low_by None None None = None
+-- the path to the row of a key, or else to that of a look-up, or else between bounds
+abbrev pub path_by : Option (List Datum) → Option Unique → Bounds → Path
+path_by (Some key) unique bounds = path.Key key
+path_by None (Some unique) bounds = path.Unique unique
+path_by None None bounds = between bounds
 
-abbrev pub high_by : Option (List Datum) → Option Unique → Option Bounds → Option Edge
-high_by (Some key) unique bounds = None
-high_by None (Some unique) bounds = None
-high_by None None (Some bounds) = high_edge bounds.firsts bounds.high
-high_by None None None = None
+abbrev pub path_in : TableDef → List Datum → List Line → Path
+path_in def vars lines = path_by (each_sought def.key vars lines) (unique_in def.unique vars lines) (bounds_of def.key vars lines)
 
--- the walk to the row of a key, or else to that of a look-up, or else over the rows between bounds, or else over all rows
-abbrev pub walk_by : Bool → Option (List Datum) → Option Unique → Option Bounds → Walk
-walk_by downward key unique bounds = record { downward = downward; key = key; unique = unique_by key unique; low = low_by key unique bounds; high = high_by key unique bounds }
+-- the path for which a test asks as it stands; one that could raise a condition asks for none
+abbrev pub path_asked : TableDef → List Datum → Option (List Line) → Path
+path_asked def vars None = over_all
+path_asked def vars (Some lines) = if are_quiet lines then path_in def vars lines else over_all
 
--- the walk for which a test asks as it stands
-abbrev pub walk_asked : TableDef → Bool → List Datum → Option (List Line) → Walk
-walk_asked def downward vars test = walk_by downward (key_asked def.key vars test) (unique_asked def.unique vars test) (bounds_asked def.key vars test)
-
--- the walk of a statement with a test: the one for which the test asks once it is folded
+-- the walk of a statement with a test: by the path for which the test asks once it is folded
 abbrev pub walk_for : Contents → Bool → List Datum → Option (List Line) → Walk
-walk_for t downward vars test = walk_asked t.def downward vars (folded_test vars test)
+walk_for t downward vars test = record { downward = downward; path = path_asked t.def vars (folded_test vars test) }
+
+-- the key of a path is one of the table, and its look-up is one
+abbrev pub IsPath : TableDef → Path → Type 0
+IsPath def (path.Key key) = IsKey def key
+IsPath def (path.Unique unique) = IsLookUp def.unique unique
+IsPath def (path.Between low high) = Unit {0}

@@ -3,14 +3,14 @@ ghost use Rattle.std.specs.Prelude.{◌≡◌, ◌+◌, ◌-◌, ◌≤◌, ◌<
 ghost use Rattle.std.specs.Option.{option_copied, option_map, option_or};
 ghost use Rattle.psm_tablecode.specs.Aims.{made_for, maker, of_four, of_three, of_two, seen};
 ghost use Rattle.psm_tablecode.specs.Aims as aims;
-ghost use Rattle.psm_tablecode.specs.Asked.{each_filled, each_sought, filled, key_asked, over_all, unique_asked, unique_from, unique_in, walk_asked, walk_by};
+ghost use Rattle.psm_tablecode.specs.Asked.{between, each_filled, each_sought, filled, path_asked, path_by, unique_from, unique_in};
 ghost use Rattle.psm_tablecode.specs.Bounds as bounds;
 ghost use Rattle.psm_tablecode.specs.Edges as edges;
 ghost use Rattle.psm_tablecode.specs.Folding.{folded_test};
 ghost use Rattle.psm_tablecode.specs.Tests as asked;
 
 use crate::folding::folded;
-use crate::walking::{Edge, Unique, Walk};
+use crate::walking::{Edge, Path, Unique};
 use psm_exprcode::{ExprCode, Op, RawExpr};
 use psm_table::{Key, List, Parts, TableDef};
 use psm_value::Datum;
@@ -37,41 +37,28 @@ pub(crate) struct Found<'a> {
     pub is_in: bool,
 }
 
-/// The walk for which a test asks over a table, once it is folded where it could raise a condition: to the row of a key, where
+/// The path for which a test asks over a table, once it is folded where it could raise a condition: to the row of a key, where
 /// its predicates raise none and some that have to be true make each column of the key equal to a constant or a variable;
 /// else to the row with those values in a UNIQUE list, where they do so with each of its columns; else over the rows between
 /// edges, where they do so with the first columns of the key, or give a range of the next one; else over all rows. It takes
 /// memory for the key, the values or the edges, and for values and lines where operations are folded.
-pub(crate) fn walk_asked(
+pub(crate) fn path_asked(
     alloc: Global,
-    downward: bool,
     def: &TableDef,
     test: Option<&ExprCode>,
     vars: &[Datum],
-) -> Result<Walk, AllocError>
-    ensures { IfOk result (λ walk. walk ≡ walk_asked def.now downward vars.now (folded_test vars.now (option_copied test.entry))) }
+) -> Result<Path, AllocError>
+    ensures { IfOk result (λ path. path ≡ path_asked def.now vars.now (folded_test vars.now (option_copied test.entry))) }
 {
     let Some(code) = test else {
-        return Ok(over_all(downward));
+        return Ok(Path::Between(None, None));
     };
     if are_quiet(code.lines()) {
-        return walk_by_quiet(alloc, downward, def, code.lines(), vars);
+        return path_in_quiet(alloc, def, code.lines(), vars);
     }
     match folded(alloc, code.lines(), vars)? {
-        Some(lines) => walk_by_quiet(alloc, downward, def, &lines, vars),
-        None => Ok(over_all(downward)),
-    }
-}
-
-fn over_all(downward: bool) -> Walk
-    ensures { result ≡ over_all downward }
-{
-    Walk {
-        downward,
-        key: None,
-        unique: None,
-        low: None,
-        high: None,
+        Some(lines) => path_in_quiet(alloc, def, &lines, vars),
+        None => Ok(Path::Between(None, None)),
     }
 }
 
@@ -110,38 +97,29 @@ fn is_quiet(op: &Op) -> bool
     }
 }
 
-// The walk for which lines ask that raise nothing.
-fn walk_by_quiet(
+// The path for which lines ask that raise nothing.
+fn path_in_quiet(
     alloc: Global,
-    downward: bool,
     def: &TableDef,
     lines: &RawExpr,
     vars: &[Datum],
-) -> Result<Walk, AllocError>
+) -> Result<Path, AllocError>
     requires { asked.are_quiet lines.now ≡ true }
-    ensures { IfOk result (λ walk. walk ≡ walk_asked def.now downward vars.now (Some lines.now)) }
+    ensures { IfOk result (λ path. path ≡ path_asked def.now vars.now (Some lines.now)) }
 {
-    walk_sought(
-        alloc,
-        downward,
-        def.key.items(),
-        def.unique.items(),
-        lines,
-        vars,
-    )
+    path_sought(alloc, def.key.items(), def.unique.items(), lines, vars)
 }
 
 // The same of the columns of a key and of UNIQUE lists.
 #[tactic(auto, using(crate::proofs::Seeking::seeks_first, crate::proofs::Seeking::seeks_next, crate::proofs::Seeking::seeks_none, crate::proofs::Seeking::seeks_end))]
-fn walk_sought(
+fn path_sought(
     alloc: Global,
-    downward: bool,
     columns: &[u32],
     lists: &[List<u32>],
     lines: &RawExpr,
     vars: &[Datum],
-) -> Result<Walk, AllocError>
-    ensures { IfOk result (λ walk. walk ≡ walk_by downward (each_sought columns.now vars.now lines.now) (unique_in lists.now vars.now lines.now) (Some (bounds.bounds_of columns.now vars.now lines.now))) }
+) -> Result<Path, AllocError>
+    ensures { IfOk result (λ path. path ≡ path_by (each_sought columns.now vars.now lines.now) (unique_in lists.now vars.now lines.now) (bounds.bounds_of columns.now vars.now lines.now)) }
 {
     let mut firsts = Vec::new(alloc);
     for column in columns {
@@ -149,54 +127,35 @@ fn walk_sought(
             Some(value) => firsts.push(value.copy(alloc)?)?,
             None => {
                 let firsts = firsts.as_slice();
-                return Ok(walk_without_key(alloc, downward, firsts, *column, lists, lines, vars)?);
+                return Ok(path_without_key(alloc, firsts, *column, lists, lines, vars)?);
             }
         }
     }
-    Ok(Walk {
-        downward,
-        key: Some(Key::of(firsts)),
-        unique: None,
-        low: None,
-        high: None,
-    })
+    Ok(Path::Key(Key::of(firsts)))
 }
 
 // The same where the key has a column without a value, after some first values.
-fn walk_without_key(
+fn path_without_key(
     alloc: Global,
-    downward: bool,
     firsts: &[Datum],
     column: u32,
     lists: &[List<u32>],
     lines: &RawExpr,
     vars: &[Datum],
-) -> Result<Walk, AllocError>
-    ensures { IfOk result (λ walk. walk ≡ walk_by downward None (unique_in lists.now vars.now lines.now) (Some (bounds.bounds_with firsts.now (bounds.low_sought column vars.now lines.now) (bounds.high_sought column vars.now lines.now)))) }
+) -> Result<Path, AllocError>
+    ensures { IfOk result (λ path. path ≡ path_by None (unique_in lists.now vars.now lines.now) (bounds.bounds_with firsts.now (bounds.low_sought column vars.now lines.now) (bounds.high_sought column vars.now lines.now))) }
 {
     match unique_sought(alloc, lists, lines, vars)? {
-        Some(unique) => Ok(walk_to(downward, unique)),
+        Some(unique) => Ok(Path::Unique(unique)),
         None => {
             let low = end_sought(Aim::Low, Aim::LowOfTwo, column, lines, vars);
             let high = end_sought(Aim::High, Aim::HighOfTwo, column, lines, vars);
-            walk_between(alloc, downward, firsts, low, high)
+            path_between(alloc, firsts, low, high)
         }
     }
 }
 
 // ---- UNIQUE lists
-
-fn walk_to(downward: bool, unique: Unique) -> Walk
-    ensures { result ≡ walk_by downward None (Some unique) None }
-{
-    Walk {
-        downward,
-        key: None,
-        unique: Some(unique),
-        low: None,
-        high: None,
-    }
-}
 
 // The first list with a value for each of its columns, unless there are too many lists.
 fn unique_sought(
@@ -297,22 +256,18 @@ pub(crate) fn filled(value: Option<&Datum>) -> Option<&Datum>
 
 // ---- edges
 
-fn walk_between(
+fn path_between(
     alloc: Global,
-    downward: bool,
     firsts: &[Datum],
     low: Option<Found<'_>>,
     high: Option<Found<'_>>,
-) -> Result<Walk, AllocError>
-    ensures { IfOk result (λ walk. walk ≡ walk_by downward None None (Some (bounds.bounds_with firsts.now (option_map seen low.entry) (option_map seen high.entry)))) }
+) -> Result<Path, AllocError>
+    ensures { IfOk result (λ path. path ≡ between (bounds.bounds_with firsts.now (option_map seen low.entry) (option_map seen high.entry))) }
 {
-    Ok(Walk {
-        downward,
-        key: None,
-        unique: None,
-        low: low_edge(alloc, firsts, low)?,
-        high: high_edge(alloc, firsts, high)?,
-    })
+    Ok(Path::Between(
+        low_edge(alloc, firsts, low)?,
+        high_edge(alloc, firsts, high)?,
+    ))
 }
 
 fn low_edge(

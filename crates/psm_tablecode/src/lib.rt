@@ -19,4 +19,4 @@ pub use psm_cond::DataFault;
 pub use psm_exprcode::{Aggregate, ExprCode, Items, Operand, Query, SetFunction};
 pub use raising::raised;
 pub use typing::{column_letters, gives_truth, gives_value, type_checks};
-pub use walking::{Coming, Edge, Unique, Walk, walk_of};
+pub use walking::{Coming, Edge, Path, Unique, Walk, walk_of};

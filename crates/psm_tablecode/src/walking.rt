@@ -1,12 +1,12 @@
 //! Walks over the rows of a table in the order of their keys, or against it.
-ghost use Rattle.std.specs.Prelude.{◌≡◌, ◌∷◌, [], All, IfOk, IfSome, MatchOption};
+ghost use Rattle.std.specs.Prelude.{◌≡◌, ◌∷◌, [], All, IfOk, MatchOption};
 ghost use Rattle.std.specs.Option.{option_copied, option_map};
-ghost use Rattle.psm_table.specs.Definition.{IsKey, IsRow};
+ghost use Rattle.psm_table.specs.Definition.{IsRow};
 ghost use Rattle.psm_table.specs.Table.{IsTable};
-ghost use Rattle.psm_tablecode.specs.Asked.{rows_at, rows_of, walk_for, IsLookUp};
+ghost use Rattle.psm_tablecode.specs.Asked.{rows_at, rows_of, walk_for, IsLookUp, IsPath};
 ghost use Rattle.psm_tablecode.specs.RemainingRows.{cut_edge, rows_coming};
 
-use crate::asking::walk_asked;
+use crate::asking::path_asked;
 use psm_exprcode::ExprCode;
 use psm_table::{Cut, Key, Matching, Row, RowsLeft, Table};
 use psm_value::Datum;
@@ -39,19 +39,23 @@ pub struct Unique {
     pub values: Key,
 }
 
+/// How the rows of a walk are found.
+#[derive(Drop)]
+pub enum Path {
+    /// The one row of a key.
+    Key(Key),
+    /// The one row that a look-up finds.
+    Unique(Unique),
+    /// The rows between two edges: without the first from the first row on, without the second up to the last row.
+    Between(Option<Edge>, Option<Edge>),
+}
+
 /// Which rows of a table a statement goes over, and in which order.
 #[derive(Drop)]
 pub struct Walk {
     /// Whether they come in descending order of their keys.
     pub downward: bool,
-    /// The key of the one row, if no other comes.
-    pub key: Option<Key>,
-    /// The look-up that finds the one row, if it isn't found by its key.
-    pub unique: Option<Unique>,
-    /// Where the keys of the rows begin; without it, with the first row.
-    pub low: Option<Edge>,
-    /// Where they end; without it, with the last row.
-    pub high: Option<Edge>,
+    pub path: Path,
 }
 
 /// The walk of a statement with a test: over the row of the key for which the test asks, or over that with the values for
@@ -59,6 +63,7 @@ pub struct Walk {
 /// could raise a condition, operations on constants and variables alone that raise none are replaced by their values first.
 /// What a statement takes of the rows that meet the test, and the first condition that is raised, are those of a walk over
 /// all rows. It takes memory for the key, the values or the edges, and for values and lines where operations are replaced.
+#[tactic(auto, using(crate::proofs::LookUps::path_fits))]
 pub fn walk_of(
     alloc: Global,
     table: &Table,
@@ -67,12 +72,14 @@ pub fn walk_of(
     vars: &[Datum],
 ) -> Result<Walk, AllocError>
     ensures walk { IfOk result (λ walk. walk ≡ walk_for table.now.contents downward vars.now (option_copied test.entry)) }
-    ensures fits { IfOk result (λ walk. IfSome walk.key (IsKey table.now.contents.def)) }
-    ensures unique { IfOk result (λ walk. IfSome walk.unique (IsLookUp table.now.contents.def.unique)) }
+    ensures fits { IfOk result (λ walk. IsPath table.now.contents.def walk.path) }
     ensures table { IsTable table.now.contents }
 {
     ascends(table);
-    walk_asked(alloc, downward, table.def(), test, vars)
+    Ok(Walk {
+        downward,
+        path: path_asked(alloc, table.def(), test, vars)?,
+    })
 }
 
 /// The rows of a walk that are still to come, in order.
@@ -88,22 +95,17 @@ impl<'a> Coming<'a> {
     /// All rows of a walk over a table. It takes no memory.
     #[tactic(auto, using(crate::proofs::RemainingRowsLaws::of_key, crate::proofs::RemainingRowsLaws::of_unique, crate::proofs::RemainingRowsLaws::of_all, crate::proofs::RemainingRowsLaws::coming_fit))]
     pub fn of(table: &'a Table, walk: &Walk) -> Coming<'a>
-        requires key { IfSome walk.now.key (IsKey table.now.contents.def) }
-        requires unique { IfSome walk.now.unique (IsLookUp table.now.contents.def.unique) }
+        requires { IsPath table.now.contents.def walk.now.path }
         ensures rows { rows_coming result ≡ rows_of table.now.contents walk.now }
         ensures fit { All (IsRow table.now.contents.def) (rows_of table.now.contents walk.now) }
     {
         ascends(table);
-        match &walk.key {
-            Some(key) => Coming::One(table.get(key)),
-            None => match &walk.unique {
-                Some(unique) => Coming::found(table, unique, walk.downward),
-                None => Coming::All(table.rows_between(
-                    cut_at(&walk.low),
-                    cut_at(&walk.high),
-                    walk.downward,
-                )),
-            },
+        match &walk.path {
+            Path::Key(key) => Coming::One(table.get(key)),
+            Path::Unique(unique) => Coming::found(table, unique, walk.downward),
+            Path::Between(low, high) => {
+                Coming::All(table.rows_between(cut_at(low), cut_at(high), walk.downward))
+            }
         }
     }
 

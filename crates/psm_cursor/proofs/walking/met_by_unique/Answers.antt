@@ -17,12 +17,12 @@ pub returns-in-Nothing-clause-row : goal.returns-in-Nothing-clause-row
 returns-in-Nothing-clause-row c =
     let t = c.args.table.now.contents in
     let unique = c.args.unique.now in
-    expected_nothing t c.args.vars.now c.args.query.now.test c.args.query.now.downward (option_copied c.args.key) unique c.args.walk.now c.requires.walk c.requires.edges c.requires.unique
+    expected_nothing t c.args.vars.now c.args.query.now.test c.args.query.now.downward (option_copied c.args.key) unique c.requires.asked
     (c.in-Nothing.ensures.found ∙ ap (λ (values : List Datum). at_most_one (rows_with (columns_in t.def.unique unique.list) values t.rows)) c.values.ensures)
 
 pub returns-in-One-clause-row : goal.returns-in-One-clause-row
 returns-in-One-clause-row c =
     let t = c.args.table.now.contents in
     let unique = c.args.unique.now in
-    expected_found t c.args.vars.now c.args.query.now.test c.args.query.now.downward (option_copied c.args.key) unique c.args.walk.now c.requires.walk c.requires.edges c.requires.unique c.in-One.row.now c.met_if_after.result
+    expected_found t c.args.vars.now c.args.query.now.test c.args.query.now.downward (option_copied c.args.key) unique c.requires.asked c.in-One.row.now c.met_if_after.result
     (c.in-One.ensures.found ∙ ap (λ (values : List Datum). at_most_one (rows_with (columns_in t.def.unique unique.list) values t.rows)) c.values.ensures) c.met_if_after.ensures.row

@@ -17,7 +17,7 @@ use Rattle.psm_cursor.proofs.walking.met_past.Goals as goal
 pub rows-init : goal.rows-init
 rows-init c = record {
   same = ap (first_met (test_of (over c.args.vars.now) c.args.query.now.test)) c.rows_from-rows.ensures.rows
-      ∙ met_past c.args.table.now.contents c.args.vars.now c.args.query.now.test c.args.query.now.downward c.args.walk.now (option_copied c.args.key) c.requires.walk c.requires.edges
+      ∙ met_past c.args.table.now.contents c.args.vars.now c.args.query.now.test c.args.query.now.downward c.args.low.now c.args.high.now (option_copied c.args.key) c.requires.edges
       (reached_fits c.args.table.now.contents.def c.args.key c.requires.key);
   fit = c.rows_from-rows.ensures.fit;
 }
