@@ -25,6 +25,7 @@ use Rattle.psm_tablecode.specs.Bounds.{bounds_asked, bounds_of, is_between, Boun
 use Rattle.psm_tablecode.specs.Codes.{over}
 use Rattle.psm_tablecode.specs.Edges.{is_begun, is_not_ended, lies_within}
 use Rattle.psm_tablecode.specs.Folding.{folded_test}
+use Rattle.psm_tablecode.specs.Members.{keys_in}
 use Rattle.psm_tablecode.specs.Tests.{are_quiet}
 use Rattle.psm_tablecode.specs.declared.walking.Edge.{Edge}
 use Rattle.psm_tablecode.specs.declared.walking.Path.{Path}
@@ -74,6 +75,7 @@ module _ (t : Contents) (vars : List Datum) (row : List Datum) where
   abbrev Outside : Path → Type 0
   Outside (path.Key key) = ⊥
   Outside (path.Unique unique) = ⊥
+  Outside (path.Members keys) = ⊥
   Outside (path.Between low high) = lies_within low high its_key ≡ false
 
   outside_bounds : (lines : List Line) → are_quiet lines ≡ true → Outside (between (bounds_of t.def.key vars lines)) → mapped is_met (test_of (over vars) (Some lines) row) ≡ Ok false
@@ -84,17 +86,18 @@ module _ (t : Contents) (vars : List Datum) (row : List Datum) where
       let quiet = bounds_quiet vars t.def.key lines bounds asks row in
       unmet_by (test_of (over vars) (Some lines)) row (is_between t.def.key bounds row) quiet.0 quiet.1 (bounds_only vars t.def.key lines bounds asks row) out
 
-  outside_by : (lines : List Line) (key : Option (List Datum)) (unique : Option Unique) → are_quiet lines ≡ true → Outside (path_by key unique (bounds_of t.def.key vars lines)) → mapped is_met (test_of (over vars) (Some lines) row) ≡ Ok false
-  outside_by lines (Some key) unique q f = absurd f
-  outside_by lines None (Some unique) q f = absurd f
-  outside_by lines None None q f = outside_bounds lines q f
+  outside_by : (lines : List Line) (key : Option (List Datum)) (unique : Option Unique) (keys : Option (List (List Datum))) → are_quiet lines ≡ true → Outside (path_by key unique keys (bounds_of t.def.key vars lines)) → mapped is_met (test_of (over vars) (Some lines) row) ≡ Ok false
+  outside_by lines (Some key) unique keys q f = absurd f
+  outside_by lines None (Some unique) keys q f = absurd f
+  outside_by lines None None (Some keys) q f = absurd f
+  outside_by lines None None None q f = outside_bounds lines q f
 
   outside_if : (lines : List Line) (b : Bool) → are_quiet lines ≡ b → Outside (if b then path_in t.def vars lines else over_all) → mapped is_met (test_of (over vars) (Some lines) row) ≡ Ok false
-  outside_if lines true q f = outside_by lines (each_sought t.def.key vars lines) (unique_in t.def.unique vars lines) q f
-  outside_if lines false q f = absurd (cc)
+  outside_if lines true q f = outside_by lines (each_sought t.def.key vars lines) (unique_in t.def.unique vars lines) (keys_in t.def.key vars lines) q f
+  outside_if lines false q f = let all : true ≡ false = f in absurd (cc)
 
   outside_asked : (test : Option (List Line)) → Outside (path_asked t.def vars test) → mapped is_met (test_of (over vars) test row) ≡ Ok false
-  outside_asked None f = absurd (cc)
+  outside_asked None f = let all : true ≡ false = f in absurd (cc)
   outside_asked (Some lines) f = outside_if lines (are_quiet lines) refl f
 
   outside : (test : Option (List Line)) (low high : Option Edge) → AreEdges t.def vars test low high → lies_within low high its_key ≡ false → mapped is_met (test_of (over vars) test row) ≡ Ok false

@@ -24,6 +24,7 @@ use std::alloc::{AllocError, Global};
 /// the test asks for a key of its own or for values in a UNIQUE list, no other row is looked at; where it asks for bounds, no
 /// row outside them. The hint says where the row of the key stood, and then where the row stands that a walk has found: it
 /// saves a search, and changes nothing else.
+#[tactic(auto, using(psm_tablecode::proofs::Paths::key_fits, psm_tablecode::proofs::Paths::unique_fits, crate::proofs::Pasts::edges_of, crate::proofs::Pasts::no_edges))]
 pub(crate) fn next_met<'a>(
     alloc: Global,
     table: &'a Table,
@@ -41,6 +42,7 @@ pub(crate) fn next_met<'a>(
     match &walk.path {
         Path::Key(asked) => met_at_key(alloc, table, query, vars, key, asked),
         Path::Unique(unique) => met_by_unique(alloc, table, query, vars, unique, key),
+        Path::Members(_) => met_past(alloc, table, query, vars, &None, &None, key, hint),
         Path::Between(low, high) => met_past(alloc, table, query, vars, low, high, key, hint),
     }
 }
@@ -104,6 +106,7 @@ fn is_after(downward: bool, key: Option<&Key>, asked: &Key) -> bool
 
 // The same where the test asks for values in a UNIQUE list: the row that has them, if it is after the key and meets the test.
 // Where several have them, which is in the middle of a statement alone, it is the first of all rows after the key that does.
+#[tactic(auto, using(crate::proofs::Pasts::no_edges))]
 fn met_by_unique<'a>(
     alloc: Global,
     table: &'a Table,
@@ -123,7 +126,16 @@ fn met_by_unique<'a>(
         Matching::Nothing => Ok(None),
         Matching::One(row) => met_if_after(alloc, table, query, vars, row, key),
         Matching::Several => {
-            met_past(alloc, table, query, vars, &None, &None, key, &mut Hint::none())
+            met_past(
+                alloc,
+                table,
+                query,
+                vars,
+                &None,
+                &None,
+                key,
+                &mut Hint::none(),
+            )
         }
     }
 }

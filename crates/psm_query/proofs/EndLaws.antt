@@ -436,7 +436,7 @@ of_ends all (a ∷ sets) h c =
 
 -- without a test there are no values, so that all rows begin so
 all_of : (key : List ℕ) (vars : List Datum) (test : Option (List Line)) (firsts : List Datum) (rows : List (List Datum)) → firsts_for key vars test ≡ Some firsts → is_none test ≡ true → rows ≡ rows_beginning key firsts rows
-all_of key vars None firsts rows f e = let same : [] ≡ firsts = cc in sym (begin_all key firsts rows (ap length (sym same)))
+all_of key vars None firsts rows f e = let found : Some [] ≡ Some firsts = f in let same : [] ≡ firsts = cc in sym (begin_all key firsts rows (ap length (sym same)))
 all_of key vars (Some lines) firsts rows f e = absurd (cc)
 
 module _ (vars : List Datum) (rows : List (List Datum)) where

@@ -261,6 +261,6 @@ pub walked_beginning : {A : Type 0} (vars : List Datum) (key : List ℕ) (firsts
     → All (λ row. AreColumnsOf row key) rows → firsts_for key vars test ≡ Some firsts
     → walked (test_of (over vars) test) take rows ≡ walked (test_of (over vars) None) take (rows_beginning key firsts rows)
 walked_beginning vars key firsts test take rows there f =
-    ap (λ judge. walked judge take rows) (sym (tests_same vars test))
+    ap (λ (judge : List Datum → Result truth_value.Truth SqlState). walked judge take rows) (sym (tests_same vars test))
     ∙ walked_where (λ row. is_eq (prefix_order firsts (values_at key row))) (test_of (over vars) (folded_test vars test)) (test_of (over vars) None) take (λ row. refl) rows
     (λ k d l. let t = test_ran (get_or rows k d) vars key firsts (folded_test vars test) (there k d l) f in (t.0, t.1, t.2))

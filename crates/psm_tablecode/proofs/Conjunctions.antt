@@ -20,6 +20,7 @@ use Rattle.psm_exprcode.specs.Comparison as comparison
 use Rattle.psm_exprcode.specs.Comparison.{among, between}
 use Rattle.psm_exprcode.specs.Values.{as_truth, like}
 use Rattle.psm_exprcode.specs.Evaluated.{goes_on, line_after, ran, Outcome}
+use Rattle.psm_tablecode.specs.Members.{in_count}
 use Rattle.psm_tablecode.specs.Tests.{are_quiet, fixed, free, free_before, is_and, is_column, is_equality, is_quiet, takes}
 
 -- whether the truth values among operands are true
@@ -183,20 +184,25 @@ and_goes (Truth b ∷ Truth a ∷ os) = both_goes a b os
 some-same : (d x : Datum) → Some d ≡ Some x → d ≡ x
 some-same d x e = cc
 
+count-same : (n m : ℕ) → Some n ≡ Some m → n ≡ m
+count-same n m e = cc
+
 module _ (row vars : List Datum) where
   -- what the words for an operation say of it
   pub record Says (o : Op) : Type 0 where
     pub equal : is_equality o ≡ true → o ≡ op.Equal
     pub joins : is_and o ≡ true → o ≡ op.And
+    pub counts : (n : ℕ) → in_count o ≡ Some n → o ≡ op.In n
     pub column : (c : ℕ) → is_column c o ≡ true → o ≡ op.Column c
     pub puts : (d : Datum) → fixed vars o ≡ Some d → (os : List Operand) → applied o os row vars ≡ Went FallThrough (Value d ∷ os)
     pub quiet : (d : Datum) → fixed vars o ≡ Some d → is_quiet o ≡ true
     pub goes : is_quiet o ≡ true → (os : List Operand) → Goes o os (applied o os row vars)
 
-  other : (o : Op) → is_equality o ≡ false → is_and o ≡ false → ((c : ℕ) → is_column c o ≡ false) → fixed vars o ≡ None → is_quiet o ≡ false → Says o
-  other o e a c f j = record {
+  other : (o : Op) → is_equality o ≡ false → is_and o ≡ false → in_count o ≡ None → ((c : ℕ) → is_column c o ≡ false) → fixed vars o ≡ None → is_quiet o ≡ false → Says o
+  other o e a m c f j = record {
     equal = λ h. cc;
     joins = λ h. cc;
+    counts = λ n h. absurd cc;
     column = λ k h. let no : is_column k o ≡ false = c k in cc;
     puts = λ d h os. cc;
     quiet = λ d h. absurd cc;
@@ -204,45 +210,45 @@ module _ (row vars : List Datum) where
   }
 
   pub says : (o : Op) → Says o
-  says (op.Constant k d) = record { equal = λ h. cc; joins = λ h. cc; column = λ c h. cc; puts = λ x e os. ap (λ y. Went FallThrough (Value y ∷ os)) (some-same d x e); quiet = λ x e. refl; goes = λ h os. puts_goes (op.Constant k d) os refl (Went FallThrough (Value d ∷ os)) refl }
-  says (op.Variable i) = record { equal = λ h. cc; joins = λ h. cc; column = λ c h. cc; puts = λ x e os. ap (with_named os) e; quiet = λ x e. refl; goes = λ h os. puts_goes (op.Variable i) os refl (with_named os (slice_get vars i)) (named_puts os (slice_get vars i)) }
-  says (op.Column i) = record { equal = λ h. cc; joins = λ h. cc; column = λ c h. ap op.Column (eqb-true i c h); puts = λ x e os. cc; quiet = λ x e. refl; goes = λ h os. puts_goes (op.Column i) os refl (with_named os (slice_get row i)) (named_puts os (slice_get row i)) }
-  says op.Duplicate = other op.Duplicate refl refl (λ c. refl) refl refl
-  says op.Drop = other op.Drop refl refl (λ c. refl) refl refl
-  says op.DropBelow = other op.DropBelow refl refl (λ c. refl) refl refl
-  says op.Negate = other op.Negate refl refl (λ c. refl) refl refl
-  says op.Add = other op.Add refl refl (λ c. refl) refl refl
-  says op.Subtract = other op.Subtract refl refl (λ c. refl) refl refl
-  says op.Multiply = other op.Multiply refl refl (λ c. refl) refl refl
-  says op.Divide = other op.Divide refl refl (λ c. refl) refl refl
-  says (op.Rescale s) = other (op.Rescale s) refl refl (λ c. refl) refl refl
-  says op.Concatenate = other op.Concatenate refl refl (λ c. refl) refl refl
-  says op.CharacterLength = other op.CharacterLength refl refl (λ c. refl) refl refl
-  says op.Position = other op.Position refl refl (λ c. refl) refl refl
-  says op.SubstringFrom = other op.SubstringFrom refl refl (λ c. refl) refl refl
-  says op.SubstringFromFor = other op.SubstringFromFor refl refl (λ c. refl) refl refl
-  says (op.Trim side) = other (op.Trim side) refl refl (λ c. refl) refl refl
-  says op.Upper = other op.Upper refl refl (λ c. refl) refl refl
-  says op.Lower = other op.Lower refl refl (λ c. refl) refl refl
-  says op.Equal = record { equal = λ h. refl; joins = λ h. cc; column = λ c h. cc; puts = λ x e os. cc; quiet = λ x e. refl; goes = λ h os. puts_goes op.Equal os refl (applied op.Equal os row vars) (two_puts (_) os) }
-  says op.NotEqual = record { equal = λ h. cc; joins = λ h. cc; column = λ c h. cc; puts = λ x e os. cc; quiet = λ x e. refl; goes = λ h os. puts_goes op.NotEqual os refl (applied op.NotEqual os row vars) (two_puts (_) os) }
-  says op.Less = record { equal = λ h. cc; joins = λ h. cc; column = λ c h. cc; puts = λ x e os. cc; quiet = λ x e. refl; goes = λ h os. puts_goes op.Less os refl (applied op.Less os row vars) (two_puts (_) os) }
-  says op.LessOrEqual = record { equal = λ h. cc; joins = λ h. cc; column = λ c h. cc; puts = λ x e os. cc; quiet = λ x e. refl; goes = λ h os. puts_goes op.LessOrEqual os refl (applied op.LessOrEqual os row vars) (two_puts (_) os) }
-  says op.Greater = record { equal = λ h. cc; joins = λ h. cc; column = λ c h. cc; puts = λ x e os. cc; quiet = λ x e. refl; goes = λ h os. puts_goes op.Greater os refl (applied op.Greater os row vars) (two_puts (_) os) }
-  says op.GreaterOrEqual = record { equal = λ h. cc; joins = λ h. cc; column = λ c h. cc; puts = λ x e os. cc; quiet = λ x e. refl; goes = λ h os. puts_goes op.GreaterOrEqual os refl (applied op.GreaterOrEqual os row vars) (two_puts (_) os) }
-  says op.And = record { equal = λ h. cc; joins = λ h. refl; column = λ c h. cc; puts = λ x e os. cc; quiet = λ x e. refl; goes = λ h os. and_goes os }
-  says op.Or = record { equal = λ h. cc; joins = λ h. cc; column = λ c h. cc; puts = λ x e os. cc; quiet = λ x e. refl; goes = λ h os. puts_goes op.Or os refl (applied op.Or os row vars) (combined_puts either os) }
-  says op.Not = record { equal = λ h. cc; joins = λ h. cc; column = λ c h. cc; puts = λ x e os. cc; quiet = λ x e. refl; goes = λ h os. puts_goes op.Not os refl (applied op.Not os row vars) (not_puts os) }
-  says op.IsNull = record { equal = λ h. cc; joins = λ h. cc; column = λ c h. cc; puts = λ x e os. cc; quiet = λ x e. refl; goes = λ h os. puts_goes op.IsNull os refl (applied op.IsNull os row vars) (one_puts (λ a. comparison.truth_of (comparison.is_null a)) os) }
-  says op.Like = record { equal = λ h. cc; joins = λ h. cc; column = λ c h. cc; puts = λ x e os. cc; quiet = λ x e. refl; goes = λ h os. puts_goes op.Like os refl (applied op.Like os row vars) (like_puts os) }
-  says op.LikeEscape = other op.LikeEscape refl refl (λ c. refl) refl refl
-  says op.Between = record { equal = λ h. cc; joins = λ h. cc; column = λ c h. cc; puts = λ x e os. cc; quiet = λ x e. refl; goes = λ h os. puts_goes op.Between os refl (applied op.Between os row vars) (between_puts os) }
-  says (op.In n) = record { equal = λ h. cc; joins = λ h. cc; column = λ c h. cc; puts = λ x e os. cc; quiet = λ x e. refl; goes = λ h os. puts_goes (op.In n) os refl (applied (op.In n) os row vars) (many_puts n (λ bs. on_value (λ a below. with_truth below (Ok (among a bs)))) (λ bs os. one_puts (λ a. among a bs) os) os) }
-  says op.NullIf = other op.NullIf refl refl (λ c. refl) refl refl
-  says (op.Cast to) = other (op.Cast to) refl refl (λ c. refl) refl refl
-  says (op.Jump p) = other (op.Jump p) refl refl (λ c. refl) refl refl
-  says (op.JumpUnlessTrue p) = other (op.JumpUnlessTrue p) refl refl (λ c. refl) refl refl
-  says (op.JumpUnlessNull p) = other (op.JumpUnlessNull p) refl refl (λ c. refl) refl refl
+  says (op.Constant k d) = record { equal = λ h. cc; joins = λ h. cc; counts = λ n h. absurd cc; column = λ c h. cc; puts = λ x e os. ap (λ y. Went FallThrough (Value y ∷ os)) (some-same d x e); quiet = λ x e. refl; goes = λ h os. puts_goes (op.Constant k d) os refl (Went FallThrough (Value d ∷ os)) refl }
+  says (op.Variable i) = record { equal = λ h. cc; joins = λ h. cc; counts = λ n h. absurd cc; column = λ c h. cc; puts = λ x e os. ap (with_named os) e; quiet = λ x e. refl; goes = λ h os. puts_goes (op.Variable i) os refl (with_named os (slice_get vars i)) (named_puts os (slice_get vars i)) }
+  says (op.Column i) = record { equal = λ h. cc; joins = λ h. cc; counts = λ n h. absurd cc; column = λ c h. ap op.Column (eqb-true i c h); puts = λ x e os. cc; quiet = λ x e. refl; goes = λ h os. puts_goes (op.Column i) os refl (with_named os (slice_get row i)) (named_puts os (slice_get row i)) }
+  says op.Duplicate = other op.Duplicate refl refl refl (λ c. refl) refl refl
+  says op.Drop = other op.Drop refl refl refl (λ c. refl) refl refl
+  says op.DropBelow = other op.DropBelow refl refl refl (λ c. refl) refl refl
+  says op.Negate = other op.Negate refl refl refl (λ c. refl) refl refl
+  says op.Add = other op.Add refl refl refl (λ c. refl) refl refl
+  says op.Subtract = other op.Subtract refl refl refl (λ c. refl) refl refl
+  says op.Multiply = other op.Multiply refl refl refl (λ c. refl) refl refl
+  says op.Divide = other op.Divide refl refl refl (λ c. refl) refl refl
+  says (op.Rescale s) = other (op.Rescale s) refl refl refl (λ c. refl) refl refl
+  says op.Concatenate = other op.Concatenate refl refl refl (λ c. refl) refl refl
+  says op.CharacterLength = other op.CharacterLength refl refl refl (λ c. refl) refl refl
+  says op.Position = other op.Position refl refl refl (λ c. refl) refl refl
+  says op.SubstringFrom = other op.SubstringFrom refl refl refl (λ c. refl) refl refl
+  says op.SubstringFromFor = other op.SubstringFromFor refl refl refl (λ c. refl) refl refl
+  says (op.Trim side) = other (op.Trim side) refl refl refl (λ c. refl) refl refl
+  says op.Upper = other op.Upper refl refl refl (λ c. refl) refl refl
+  says op.Lower = other op.Lower refl refl refl (λ c. refl) refl refl
+  says op.Equal = record { equal = λ h. refl; joins = λ h. cc; counts = λ n h. absurd cc; column = λ c h. cc; puts = λ x e os. cc; quiet = λ x e. refl; goes = λ h os. puts_goes op.Equal os refl (applied op.Equal os row vars) (two_puts (_) os) }
+  says op.NotEqual = record { equal = λ h. cc; joins = λ h. cc; counts = λ n h. absurd cc; column = λ c h. cc; puts = λ x e os. cc; quiet = λ x e. refl; goes = λ h os. puts_goes op.NotEqual os refl (applied op.NotEqual os row vars) (two_puts (_) os) }
+  says op.Less = record { equal = λ h. cc; joins = λ h. cc; counts = λ n h. absurd cc; column = λ c h. cc; puts = λ x e os. cc; quiet = λ x e. refl; goes = λ h os. puts_goes op.Less os refl (applied op.Less os row vars) (two_puts (_) os) }
+  says op.LessOrEqual = record { equal = λ h. cc; joins = λ h. cc; counts = λ n h. absurd cc; column = λ c h. cc; puts = λ x e os. cc; quiet = λ x e. refl; goes = λ h os. puts_goes op.LessOrEqual os refl (applied op.LessOrEqual os row vars) (two_puts (_) os) }
+  says op.Greater = record { equal = λ h. cc; joins = λ h. cc; counts = λ n h. absurd cc; column = λ c h. cc; puts = λ x e os. cc; quiet = λ x e. refl; goes = λ h os. puts_goes op.Greater os refl (applied op.Greater os row vars) (two_puts (_) os) }
+  says op.GreaterOrEqual = record { equal = λ h. cc; joins = λ h. cc; counts = λ n h. absurd cc; column = λ c h. cc; puts = λ x e os. cc; quiet = λ x e. refl; goes = λ h os. puts_goes op.GreaterOrEqual os refl (applied op.GreaterOrEqual os row vars) (two_puts (_) os) }
+  says op.And = record { equal = λ h. cc; joins = λ h. refl; counts = λ n h. absurd cc; column = λ c h. cc; puts = λ x e os. cc; quiet = λ x e. refl; goes = λ h os. and_goes os }
+  says op.Or = record { equal = λ h. cc; joins = λ h. cc; counts = λ n h. absurd cc; column = λ c h. cc; puts = λ x e os. cc; quiet = λ x e. refl; goes = λ h os. puts_goes op.Or os refl (applied op.Or os row vars) (combined_puts either os) }
+  says op.Not = record { equal = λ h. cc; joins = λ h. cc; counts = λ n h. absurd cc; column = λ c h. cc; puts = λ x e os. cc; quiet = λ x e. refl; goes = λ h os. puts_goes op.Not os refl (applied op.Not os row vars) (not_puts os) }
+  says op.IsNull = record { equal = λ h. cc; joins = λ h. cc; counts = λ n h. absurd cc; column = λ c h. cc; puts = λ x e os. cc; quiet = λ x e. refl; goes = λ h os. puts_goes op.IsNull os refl (applied op.IsNull os row vars) (one_puts (λ a. comparison.truth_of (comparison.is_null a)) os) }
+  says op.Like = record { equal = λ h. cc; joins = λ h. cc; counts = λ n h. absurd cc; column = λ c h. cc; puts = λ x e os. cc; quiet = λ x e. refl; goes = λ h os. puts_goes op.Like os refl (applied op.Like os row vars) (like_puts os) }
+  says op.LikeEscape = other op.LikeEscape refl refl refl (λ c. refl) refl refl
+  says op.Between = record { equal = λ h. cc; joins = λ h. cc; counts = λ n h. absurd cc; column = λ c h. cc; puts = λ x e os. cc; quiet = λ x e. refl; goes = λ h os. puts_goes op.Between os refl (applied op.Between os row vars) (between_puts os) }
+  says (op.In n) = record { equal = λ h. cc; joins = λ h. cc; counts = λ m h. ap op.In (count-same n m h); column = λ c h. cc; puts = λ x e os. cc; quiet = λ x e. refl; goes = λ h os. puts_goes (op.In n) os refl (applied (op.In n) os row vars) (many_puts n (λ bs. on_value (λ a below. with_truth below (Ok (among a bs)))) (λ bs os. one_puts (λ a. among a bs) os) os) }
+  says op.NullIf = other op.NullIf refl refl refl (λ c. refl) refl refl
+  says (op.Cast to) = other (op.Cast to) refl refl refl (λ c. refl) refl refl
+  says (op.Jump p) = other (op.Jump p) refl refl refl (λ c. refl) refl refl
+  says (op.JumpUnlessTrue p) = other (op.JumpUnlessTrue p) refl refl refl (λ c. refl) refl refl
+  says (op.JumpUnlessNull p) = other (op.JumpUnlessNull p) refl refl refl (λ c. refl) refl refl
 
   -- the lines of which the first is the next
   abbrev pub run : ℕ → List Line → List Operand → Outcome

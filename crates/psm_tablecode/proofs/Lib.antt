@@ -8,8 +8,12 @@ pub mod Fitting
 pub mod FoldLaws
 pub mod FoldSteps
 pub mod KeyWalks
+pub mod Keys
 pub mod LookUps
 pub mod Made
+pub mod MemberLaws
+pub mod MemberLines
+pub mod MemberWalks
 pub mod Paths
 pub mod Ranges
 pub mod RemainingRowsLaws

@@ -1,7 +1,8 @@
 -- What a test asks of a UNIQUE list: values that aren't null, and the first list for whose columns it has them.
 use Rattle.std.proofs.Common.{◌≡◌, ℕ, suc, ◌+◌, ◌<◌, Bool, true, false, ◌||◌, List, [], ◌∷◌, ◌++◌, length, drop, get_or, refl, ap, sym, subst, ◌∙◌, arith, Option, Some, None}
-use Rattle.std.specs.Prelude.{nat_le, IfSome, if◌then◌else◌}
+use Rattle.std.specs.Prelude.{nat_le, option_map, All, IfSome, if◌then◌else◌}
 use Rattle.std.proofs.Math.Seq.{drop-length}
+use Rattle.std.proofs.lemmas.List.Elements.{All-nil}
 use Rattle.psm_value.specs.declared.datum.Datum.{Datum}
 use Rattle.psm_exprcode.specs.declared.op.Line.{Line}
 use Rattle.psm_table.specs.Definition.{IsKey}
@@ -11,8 +12,10 @@ use Rattle.psm_tablecode.specs.declared.walking.Unique.{Unique}
 use Rattle.psm_tablecode.specs.declared.walking.Path.{Path}
 use Rattle.psm_tablecode.specs.Asked.{columns_in, each_filled, each_sought, filled, most_lists, over_all, path_asked, path_by, path_in, unique_asked, unique_from, unique_in, unique_or, unique_with, IsLookUp, IsPath}
 use Rattle.psm_tablecode.specs.Bounds.{bounds_of}
+use Rattle.psm_tablecode.specs.Members.{keys_in, keys_of, members_sought, AreAscending}
 use Rattle.psm_tablecode.specs.Tests.{are_quiet, sought, with_first}
 use Rattle.psm_tablecode.proofs.Collecting.{first_of}
+use Rattle.psm_tablecode.proofs.Keys.{values_all, values_ascend}
 use Rattle.psm_tablecode.proofs.Seeking.{each_end, each_first, each_long, each_next, each_none, Seeks}
 
 -- ---- the values of the columns of a list, one after another
@@ -135,14 +138,31 @@ asked_from lists vars lines unique e =
 
 -- ---- paths
 
+-- keys for which lines ask by IN have one column, and ascend
+keys_fit : (columns : List ℕ) (vars : List Datum) (lines : List Line) (keys : List (List Datum)) → keys_in columns vars lines ≡ Some keys → All (λ k. length k ≡ length columns) keys × AreAscending keys
+keys_fit [] vars lines keys e = absurd (cc)
+keys_fit (c ∷ []) vars lines keys e = by (members_sought c vars lines) e
+  where
+    none : AreAscending []
+    none = λ i j d l m. absurd (omega (arith, m))
+
+    by : (o : Option (List Datum)) → option_map keys_of o ≡ Some keys → All (λ k. length k ≡ 1) keys × AreAscending keys
+    by None f = absurd (cc)
+    by (Some ds) f =
+        let same : keys_of ds ≡ keys = cc in
+        subst (λ ks. All (λ k. length k ≡ 1) ks × AreAscending ks) same (values_all (λ k. length k ≡ 1) [] ds (λ d. refl) (All-nil (λ k. length k ≡ 1)), values_ascend [] ds none)
+keys_fit (c ∷ d ∷ columns) vars lines keys e = absurd (cc)
+
 module _ (def : TableDef) (vars : List Datum) (lines : List Line) where
-  fits_by : (key : Option (List Datum)) (unique : Option Unique) → IfSome key (IsKey def) → unique_in def.unique vars lines ≡ unique → IsPath def (path_by key unique (bounds_of def.key vars lines))
-  fits_by (Some key) unique h e = h
-  fits_by None (Some unique) h e = looks_up vars lines def.unique unique (if_some (nat_le (length def.unique) most_lists) (unique_from 0 def.unique vars lines) unique e).1
-  fits_by None None h e = tt
+  fits_by : (key : Option (List Datum)) (unique : Option Unique) (keys : Option (List (List Datum))) → IfSome key (IsKey def) → unique_in def.unique vars lines ≡ unique → keys_in def.key vars lines ≡ keys
+      → IsPath def (path_by key unique keys (bounds_of def.key vars lines))
+  fits_by (Some key) unique keys h e f = h
+  fits_by None (Some unique) keys h e f = looks_up vars lines def.unique unique (if_some (nat_le (length def.unique) most_lists) (unique_from 0 def.unique vars lines) unique e).1
+  fits_by None None (Some keys) h e f = keys_fit def.key vars lines keys f
+  fits_by None None None h e f = tt
 
   fits_if : (b : Bool) → IsPath def (if b then path_in def vars lines else over_all)
-  fits_if true = fits_by (each_sought def.key vars lines) (unique_in def.unique vars lines) (each_long (λ c. sought c vars lines) def.key) refl
+  fits_if true = fits_by (each_sought def.key vars lines) (unique_in def.unique vars lines) (keys_in def.key vars lines) (each_long (λ c. sought c vars lines) def.key) refl refl
   fits_if false = tt
 
 asked_fits : (def : TableDef) (vars : List Datum) (test : Option (List Line)) → IsPath def (path_asked def vars test)

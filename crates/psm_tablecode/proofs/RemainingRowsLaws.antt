@@ -15,14 +15,17 @@ use Rattle.psm_table.specs.Matching.{at_most_one, rows_with}
 use Rattle.psm_table.specs.Queries.{in_walk}
 use Rattle.psm_table.specs.Table.{keyed, Contents, IsTable}
 use Rattle.psm_table.specs.Unique.{equal_values}
-use Rattle.psm_tablecode.specs.Asked.{columns_in, rows_at, rows_of, rows_on, rows_or}
+use Rattle.psm_tablecode.specs.Asked.{columns_in, rows_among, rows_at, rows_of, rows_on, rows_or}
 use Rattle.psm_tablecode.specs.Edges.{lies_within, rows_between}
+use Rattle.psm_tablecode.specs.Members.{is_among, AreAscending}
+use Rattle.psm_tablecode.specs.KeyRows.{rows_at_keys}
 use Rattle.psm_tablecode.specs.RemainingRows.{cut_edge}
 use Rattle.psm_tablecode.specs.declared.walking.Edge.{Edge}
 use Rattle.psm_tablecode.specs.declared.walking.Path.{Path}
 use Rattle.psm_tablecode.specs.declared.walking.Path.TheVariants as path
 use Rattle.psm_tablecode.specs.declared.walking.Unique.{Unique}
 use Rattle.psm_tablecode.specs.declared.walking.Walk.{Walk}
+use Rattle.psm_tablecode.proofs.MemberWalks.{of_keys}
 
 -- ---- what is walked over
 
@@ -31,6 +34,9 @@ of_key t walk key o e f = ap (λ (r : Option (List Datum)). cons_option r []) f 
 
 pub of_unique : (t : Contents) (walk : Walk) (unique : Unique) (rows : List (List Datum)) → walk.path ≡ path.Unique unique → rows ≡ rows_at t walk.downward unique → rows ≡ rows_of t walk
 of_unique t walk unique rows e f = f ∙ sym (ap (rows_on t walk.downward) e)
+
+pub of_members : (t : Contents) (walk : Walk) (keys rows : List (List Datum)) → walk.path ≡ path.Members keys → AreAscending keys → IsTable t → rows ≡ rows_at_keys t (in_walk walk.downward keys) → rows ≡ rows_of t walk
+of_members t walk keys rows e up is f = of_keys t walk.downward keys rows up is.ascend f ∙ sym (ap (rows_on t walk.downward) e)
 
 -- rows between cuts are those between the edges that they are made from
 cut_rows : (columns : List ℕ) (low high : Option Cut) (rows : List (List Datum)) → cuts.rows_between columns low high rows ≡ rows_between columns (option_map cut_edge low) (option_map cut_edge high) rows
@@ -84,6 +90,7 @@ on_fit t downward (path.Key key) h = find_all (IsRow t.def) (λ row. is_eq (row_
 on_fit t downward (path.Unique u) h =
     let columns : List ℕ = columns_in t.def.unique u.list in
     rows_or-all (IsRow t.def) (rows_with columns u.values t.rows) (in_walk downward t.rows) (filter_all (IsRow t.def) (λ row. equal_values u.values (values_at columns row)) t.rows h) (walk_all (IsRow t.def) downward t.rows h)
+on_fit t downward (path.Members keys) h = walk_all (IsRow t.def) downward (rows_among t.def.key keys t.rows) (filter_all (IsRow t.def) (λ row. is_among keys (values_at t.def.key row)) t.rows h)
 on_fit t downward (path.Between low high) h = walk_all (IsRow t.def) downward (rows_between t.def.key low high t.rows) (filter_all (IsRow t.def) (λ row. lies_within low high (values_at t.def.key row)) t.rows h)
 
 pub coming_fit : (t : Contents) (walk : Walk) → IsTable t → All (IsRow t.def) (rows_of t walk)

@@ -14,6 +14,7 @@ use Rattle.psm_tablecode.specs.declared.walking.Path.TheVariants as path
 use Rattle.psm_tablecode.specs.Aims.{is_of_two, made_for, maker, of_four, of_three, seen, width}
 use Rattle.psm_tablecode.specs.Asked.{each_of, each_sought, path_by, unique_in}
 use Rattle.psm_tablecode.specs.Bounds.{bounds_by, bounds_of, bounds_with, end_of, high_sought, low_sought, of_range, Bounds, End}
+use Rattle.psm_tablecode.specs.Members.{keys_in}
 use Rattle.psm_tablecode.specs.Tests.{first_four, first_three, fixed, free, is_column, is_equality, made, made_equal, sought, with_first}
 use Rattle.psm_tablecode.proofs.Collecting.{first_of}
 use Rattle.psm_tablecode.proofs.Windows as windows
@@ -190,15 +191,15 @@ module _ (vars : List Datum) (lines : List Line) (columns : List ℕ) where
       subst (Asks (at + 1)) (sym m) (record { key = each_next (λ c. sought c vars lines) columns at c l e d done (sym s) h.key; bounds = bounds_next at c l e d done (sym s) h.bounds })
 
   abbrev Path_by : List (List ℕ) → Option (List Datum) → Bounds → Path
-  Path_by lists key b = path_by key (unique_in lists vars lines) b
+  Path_by lists key b = path_by key (unique_in lists vars lines) (keys_in columns vars lines) b
 
   pub seeks_none : (at c : ℕ) (done : List Datum) (lists : List (List ℕ)) (p : Path) → at < length columns → c ≡ get_or columns at c → None ≡ sought c vars lines
-      → p ≡ path_by None (unique_in lists vars lines) (bounds_with done (low_sought c vars lines) (high_sought c vars lines)) → Asks at done
-      → p ≡ path_by (each_sought columns vars lines) (unique_in lists vars lines) (bounds_of columns vars lines)
+      → p ≡ path_by None (unique_in lists vars lines) (keys_in columns vars lines) (bounds_with done (low_sought c vars lines) (high_sought c vars lines)) → Asks at done
+      → p ≡ path_by (each_sought columns vars lines) (unique_in lists vars lines) (keys_in columns vars lines) (bounds_of columns vars lines)
   seeks_none at c done lists p l e s w h =
       w ∙ (λ i. Path_by lists (sym (each_none (λ c. sought c vars lines) columns at c l e done (sym s) h.key) i) (sym (bounds_none at c l e done (sym s) h.bounds) i))
 
-  pub seeks_end : (done : List Datum) (lists : List (List ℕ)) → Asks (length columns) done → path.Key done ≡ path_by (each_sought columns vars lines) (unique_in lists vars lines) (bounds_of columns vars lines)
+  pub seeks_end : (done : List Datum) (lists : List (List ℕ)) → Asks (length columns) done → path.Key done ≡ path_by (each_sought columns vars lines) (unique_in lists vars lines) (keys_in columns vars lines) (bounds_of columns vars lines)
   seeks_end done lists h = sym (ap (λ (o : Option (List Datum)). Path_by lists o (bounds_of columns vars lines)) (each_end (λ c. sought c vars lines) columns done h.key))
 
 -- a key has a value for each of its columns

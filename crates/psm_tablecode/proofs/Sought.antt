@@ -38,7 +38,7 @@ equal_certain Equal h = refl
 equal_certain Greater h = cc
 
 -- whether two values are equal
-abbrev equality : Datum → Datum → truth_value.Truth
+abbrev pub equality : Datum → Datum → truth_value.Truth
 equality Null b = Unknown
 equality (Num a) Null = Unknown
 equality (Num a) (Num b) = truth_of (is_eq (data_order (Num a) (Num b)))
@@ -56,7 +56,7 @@ equality_put (Text a) Null os row vars = refl
 equality_put (Text a) (Num b) os row vars = refl
 equality_put (Text a) (Text b) os row vars = refl
 
-certain_equal : (a b : Datum) → is_certain (equality a b) ≡ true → data_order a b ≡ Equal
+pub certain_equal : (a b : Datum) → is_certain (equality a b) ≡ true → data_order a b ≡ Equal
 certain_equal Null b h = cc
 certain_equal (Num a) Null h = cc
 certain_equal (Num a) (Num b) h = equal_certain (data_order (Num a) (Num b)) h

@@ -6,6 +6,8 @@ pub mod Codes
 pub mod Edges
 pub mod Faults
 pub mod Folding
+pub mod KeyRows
+pub mod Members
 pub mod NewRows
 pub mod RemainingRows
 pub mod Rows

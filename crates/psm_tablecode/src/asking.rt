@@ -7,9 +7,11 @@ ghost use Rattle.psm_tablecode.specs.Asked.{between, each_filled, each_sought, f
 ghost use Rattle.psm_tablecode.specs.Bounds as bounds;
 ghost use Rattle.psm_tablecode.specs.Edges as edges;
 ghost use Rattle.psm_tablecode.specs.Folding.{folded_test};
+ghost use Rattle.psm_tablecode.specs.Members.{keys_in};
 ghost use Rattle.psm_tablecode.specs.Tests as asked;
 
 use crate::folding::folded;
+use crate::members::keys_in;
 use crate::walking::{Edge, Path, Unique};
 use psm_exprcode::{ExprCode, Op, RawExpr};
 use psm_table::{Key, List, Parts, TableDef};
@@ -39,7 +41,8 @@ pub(crate) struct Found<'a> {
 
 /// The path for which a test asks over a table, once it is folded where it could raise a condition: to the row of a key, where
 /// its predicates raise none and some that have to be true make each column of the key equal to a constant or a variable;
-/// else to the row with those values in a UNIQUE list, where they do so with each of its columns; else over the rows between
+/// else to the row with those values in a UNIQUE list, where they do so with each of its columns; else to the rows of some keys,
+/// where IN makes the one column of the key one of constants and variables; else over the rows between
 /// edges, where they do so with the first columns of the key, or give a range of the next one; else over all rows. It takes
 /// memory for the key, the values or the edges, and for values and lines where operations are folded.
 pub(crate) fn path_asked(
@@ -119,7 +122,7 @@ fn path_sought(
     lines: &RawExpr,
     vars: &[Datum],
 ) -> Result<Path, AllocError>
-    ensures { IfOk result (λ path. path ≡ path_by (each_sought columns.now vars.now lines.now) (unique_in lists.now vars.now lines.now) (bounds.bounds_of columns.now vars.now lines.now)) }
+    ensures { IfOk result (λ path. path ≡ path_by (each_sought columns.now vars.now lines.now) (unique_in lists.now vars.now lines.now) (keys_in columns.now vars.now lines.now) (bounds.bounds_of columns.now vars.now lines.now)) }
 {
     let mut firsts = Vec::new(alloc);
     for column in columns {
@@ -127,7 +130,7 @@ fn path_sought(
             Some(value) => firsts.push(value.copy(alloc)?)?,
             None => {
                 let firsts = firsts.as_slice();
-                return Ok(path_without_key(alloc, firsts, *column, lists, lines, vars)?);
+                return Ok(path_without_key(alloc, columns, firsts, *column, lists, lines, vars)?);
             }
         }
     }
@@ -137,16 +140,20 @@ fn path_sought(
 // The same where the key has a column without a value, after some first values.
 fn path_without_key(
     alloc: Global,
+    columns: &[u32],
     firsts: &[Datum],
     column: u32,
     lists: &[List<u32>],
     lines: &RawExpr,
     vars: &[Datum],
 ) -> Result<Path, AllocError>
-    ensures { IfOk result (λ path. path ≡ path_by None (unique_in lists.now vars.now lines.now) (bounds.bounds_with firsts.now (bounds.low_sought column vars.now lines.now) (bounds.high_sought column vars.now lines.now))) }
+    ensures { IfOk result (λ path. path ≡ path_by None (unique_in lists.now vars.now lines.now) (keys_in columns.now vars.now lines.now) (bounds.bounds_with firsts.now (bounds.low_sought column vars.now lines.now) (bounds.high_sought column vars.now lines.now))) }
 {
-    match unique_sought(alloc, lists, lines, vars)? {
-        Some(unique) => Ok(Path::Unique(unique)),
+    if let Some(unique) = unique_sought(alloc, lists, lines, vars)? {
+        return Ok(Path::Unique(unique));
+    }
+    match keys_in(alloc, columns, lines, vars)? {
+        Some(keys) => Ok(Path::Members(keys)),
         None => {
             let low = end_sought(Aim::Low, Aim::LowOfTwo, column, lines, vars);
             let high = end_sought(Aim::High, Aim::HighOfTwo, column, lines, vars);
@@ -479,7 +486,7 @@ fn four_at<'a>(
 }
 
 // How many operands needn't be true before the line that ends at an index, with those before the lines after it.
-fn free_after(lines: &RawExpr, at: usize, free: u128) -> u128
+pub(crate) fn free_after(lines: &RawExpr, at: usize, free: u128) -> u128
     requires within { 1 ≤ at }
     requires after { free ≡ asked.free (drop at lines.now) }
     requires room { free < 2 ^ 127 }

@@ -6,7 +6,9 @@ mod asking;
 mod beginning;
 mod evaluating;
 mod folding;
+mod keys_left;
 mod laws;
+mod members;
 mod raising;
 mod typing;
 mod walking;
@@ -14,7 +16,10 @@ mod walking;
 pub use asking::is_column;
 pub use beginning::firsts_for;
 pub use evaluating::{meets, taken, truth, value, values};
-pub use laws::{access_between_bounds, access_by_key, access_by_unique, constant_folding};
+pub use keys_left::KeysLeft;
+pub use laws::{
+    access_between_bounds, access_by_key, access_by_keys, access_by_unique, constant_folding,
+};
 pub use psm_cond::DataFault;
 pub use psm_exprcode::{Aggregate, ExprCode, Items, Operand, Query, SetFunction};
 pub use raising::raised;

@@ -7,8 +7,9 @@ ghost use Rattle.psm_tablecode.specs.Asked.{rows_at, rows_of, walk_for, IsLookUp
 ghost use Rattle.psm_tablecode.specs.RemainingRows.{cut_edge, rows_coming};
 
 use crate::asking::path_asked;
+use crate::keys_left::KeysLeft;
 use psm_exprcode::ExprCode;
-use psm_table::{Cut, Key, Matching, Row, RowsLeft, Table};
+use psm_table::{Cut, Key, List, Matching, Row, RowsLeft, Table};
 use psm_value::Datum;
 use std::alloc::{AllocError, Global};
 
@@ -46,6 +47,8 @@ pub enum Path {
     Key(Key),
     /// The one row that a look-up finds.
     Unique(Unique),
+    /// The rows of some keys, which ascend.
+    Members(List<Key>),
     /// The rows between two edges: without the first from the first row on, without the second up to the last row.
     Between(Option<Edge>, Option<Edge>),
 }
@@ -87,14 +90,16 @@ pub fn walk_of(
 pub enum Coming<'a> {
     /// At most one row.
     One(Option<&'a Row>),
+    /// The rows of some keys.
+    Keys(KeysLeft<'a>),
     /// Rows of a table.
     All(RowsLeft<'a>),
 }
 
 impl<'a> Coming<'a> {
     /// All rows of a walk over a table. It takes no memory.
-    #[tactic(auto, using(crate::proofs::RemainingRowsLaws::of_key, crate::proofs::RemainingRowsLaws::of_unique, crate::proofs::RemainingRowsLaws::of_all, crate::proofs::RemainingRowsLaws::coming_fit))]
-    pub fn of(table: &'a Table, walk: &Walk) -> Coming<'a>
+    #[tactic(auto, using(crate::proofs::Paths::key_fits, crate::proofs::Paths::unique_fits, crate::proofs::Paths::members_are_keys, crate::proofs::Paths::members_ascend, crate::proofs::RemainingRowsLaws::of_key, crate::proofs::RemainingRowsLaws::of_unique, crate::proofs::RemainingRowsLaws::of_members, crate::proofs::RemainingRowsLaws::of_all, crate::proofs::RemainingRowsLaws::coming_fit))]
+    pub fn of(table: &'a Table, walk: &'a Walk) -> Coming<'a>
         requires { IsPath table.now.contents.def walk.now.path }
         ensures rows { rows_coming result ≡ rows_of table.now.contents walk.now }
         ensures fit { All (IsRow table.now.contents.def) (rows_of table.now.contents walk.now) }
@@ -103,6 +108,7 @@ impl<'a> Coming<'a> {
         match &walk.path {
             Path::Key(key) => Coming::One(table.get(key)),
             Path::Unique(unique) => Coming::found(table, unique, walk.downward),
+            Path::Members(keys) => Coming::Keys(KeysLeft::of(table, keys.items(), walk.downward)),
             Path::Between(low, high) => {
                 Coming::All(table.rows_between(cut_at(low), cut_at(high), walk.downward))
             }
@@ -121,12 +127,13 @@ impl<'a> Coming<'a> {
         }
     }
 
-    /// The next row. It takes no memory, and searches for none.
+    /// The next row. It takes no memory. Only among the rows of some keys does it search.
     pub fn next(&mut self) -> Option<&'a Row>
         ensures { MatchOption result (rows_coming self.old ≡ []) (λ row. rows_coming self.old ≡ row.now ∷ rows_coming self.new) }
     {
         match self {
             Coming::One(row) => row.take(),
+            Coming::Keys(keys) => keys.next(),
             Coming::All(rows) => rows.next(),
         }
     }

@@ -13,4 +13,4 @@ pub returns-clause-walk : goal.returns-clause-walk
 returns-clause-walk c = λ t downward test vars take. walked_within t vars take downward test
 
 pub returns-clause-rows : goal.returns-clause-rows
-returns-clause-rows c = λ t downward test vars bounds k u b. rows_bounded t vars downward (folded_test vars test) bounds k u b
+returns-clause-rows c = λ t downward test vars bounds k u m b. rows_bounded t vars downward (folded_test vars test) bounds k u m b
