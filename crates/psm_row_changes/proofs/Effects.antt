@@ -8,13 +8,14 @@ use Rattle.psm_table.specs.Rows.{without}
 use Rattle.psm_table.specs.Table.{keyed, without_row, Contents, IsTable}
 use Rattle.psm_table.proofs.Undo.{whole}
 use Rattle.psm_store.specs.declared.store.Mark.{Mark}
-use Rattle.psm_store.specs.Marks.{defs_of, Keeps}
+use Rattle.psm_store.specs.Marks.{defs_of, AnyMark, IsNewMark, IsOutside, Keeps}
 use Rattle.psm_store.specs.RowCalls.{changed_at, put_table}
 use Rattle.psm_store.proofs.Changes.{changed_twice, get-changed_at}
 use Rattle.std.specs.declared.alloc.AllocError.{AllocError}
-use Rattle.std.proofs.lemmas.List.{take-append-drop}
+use Rattle.std.proofs.lemmas.List.{length-map, take-append-drop}
+use Rattle.std.proofs.lemmas.List.Elements.{All-head}
 use Rattle.psm_table.specs.Table.{most_rows, with_row}
-use Rattle.psm_row_changes.specs.Rows.{changed_if, fit_in, fits_in, with_rows, without_all, without_keys}
+use Rattle.psm_row_changes.specs.Rows.{changed_if, fit_in, fits_in, kept_if, with_rows, without_all, without_keys, IsWhole}
 use Rattle.std.specs.declared.cmp.Ordering.TheVariants.{Equal}
 use Rattle.psm_table.specs.Key.{row_order}
 use Rattle.psm_row_changes.proofs.InPlace.{changed_row}
@@ -39,6 +40,27 @@ changed_alike f g h tables t = alike (slice_get tables t) where
 -- a change of the table that is there
 pub changed_is : (f : Contents → Contents) (tables : List Contents) (t : ℕ) (c : Contents) → slice_get tables t ≡ Some c → changed_at f tables t ≡ slice_set tables t (f c)
 changed_is f tables t c e = ap (λ o. put_table tables t (option_map f o)) e
+
+-- what is said of a table that was changed, and what was said of it before
+module _ (f : Contents → Contents) (old new : List Contents) (t : ℕ) (e : new ≡ changed_at f old t) (P : Contents → Type 0) where
+  at_new : slice_get new t ≡ option_map f (slice_get old t)
+  at_new = ap (λ l. slice_get l t) e ∙ get-changed_at f old t
+
+  pub said_after : IfSome (slice_get old t) (λ c. P (f c)) → IfSome (slice_get new t) P
+  said_after h = subst (λ o. IfSome o P) (sym at_new) (by (slice_get old t) h) where
+    by : (o : Option Contents) → IfSome o (λ c. P (f c)) → IfSome (option_map f o) P
+    by None h = h
+    by (Some c) h = h
+
+  pub said_before : IfSome (slice_get new t) P → IfSome (slice_get old t) (λ c. P (f c))
+  said_before h = by (slice_get old t) (subst (λ o. IfSome o P) at_new h) where
+    by : (o : Option Contents) → IfSome (option_map f o) P → IfSome o (λ c. P (f c))
+    by None h = h
+    by (Some c) h = h
+
+-- where the definitions stay, so does the number of tables
+pub there_still : (old new : List Contents) (t : ℕ) → defs_of new ≡ defs_of old → t < length old → t < length new
+there_still old new t e h = omega (arith, h, ap length e, length-map old (λ (c : Contents). c.def), length-map new (λ (c : Contents). c.def))
 
 -- one that changes nothing
 pub set_same : (tables : List Contents) (t : ℕ) (c : Contents) → slice_get tables t ≡ Some c → slice_set tables t c ≡ tables
@@ -106,11 +128,45 @@ module _ (holds_a holds_b holds_c : Mark → Type 0) (at_a at_b at_c : Mark → 
   pub keeps_on : (These : Mark → Type 0) → Keeps These holds_a at_a holds_b at_b → Keeps These holds_b at_b holds_c at_c → Keeps These holds_a at_a holds_c at_c
   keeps_on These f g m h t = let p = f m h t in let q = g m p.0 t in (q.0, q.1 ∙ p.1)
 
+-- a change under a mark of its own
+module _ (count : ℕ) (tables : List Contents) (holds_a holds_b holds_c : Mark → Type 0) (at_b at_c : Mark → List Contents) (mark : Mark)
+    (opened : IsNewMark count tables holds_a holds_b at_b mark) (changed : Keeps AnyMark holds_b at_b holds_c at_c) where
+  pub mark_held : holds_c mark
+  mark_held = (changed mark opened.held tt).0
+
+  pub mark_stands : at_c mark ≡ tables
+  mark_stands = (changed mark opened.held tt).1 ∙ opened.stands
+
+  -- once the mark is closed, those that were held before it stay as they were
+  pub keeps_around : (at_a : Mark → List Contents) (holds_d : Mark → Type 0) (at_d : Mark → List Contents) → ((m : Mark) → holds_a m → m.depth < count) → Keeps AnyMark holds_a at_a holds_b at_b → Keeps (IsOutside mark) holds_c at_c holds_d at_d → Keeps AnyMark holds_a at_a holds_d at_d
+  keeps_around at_a holds_d at_d below first last m h t =
+      let p = first m h tt in
+      let q = changed m p.0 tt in
+      let r = last m q.0 (subst (λ n. m.depth < n) (sym opened.deepest) (below m h), opened.last m h) in
+      (r.0, r.1 ∙ q.1 ∙ p.1)
+
+-- a change that is done or put back
+pub kept_changed : (r : Result Bool AllocError) (f : Contents → Contents) (old opened now was new : List Contents) (t : ℕ) → opened ≡ old → was ≡ old
+    → IfOk r (λ b. b ≡ true → now ≡ changed_at f opened t) → new ≡ kept_if r now was → new ≡ changed_if r f old t
+kept_changed (Ok true) f old opened now was new t o w h e = e ∙ h refl ∙ ap (λ l. changed_at f l t) o
+kept_changed (Ok false) f old opened now was new t o w h e = e ∙ w
+kept_changed (Err error) f old opened now was new t o w h e = e ∙ w
+
 -- what is said of each of a list is said of one
 pub one_of : (P : TableDef → List Datum → Type 0) (o : Option Contents) (rows : List (List Datum)) (i : ℕ) (row : List Datum) → i < length rows → row ≡ get_or rows i row
     → IfSome o (λ c. All (P c.def) rows) → IfSome o (λ c. P c.def row)
 one_of P None rows i row l e h = tt
 one_of P (Some c) rows i row l e h = subst (P c.def) (sym e) (h i row l)
+
+-- a row by itself
+pub whole_one : (o : Option Contents) (row : List Datum) → IfSome o (λ c. All (IsWhole c.def) (row ∷ [])) → IfSome o (λ c. IsWhole c.def row)
+whole_one None row h = tt
+whole_one (Some c) row h = All-head (IsWhole c.def) row [] h
+
+pub few_alone : (o : Option Contents) (keys : List (List Datum)) → keys ≡ [] → IfSome o (λ c. length (without_keys keys c).rows + 1 ≤ most_rows) → IfSome o (λ c. length c.rows < most_rows)
+few_alone None keys e h = tt
+few_alone (Some c) keys e h =
+    let bound : length c.rows + 1 ≤ most_rows = subst (λ (ks : List (List Datum)). length (without_keys ks c).rows + 1 ≤ most_rows) e h in omega (arith, bound)
 
 -- ---- rows that are put in
 

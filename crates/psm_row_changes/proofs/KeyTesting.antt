@@ -27,7 +27,7 @@ use Rattle.psm_table.proofs.Ordered.{in_order-ascending}
 use Rattle.psm_table.proofs.Rules.{all-in_order, both, first_true, second_true}
 use Rattle.psm_store.specs.RowCalls.{changed_at, put_table}
 use Rattle.psm_row_changes.specs.declared.seeking.Sought.{Sought}
-use Rattle.psm_row_changes.specs.KeyTests.{adds_only, by_values, changes_all, found_in, holds_late, is_late, refers_early, replaces, replaces_late, stays, values_new, IsSought, Matched, IsDecided}
+use Rattle.psm_row_changes.specs.KeyTests.{adds_only, by_values, changes_all, found_in, holds_late, is_late, is_there, refers_early, replaces, replaces_late, stays, values_new, IsSought, Matched, IsDecided}
 use Rattle.psm_row_changes.specs.Rows.{changed_if, fit_in, keys_of_rows, with_rows, without_keys, AreInPlace, IsWhole, TakesRows}
 use Rattle.psm_row_changes.proofs.Effects.{changed_is, said, set_same}
 use Rattle.psm_row_changes.proofs.Leftover.{all-left, and_where, ascending-all, rows_in_order}
@@ -340,6 +340,32 @@ columns_there tables n columns c here h =
     let found : Some c.def ≡ Some h.0 = sym (slice_get-map (λ (x : Contents). x.def) tables n ∙ ap (option_map (λ (x : Contents). x.def)) here) ∙ h.1 in
     let same : h.0 ≡ c.def = cc in
     subst (λ (def : TableDef). All (λ i. i < length def.columns) columns) same h.2
+
+pub late_to : (t : ℕ) (own : Option (List ℕ)) (adds : Bool) (key : ForeignKey) → is_late t own adds key ≡ true → key.to ≡ t
+late_to t own adds key e = eqb-true key.to t (first_true (nat_eq key.to t) (not (stays own key) && (nat_eq key.from t || not adds)) e)
+
+-- a constraint that is tested by a walk over its tables, and one that is not tested
+module _ (tables : List Contents) (t : ℕ) (adds : Bool) (key : ForeignKey) where
+  pub walked : (from to : Contents) → slice_get tables key.from ≡ Some from → slice_get tables key.to ≡ Some to → is_late t None adds key ≡ true
+      → (r : Result Bool AllocError) → IfOk r (λ b. b ≡ list_all (is_referred key.columns key.target to.rows) from.rows) → IfOk r (λ b. b ≡ holds_late t None adds (rows_in tables) key)
+  walked from to f g late (Ok b) h =
+      h ∙ ap (λ (l : List Row). list_all (is_referred key.columns key.target l) from.rows) (sym (rows_there tables key.to to g))
+      ∙ ap (list_all (is_referred key.columns key.target (rows_at (rows_in tables) key.to))) (sym (rows_there tables key.from from f))
+      ∙ sym (ap (λ x. if x then is_keyed (rows_in tables) key else true) late)
+  walked from to f g late (Err error) h = tt
+
+  pub not_late : is_late t None adds key ≡ false → true ≡ holds_late t None adds (rows_in tables) key
+  not_late e = sym (ap (λ x. if x then is_keyed (rows_in tables) key else true) e)
+
+  -- one that is tested by values
+  pub held_by_values : (from to : Contents) → slice_get tables key.from ≡ Some from → slice_get tables key.to ≡ Some to → (o : Option Sought) (s : Sought) → o ≡ Some s → IsDecided t adds (rows_in tables) key o
+      → (b : Bool) → b ≡ (list_all (λ v. has_null v || has_values key.target v to.rows) s.refer && list_all (λ v. (has_null v || has_values key.target v to.rows) || not (has_values key.columns v from.rows)) s.gone)
+      → b ≡ holds_late t None adds (rows_in tables) key
+  held_by_values from to f g o s e decided b h =
+      let so : holds_late t None adds (rows_in tables) key ≡ by_values (rows_in tables) key s = subst (IsDecided t adds (rows_in tables) key) e decided in
+      h ∙ ap (λ (l : List Row). list_all (λ v. has_null v || has_values key.target v l) s.refer && list_all (λ v. (has_null v || has_values key.target v l) || not (has_values key.columns v from.rows)) s.gone) (sym (rows_there tables key.to to g))
+      ∙ ap (λ (l : List Row). list_all (is_there key (rows_in tables)) s.refer && list_all (λ v. is_there key (rows_in tables) v || not (has_values key.columns v l)) s.gone) (sym (rows_there tables key.from from f))
+      ∙ sym so
 
 -- the rows of the referencing table have the columns
 pub row_columns : (tables : List Contents) (t : ℕ) (key : ForeignKey) (rows : List Row) → IsKeyOf (defs_in tables) key → key.from ≡ t → IfSome (slice_get tables t) (λ c. All (IsWhole c.def) rows) → All (λ row. AreColumnsOf row key.columns) rows

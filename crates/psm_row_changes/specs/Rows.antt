@@ -67,6 +67,12 @@ changed_if (Ok true) change tables t = changed_at change tables t
 changed_if (Ok false) change tables t = tables
 changed_if (Err error) change tables t = tables
 
+-- the tables after a change, if it is done, and else as they were
+abbrev pub kept_if : Result Bool AllocError → List Contents → List Contents → List Contents
+kept_if (Ok true) now was = now
+kept_if (Ok false) now was = was
+kept_if (Err error) now was = was
+
 -- whether a row was put in: it wasn't for any refusal but out of memory
 abbrev pub done_of : Result (Unit {0}) RowFault → Result Bool AllocError
 done_of (Ok u) = Ok true

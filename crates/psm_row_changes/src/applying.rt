@@ -6,12 +6,12 @@ ghost use Rattle.psm_table.specs.Table.{most_rows, namesake, with_row, without_r
 ghost use Rattle.psm_table.specs.Key.{row_order};
 ghost use Rattle.std.specs.declared.cmp.Ordering.TheVariants.{Equal};
 ghost use Rattle.psm_table.specs.Unique.{clashes};
-ghost use Rattle.psm_store.specs.Marks.{AnyMark, Keeps, defs_of, most_marks};
+ghost use Rattle.psm_store.specs.Marks.{AnyMark, IsOutside, Keeps, defs_of, most_marks};
 ghost use Rattle.psm_store.specs.RowCalls.{changed_at};
-ghost use Rattle.psm_row_changes.specs.Rows.{changed_if, done_of, fit_in, fits_in, with_rows, without_keys, IsWhole, TakesRows};
+ghost use Rattle.psm_row_changes.specs.Rows.{changed_if, done_of, fit_in, fits_in, kept_if, with_rows, without_keys, IsWhole, TakesRows};
 
 use crate::filling::is_filled;
-use psm_store::{Key, Row, RowFault, Store, Table, put_back};
+use psm_store::{Key, Mark, Row, RowFault, Store, Table, put_back};
 use std::alloc::{AllocError, Global};
 use std::cmp::Ordering;
 
@@ -167,9 +167,24 @@ fn replace_all<S: Store>(
 {
     let mark = store.mark(alloc)?;
     let done = replace_each(alloc, store, t, keys, rows);
+    end_change(store, mark, done)
+}
+
+/// Closes the mark of a change. Where that isn't done, the tables are put back to what the mark stands for.
+pub(crate) fn end_change<S: Store>(
+    store: &mut S,
+    mark: Mark,
+    done: Result<bool, AllocError>,
+) -> Result<bool, AllocError>
+    requires { S.holds store.old mark }
+    ensures answer { result ≡ done }
+    ensures tables { S.tables store.new ≡ kept_if done (S.tables store.old) (S.at store.old mark) }
+    ensures marks { S.marks store.new ≡ mark.depth }
+    ensures keeps { Keeps (IsOutside mark) (S.holds store.old) (S.at store.old) (S.holds store.new) (S.at store.new) }
+{
     match done {
         Ok(true) => store.release(mark),
-        _ => put_back(store, mark),
+        Ok(false) | Err(_) => put_back(store, mark),
     }
     done
 }

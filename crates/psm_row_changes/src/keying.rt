@@ -15,11 +15,11 @@ ghost use Rattle.psm_store.specs.RowCalls.{changed_at};
 ghost use Rattle.psm_row_changes.specs.KeyTests.{changes_all, is_late as is_tested_late, replaces, replaces_late};
 ghost use Rattle.psm_row_changes.specs.Rows.{changed_if, keys_of_rows, with_rows, without_keys, AreInPlace, TakesRows};
 
-use crate::applying::{ascends, erase_rows, replace_each, replace_rows};
+use crate::applying::{ascends, end_change, erase_rows, replace_each, replace_rows};
 use crate::changing::change_rows;
 use crate::lookups::{hold_late, is_late, refer_early};
 use crate::seeking::seek;
-use psm_store::{Key, Row, Store, Table, put_back};
+use psm_store::{Key, Row, Store, Table};
 use psm_table::{ForeignKey, ForeignKeys, List};
 use std::alloc::{AllocError, Global};
 
@@ -95,11 +95,7 @@ fn replace_tested<S: Store>(
 {
     let mark = store.mark(alloc)?;
     let done = replace_then_test(alloc, store, t, constraints, keys, rows);
-    match done {
-        Ok(true) => store.release(mark),
-        _ => put_back(store, mark),
-    }
-    done
+    end_change(store, mark, done)
 }
 
 // The same without a mark: where the answer isn't `true`, the change is carried out or begun.
