@@ -1,13 +1,12 @@
 //! INSERT.
 ghost use Rattle.std.specs.Prelude.{◌≡◌, ◌++◌, ◌∷◌, [], map, Some, IfOk};
-ghost use Rattle.std.specs.Option.{option_copied};
 ghost use Rattle.psm_symbols.specs.Columns.{inserted};
 ghost use Rattle.psm_scope.specs.Rows.{columns_known};
 ghost use Rattle.psm_meaning.specs.Session.{Insert};
 ghost use Rattle.psm_resolve_expr.specs.Exprs.{number_of};
 ghost use Rattle.psm_resolve_expr.specs.ResolverScope.{table_at};
 ghost use Rattle.psm_rules.specs.Faults.{first_of};
-ghost use Rattle.psm_rules.specs.StatementFaults.{columns_fault, inserted_types, listed_columns, several};
+ghost use Rattle.psm_rules.specs.StatementFaults.{inserted_types, several};
 ghost use Rattle.psm_scope.specs.Lookup.{named};
 ghost use Rattle.psm_check_script.specs.Commands.{row_of};
 ghost use Rattle.psm_check_script.specs.Known.{resolver_scope_of};
@@ -17,12 +16,11 @@ ghost use Rattle.psm_check_script.specs.Seen.{command_seen};
 use crate::command::ResolvedCommand;
 use crate::constants::{constant_fault, push_value};
 use crate::known::Known;
-use crate::repeated::repeated_fault;
-use psm_check_expr::{Columns, table_fault};
+use psm_check_expr::table_fault;
 use psm_list::{Boxed, List, OneOrMore};
 use psm_resolve_expr::{Scopes, table_number};
 use psm_rules::{Fault, Rule, breaks, earlier};
-use psm_symbols::{inserted, inserted_types, unknown_column};
+use psm_symbols::{inserted, inserted_types, listed_fault};
 use psm_tree::{Constant, ConstantRow, Identifier, Names};
 use psm_value::{Datum, SqlType};
 use std::alloc::{AllocError, Global};
@@ -44,31 +42,6 @@ pub(crate) fn insert_fault(
     let types = inserted_types(alloc, columns, names)?;
     let fault = earlier(table_fault(table, columns), listed);
     Ok(earlier(fault, rows_fault(&types, rows)))
-}
-
-fn listed_fault(
-    alloc: Global,
-    columns: Option<&Columns>,
-    names: &Option<Boxed<Names>>,
-) -> Result<Option<Fault>, AllocError>
-    ensures { IfOk result (λ f. f ≡ columns_fault (option_copied columns.entry) (listed_columns names.now)) }
-{
-    match names {
-        None => Ok(None),
-        Some(names) => columns_fault(alloc, columns, names.get()),
-    }
-}
-
-// A list of columns: each is there, and none stands twice.
-fn columns_fault(
-    alloc: Global,
-    columns: Option<&Columns>,
-    names: &Names,
-) -> Result<Option<Fault>, AllocError>
-    ensures { IfOk result (λ f. f ≡ columns_fault (option_copied columns.entry) (several names.now)) }
-{
-    let repeated = repeated_fault(alloc, names)?;
-    Ok(earlier(unknown_column(columns, names), repeated))
 }
 
 fn rows_fault(types: &Option<List<Option<SqlType>>>, rows: &OneOrMore<ConstantRow>) -> Option<Fault>

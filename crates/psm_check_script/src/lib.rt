@@ -9,7 +9,6 @@ mod constants;
 mod inserts;
 mod known;
 mod laws;
-mod repeated;
 mod selects;
 
 pub use check::{CheckFault, check_script};

@@ -1,13 +1,14 @@
 -- Routines that can't be distinguished, as they are kept.
 use Rattle.std.proofs.Common.{◌≡◌, Bool, true, false, ◌&&◌, ◌||◌, not, List, [], ◌∷◌, ◌++◌, refl, sym, ap, ◌∙◌}
-use Rattle.std.specs.Prelude.{nat_eq, Option, if◌then◌else◌}
+use Rattle.std.specs.Prelude.{nat_eq, length, Option, if◌then◌else◌}
 use Rattle.std.specs.List.{list_any}
 use Rattle.std.specs.Cmp.Lexicographic.{pointwise, same_text}
 use Rattle.std.specs.Cow.{cow_slice_items}
+use Rattle.std.proofs.lemmas.Bool.{eqb-true}
 use Rattle.std.proofs.lemmas.List.Folds.{list_any-append}
 use Rattle.indexmap.specs.IndexSet.{insert_key}
 use Rattle.psm_scope.specs.Scopes.{is_spelled}
-use Rattle.psm_scope.specs.Keys.{same_function}
+use Rattle.psm_scope.specs.Keys.{same_call, same_function}
 use Rattle.psm_scope.specs.KindNumbers.{is_kind}
 use Rattle.psm_scope.specs.declared.key.CallKey.{CallKey}
 use Rattle.psm_scope.specs.declared.key.FunctionKey.{FunctionKey}
@@ -17,7 +18,7 @@ use Rattle.psm_rules.specs.declared.fault.Fault.{Fault}
 use Rattle.psm_rules.specs.declared.rule.Rule.TheVariants as rule
 use Rattle.psm_rules.specs.Faults.{breaks_if}
 use Rattle.psm_rules.specs.FileFaults.{is_function, kinds_of, repeats_function, repeats_procedure, same_functions, same_procedures, distinct}
-use Rattle.psm_check_stmt.specs.SeenRoutines.{AreSeen, is_function_key}
+use Rattle.psm_check_stmt.specs.SeenRoutines.{AreSeen, is_function_key, is_procedure_key}
 
 -- ---- choices
 
@@ -103,4 +104,42 @@ module _ (functions : List FunctionKey) (procedures : List CallKey) (before : Li
         ∙ ap (λ b. same_functions q r || b) (seen_routines.of_functions q)
         ∙ sym (ap (λ b. (b && same_functions q r) || repeats_function before q) is);
     of_procedures = λ q. seen_routines.of_procedures q ∙ sym (ap (λ b. (not b && same_procedures q r) || repeats_procedure before q) is);
+  }
+
+-- ---- the keys of procedures
+
+procedure_keys_same : (q : Routine) (k a : CallKey) → same_call k a ≡ true → is_procedure_key q k ≡ is_procedure_key q a
+procedure_keys_same q k a e =
+    let t = both (is_spelled k.name.name.now a.name.name.now) (nat_eq k.count a.count) e in
+    ap (λ n. is_spelled q.name.name n && nat_eq (length q.parameters) k.count) (same_text k.name.name.now a.name.name.now (sym t.0))
+    ∙ ap (λ c. is_spelled q.name.name a.name.name.now && nat_eq (length q.parameters) c) (eqb-true k.count a.count t.1)
+
+module _ (functions : List FunctionKey) (procedures : List CallKey) (before : List Routine) (seen_routines : AreSeen functions procedures before)
+    (r : Routine) (is : is_function r ≡ false) (k : CallKey) (name : k.name.name.now ≡ r.name.name) (count : k.count ≡ length r.parameters) where
+  procedure_seen : list_any (same_call k) procedures ≡ repeats_procedure before r
+  procedure_seen =
+      ap (λ n. list_any (λ a. pointwise nat_eq n a.name.name.now && nat_eq k.count a.count) procedures) name
+      ∙ ap (λ c. list_any (λ a. pointwise nat_eq r.name.name a.name.name.now && nat_eq c a.count) procedures) count
+      ∙ seen_routines.of_procedures r
+
+  procedure_key_is : (q : Routine) → is_procedure_key q k ≡ same_procedures q r
+  procedure_key_is q = ap (λ n. is_spelled q.name.name n && nat_eq (length q.parameters) k.count) name ∙ ap (λ c. is_spelled q.name.name r.name.name && nat_eq (length q.parameters) c) count
+
+  -- a procedure whose key is there already can't be distinguished
+  pub procedure_apart : (added : Bool) → added ≡ not (list_any (same_call k) procedures) → (fault : Option Fault) → fault ≡ breaks_if (not added) rule.ProcedureRepeated r.name.place → fault ≡ distinct r before
+  procedure_apart added e fault f =
+      f
+      ∙ ap (λ b. breaks_if (not b) rule.ProcedureRepeated r.name.place) (e ∙ ap not procedure_seen)
+      ∙ ap (λ b. breaks_if b rule.ProcedureRepeated r.name.place) (not_not (repeats_procedure before r))
+      ∙ sym (ap (λ b. if b then breaks_if (repeats_function before r) rule.FunctionsNotDistinct r.name.place else breaks_if (repeats_procedure before r) rule.ProcedureRepeated r.name.place) is)
+
+  pub procedure_added : (new : List CallKey) → new ≡ insert_key same_call procedures k → AreSeen functions new (r ∷ before)
+  procedure_added new e = record {
+    of_functions = λ q. seen_routines.of_functions q ∙ sym (ap (λ b. (b && same_functions q r) || repeats_function before q) is);
+    of_procedures = λ q.
+        ap (list_any (is_procedure_key q)) e
+        ∙ inserted same_call (is_procedure_key q) k (procedure_keys_same q k) procedures
+        ∙ ap (λ b. b || list_any (is_procedure_key q) procedures) (procedure_key_is q)
+        ∙ ap (λ b. same_procedures q r || b) (seen_routines.of_procedures q)
+        ∙ sym (ap (λ b. (not b && same_procedures q r) || repeats_procedure before q) is);
   }

@@ -185,7 +185,12 @@ finds_handler scopes items i v old mid new f g h lt at first second e =
     subst (λ (h : Option Fault). FindsIn scopes (all_values (map handler_part (take (i + 1) items))) old new h) (sym e)
     (subst (λ (l : List HandlerValue). FindsIn scopes l old new (earlier f g)) t (finds_more scopes (all_values (map handler_part (take i items))) (handler_part v).values old mid new f g first second))
 
-pub finds_all : (scopes : Scopes) (items : List Handler) (i : ℕ) (old new : HandledConditions) (f : Option Fault) → length items ≤ i → AreHandled old []
-    → FindsIn scopes (all_values (map handler_part (take i items))) old new f → f ≡ first_of (values_fault scopes [] (all_values (map handler_part items)))
-finds_all scopes items i old new f le are checked =
-    (checked [] are).0 ∙ ap (λ l. first_of (values_fault scopes [] (all_values (map handler_part l)))) (take_all i items le)
+pub finds_all : (scopes : Scopes) (items handlers : List Handler) (i : ℕ) (old new : HandledConditions) (f : Option Fault) → length items ≤ i → items ≡ handlers
+    → FindsIn scopes (all_values (map handler_part (take i items))) old new f → FindsIn scopes (all_values (map handler_part handlers)) old new f
+finds_all scopes items handlers i old new f le e found = subst (λ (l : List Handler). FindsIn scopes (all_values (map handler_part l)) old new f) (take_all i items le ∙ e) found
+
+-- where nothing is handled before
+pub found_first : (scopes : Scopes) (values : List HandlerValue) (old new : HandledConditions) (r : Result (Option Fault) AllocError) → AreHandled old []
+    → IfOk r (λ f. FindsIn scopes values old new f) → IfOk r (λ f. f ≡ first_of (values_fault scopes [] values))
+found_first scopes values old new (Ok f) are found = (found [] are).0
+found_first scopes values old new (Err x) are found = tt

@@ -3,7 +3,6 @@ pub mod ForItems
 pub mod WalkSteps
 pub mod Handling
 pub mod ListKeys
-pub mod NamesSoFar
 pub mod Noted
 pub mod Once
 pub mod Orders
@@ -12,6 +11,6 @@ pub mod Paired
 pub mod Pairs
 pub mod Referring
 pub mod Returning
+pub mod RoutinesSoFar
 pub mod StatementEquations
 pub mod TableKeys
-pub mod Walks

@@ -3,5 +3,4 @@ pub mod Handling
 pub mod InRoutine
 pub mod KeyLists
 pub mod Keys
-pub mod Listed
 pub mod SeenRoutines

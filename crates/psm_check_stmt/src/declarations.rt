@@ -1,5 +1,5 @@
 //! What a block declares itself.
-ghost use Rattle.std.specs.Prelude.{◌≡◌, IfOk, IsTrue, ◌∷◌, [], drop, map};
+ghost use Rattle.std.specs.Prelude.{◌≡◌, IfOk, IsTrue, ◌∷◌, ◌++◌, [], drop, map};
 ghost use Rattle.std.specs.Option.{option_copied};
 ghost use Rattle.psm_scope.specs.KeptScopes.{can_declare_here};
 ghost use Rattle.psm_rules.specs.declared.rule.Rule.TheVariants as rule;
@@ -7,11 +7,9 @@ ghost use Rattle.psm_rules.specs.Faults.{first_of};
 ghost use Rattle.psm_rules.specs.StatementFaults.{repeated, several};
 ghost use Rattle.psm_rules.specs.BlockFaults.{following, condition_names, conditions_of, cursors_fault, declaration_fault, declarations_fault, declared_by, declared_fault, declared_scopes, default_fault, local_variable, optional_state_fault, state_of, variable_names, variables_of, with_cursors, with_variables};
 ghost use Rattle.psm_check_stmt.specs.InRoutine.{context};
-ghost use Rattle.psm_check_stmt.specs.Listed.{with_names};
 
 use crate::cursors::declared_cursor;
 use crate::declaring::{declare_condition, declare_cursor, declare_variable};
-use crate::repeated::Repeats;
 use crate::sources::source_fault;
 use crate::statements::Context;
 use psm_check_expr::{Scopes, check_expr, type_fault, type_of};
@@ -19,9 +17,9 @@ use psm_list::{Boxed, List};
 use psm_rules::{Fault, Rule, earlier};
 use psm_scope::ScopeKind;
 use psm_sqlstate::SqlState;
-use psm_symbols::{good_state, state_fault};
+use psm_symbols::{good_state, repeated_fault, state_fault};
 use psm_text::Name;
-use psm_tree::{CursorDeclaration, Declaration, Expr, Names, State};
+use psm_tree::{CursorDeclaration, Declaration, Expr, Identifier, Names, State};
 use psm_value::SqlType;
 use std::alloc::{AllocError, Global};
 
@@ -38,7 +36,7 @@ pub(crate) fn declared_fault<'w, 'a>(
     ensures outer { IfOk result (λ _. drop 1 scopes.new ≡ scopes.old) }
 {
     scopes.push(ScopeKind::Compound(label))?;
-    let repeated = repeated_fault(c.alloc, declarations, cursors)?;
+    let repeated = names_fault(c.alloc, declarations, cursors)?;
     let fault = declarations_fault(c, scopes, declarations)?;
     let fault = earlier(repeated, fault);
     Ok(earlier(fault, cursors_fault(c, scopes, cursors)?))
@@ -46,7 +44,7 @@ pub(crate) fn declared_fault<'w, 'a>(
 
 // ---- names that stand twice
 
-fn repeated_fault<'a>(
+fn names_fault<'a>(
     alloc: Global,
     declarations: &'a List<Boxed<Declaration>>,
     cursors: &'a List<Boxed<CursorDeclaration>>,
@@ -65,29 +63,36 @@ fn repeated_variables<'a>(
 ) -> Result<Option<Fault>, AllocError>
     ensures { IfOk result (λ f. f ≡ repeated rule.DeclarationRepeated (variable_names declarations.now)) }
 {
-    let mut names = Repeats::new(alloc, Rule::DeclarationRepeated);
+    let mut names = Vec::new(alloc);
     for declaration in declarations.items() {
-        add_variables(&mut names, declaration.get())?;
+        push_variables(&mut names, declaration.get())?;
     }
-    Ok(names.fault())
+    repeated_fault(alloc, Rule::DeclarationRepeated, names.as_slice())
 }
 
-fn add_variables<'a>(
-    names: &mut Repeats<'a>,
+fn push_variables<'a>(
+    names: &mut Vec<&'a Identifier>,
     declaration: &'a Declaration,
 ) -> Result<(), AllocError>
-    ensures { IfOk result (λ _. names.new ≡ with_names names.old (variables_of declaration.now)) }
+    ensures { IfOk result (λ _. map (λ n. n.now) names.new.items ≡ map (λ n. n.now) names.old.items ++ variables_of declaration.now) }
 {
     match declaration {
         Declaration::Variables {
             names: declared,
             ..
-        } => {
-            names.add(&declared.first)?;
-            names.add_all(declared.rest.items())
-        }
+        } => push_names(names, declared),
         Declaration::Condition { .. } => Ok(()),
     }
+}
+
+fn push_names<'a>(names: &mut Vec<&'a Identifier>, declared: &'a Names) -> Result<(), AllocError>
+    ensures { IfOk result (λ _. map (λ n. n.now) names.new.items ≡ map (λ n. n.now) names.old.items ++ several declared.now) }
+{
+    names.push(&declared.first)?;
+    for name in declared.rest.items() {
+        names.push(name)?;
+    }
+    Ok(())
 }
 
 fn repeated_conditions<'a>(
@@ -96,22 +101,25 @@ fn repeated_conditions<'a>(
 ) -> Result<Option<Fault>, AllocError>
     ensures { IfOk result (λ f. f ≡ repeated rule.DeclarationRepeated (condition_names declarations.now)) }
 {
-    let mut names = Repeats::new(alloc, Rule::DeclarationRepeated);
+    let mut names = Vec::new(alloc);
     for declaration in declarations.items() {
-        add_condition(&mut names, declaration.get())?;
+        push_condition(&mut names, declaration.get())?;
     }
-    Ok(names.fault())
+    repeated_fault(alloc, Rule::DeclarationRepeated, names.as_slice())
 }
 
-fn add_condition<'a>(
-    names: &mut Repeats<'a>,
+fn push_condition<'a>(
+    names: &mut Vec<&'a Identifier>,
     declaration: &'a Declaration,
 ) -> Result<(), AllocError>
-    ensures { IfOk result (λ _. names.new ≡ with_names names.old (conditions_of declaration.now)) }
+    ensures { IfOk result (λ _. map (λ n. n.now) names.new.items ≡ map (λ n. n.now) names.old.items ++ conditions_of declaration.now) }
 {
     match declaration {
         Declaration::Variables { .. } => Ok(()),
-        Declaration::Condition { name, .. } => names.add(name),
+        Declaration::Condition { name, .. } => {
+            names.push(name)?;
+            Ok(())
+        }
     }
 }
 
@@ -121,11 +129,11 @@ fn repeated_cursors<'a>(
 ) -> Result<Option<Fault>, AllocError>
     ensures { IfOk result (λ f. f ≡ repeated rule.DeclarationRepeated (map (λ x. x.name) cursors.now)) }
 {
-    let mut names = Repeats::new(alloc, Rule::DeclarationRepeated);
+    let mut names = Vec::new(alloc);
     for declared in cursors.items() {
-        names.add(&declared.get().name)?;
+        names.push(&declared.get().name)?;
     }
-    Ok(names.fault())
+    repeated_fault(alloc, Rule::DeclarationRepeated, names.as_slice())
 }
 
 // ---- variables and conditions

@@ -4,15 +4,15 @@ ghost use Rattle.psm_rules.specs.declared.rule.Rule.TheVariants as rules_of;
 ghost use Rattle.psm_rules.specs.Faults.{first_of};
 ghost use Rattle.psm_rules.specs.StatementFaults.{repeated};
 ghost use Rattle.psm_rules.specs.FileFaults.{file_fault, no_symbols, routines_fault, symbols_of, table_fault, with_routines, with_table, with_tables};
+ghost use Rattle.psm_check_stmt.specs.SeenRoutines.{HaveSeen};
 
 use crate::references::references_fault;
-use crate::repeated::Repeats;
 use crate::routines::{declare_routines, routine_fault};
 use crate::seen_routines::SeenRoutines;
 use crate::tables::{keys_of, table_fault};
 use psm_check_expr::SymbolTable;
 use psm_rules::{Fault, Rule, earlier};
-use psm_symbols::columns_of;
+use psm_symbols::{columns_of, repeated_fault};
 use psm_tree::{FileTree, Routine, TableTree};
 use std::alloc::{AllocError, Global};
 
@@ -58,11 +58,11 @@ fn fault_with<'a>(
 fn table_names_fault(alloc: Global, tables: &[TableTree]) -> Result<Option<Fault>, AllocError>
     ensures { IfOk result (λ f. f ≡ repeated rules_of.TableRepeated (map (λ t. t.name) tables.now)) }
 {
-    let mut names = Repeats::new(alloc, Rule::TableRepeated);
+    let mut names = Vec::with_capacity(alloc, tables.len())?;
     for table in tables {
-        names.add(&table.name)?;
+        names.push(&table.name)?;
     }
-    Ok(names.fault())
+    repeated_fault(alloc, Rule::TableRepeated, names.as_slice())
 }
 
 fn tables_fault(alloc: Global, tables: &[TableTree]) -> Result<Option<Fault>, AllocError>
@@ -84,9 +84,23 @@ fn routines_fault<'a>(
     ensures { IfOk result (λ f. f ≡ first_of (routines_fault symbols.now [] routines.now)) }
 {
     let mut seen_routines = SeenRoutines::new(alloc);
+    each_routine_fault(alloc, symbols, &mut seen_routines, routines)
+}
+
+// The same where no routine is seen.
+fn each_routine_fault<'a>(
+    alloc: Global,
+    symbols: &SymbolTable<'a>,
+    seen_routines: &mut SeenRoutines<'a>,
+    routines: &'a [Routine],
+) -> Result<Option<Fault>, AllocError>
+    requires { HaveSeen seen_routines.old [] }
+    ensures { IfOk result (λ f. f ≡ first_of (routines_fault symbols.now [] routines.now)) }
+{
     let mut fault = None;
     for routine in routines {
-        let own = routine_fault(alloc, symbols, &mut seen_routines, routine)?;
+        let apart = seen_routines.fault(alloc, routine)?;
+        let own = routine_fault(alloc, symbols, apart, routine)?;
         fault = earlier(fault, own);
     }
     Ok(fault)

@@ -156,9 +156,20 @@ pub(crate) fn values_fault<'a>(
     ensures { IfOk result (λ f. f ≡ first_of (values_fault scopes.now [] (all_values (map handler_part handlers.now)))) }
 {
     let mut handled_conditions = HandledConditions::new(alloc);
+    block_values_fault(alloc, scopes, handlers, &mut handled_conditions)
+}
+
+fn block_values_fault<'a>(
+    alloc: Global,
+    scopes: &Scopes,
+    handlers: &'a List<Boxed<Handler>>,
+    handled_conditions: &mut HandledConditions<'a>,
+) -> Result<Option<Fault>, AllocError>
+    ensures { IfOk result (λ f. FindsIn scopes.now (all_values (map handler_part handlers.now)) handled_conditions.old handled_conditions.new f) }
+{
     let mut fault = None;
     for handler in handlers.items() {
-        let own = handler_values_fault(alloc, scopes, handler.get(), &mut handled_conditions)?;
+        let own = handler_values_fault(alloc, scopes, handler.get(), handled_conditions)?;
         fault = earlier(fault, own);
     }
     Ok(fault)

@@ -2,7 +2,7 @@
 ghost use Rattle.std.specs.Prelude.{◌≡◌, [], map, IfOk};
 ghost use Rattle.std.specs.List.{list_any};
 ghost use Rattle.psm_rules.specs.BlockFaults.{same_names};
-ghost use Rattle.psm_rules.specs.FileFaults.{lists_of, names_of, table_elements, with_column_rule, with_element, with_list, with_own_rules, with_table_rule};
+ghost use Rattle.psm_rules.specs.FileFaults.{lists_from, lists_of, names_of, table_elements, with_column_rule, with_element, with_list, with_own_rules, with_table_rule};
 ghost use Rattle.psm_rules.specs.StatementFaults.{several};
 ghost use Rattle.psm_check_expr.specs.Keys.{key_names};
 ghost use Rattle.psm_check_stmt.specs.KeyLists.{listed, spelled};
@@ -96,10 +96,7 @@ impl<'a> KeyLists<'a> {
         ensures { IfOk result (λ lists. lists ≡ lists_of (table_elements table.now)) }
     {
         let mut lists = KeyLists::new(alloc);
-        lists.add_element(&table.elements.first)?;
-        for element in table.elements.rest.items() {
-            lists.add_element(element)?;
-        }
+        lists.add_table(table)?;
         Ok(lists)
     }
 
@@ -115,6 +112,16 @@ impl<'a> KeyLists<'a> {
     {
         let list = ListKey::of(self.alloc, key)?;
         self.lists.insert(list)?;
+        Ok(())
+    }
+
+    fn add_table(&mut self, table: &'a TableTree) -> Result<(), AllocError>
+        ensures { IfOk result (λ _. self.new ≡ lists_from self.old (table_elements table.now)) }
+    {
+        self.add_element(&table.elements.first)?;
+        for element in table.elements.rest.items() {
+            self.add_element(element)?;
+        }
         Ok(())
     }
 

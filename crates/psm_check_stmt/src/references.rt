@@ -9,11 +9,10 @@ ghost use Rattle.psm_check_stmt.specs.KeyLists.{spelled};
 use crate::key_lists::ListKey;
 use crate::referred::{Referable, Referred, add_referred};
 use crate::sources::family_due;
-use crate::statements::columns_fault;
 use psm_check_expr::{Columns, Key};
 use psm_rules::{Family, Fault, Rule, breaks, breaks_if, earlier};
 use psm_scope::{NameKey, Names as NamesOf};
-use psm_symbols::columns_of;
+use psm_symbols::{columns_fault, columns_of};
 use psm_text::Name;
 use psm_token::Place;
 use psm_tree::{

@@ -2,21 +2,20 @@
 ghost use Rattle.std.specs.Prelude.{◌≡◌, ◌∷◌, ◌<◌, [], map, true, IfOk};
 ghost use Rattle.psm_scope.specs.KeptScopes.{can_declare_here};
 ghost use Rattle.psm_rules.specs.declared.rule.Rule.TheVariants as rules_of;
-ghost use Rattle.psm_rules.specs.Faults.{first_of};
+ghost use Rattle.psm_rules.specs.Faults.{first_from, first_of};
 ghost use Rattle.psm_rules.specs.BlockFaults.{statement_fault};
 ghost use Rattle.psm_rules.specs.StatementFaults.{repeated, several};
-ghost use Rattle.psm_rules.specs.FileFaults.{block_returns, body_context, branch_returns, handler_returns, has_return, is_in, kind_of_routine, characteristic_number, characteristics_fault, parameter_fault, parameter_variable, result_fault, return_fault, returns, routine_fault, routine_scopes, some, with_parameter, with_routine, with_routines};
+ghost use Rattle.psm_rules.specs.FileFaults.{block_returns, body_context, branch_returns, handler_returns, has_return, is_in, kind_of_routine, characteristic_number, characteristics_fault, parameter_fault, parameter_variable, result_fault, return_fault, returns, routine_scopes, some, with_parameter, with_routine, with_routines};
 ghost use Rattle.psm_check_stmt.specs.InRoutine.{context, within_of};
+ghost use Rattle.psm_check_stmt.specs.SeenRoutines.{own_faults};
 
 use crate::blocks::statement_fault;
-use crate::repeated::Repeats;
-use crate::seen_routines::SeenRoutines;
 use crate::statements::{Context, Within};
 use psm_check_expr::{Scopes, SymbolTable, type_fault, type_of};
 use psm_list::{Boxed, List, OneOrMore};
 use psm_rules::{Fault, Rule, breaks_if, earlier};
 use psm_scope::{ProcedureScope, ScopeKind, Variable};
-use psm_symbols::{is_in, kinds_of, parameters_of};
+use psm_symbols::{is_in, kinds_of, parameters_of, repeated_fault};
 use psm_tree::{
     Block, Branch, Characteristic, CharacteristicForm, DataType, Handler, Parameter, Routine,
     Simple, Statement,
@@ -265,11 +264,11 @@ fn parameter_names_fault(
 ) -> Result<Option<Fault>, AllocError>
     ensures { IfOk result (λ f. f ≡ repeated rules_of.ParameterRepeated (map (λ p. p.name) parameters.now)) }
 {
-    let mut names = Repeats::new(alloc, Rule::ParameterRepeated);
+    let mut names = Vec::with_capacity(alloc, parameters.len())?;
     for parameter in parameters {
-        names.add(&parameter.name)?;
+        names.push(&parameter.name)?;
     }
-    Ok(names.fault())
+    repeated_fault(alloc, Rule::ParameterRepeated, names.as_slice())
 }
 
 // The scope of a routine, in which its parameters are variables, where no scope stands around it.
@@ -308,17 +307,15 @@ fn parameter_variable(parameter: &Parameter) -> Variable
 
 // ---- a routine
 
-/// The first fault of a routine.
+/// The first fault of a routine, with one that it has among other routines.
 pub(crate) fn routine_fault<'a>(
     alloc: Global,
     symbols: &SymbolTable<'a>,
-    seen_routines: &mut SeenRoutines<'a>,
+    apart: Option<Fault>,
     r: &'a Routine,
 ) -> Result<Option<Fault>, AllocError>
-    ensures fault { IfOk result (λ f. f ≡ routine_fault symbols.now seen_routines.old r.now) }
-    ensures before { IfOk result (λ _. seen_routines.new ≡ r.now ∷ seen_routines.old) }
+    ensures { IfOk result (λ f. f ≡ first_from apart (own_faults symbols.now r.now)) }
 {
-    let apart = seen_routines.fault(alloc, r)?;
     let fault = earlier(apart, return_fault(r));
     let names = parameter_names_fault(alloc, r.parameters.items())?;
     let fault = earlier(fault, names);

@@ -3,15 +3,15 @@ ghost use Rattle.std.specs.Prelude.{◌≡◌, ◌∷◌, [], IfOk, None, length
 ghost use Rattle.std.specs.Option.{option_copied};
 ghost use Rattle.psm_scope.specs.Rows.{columns_known};
 ghost use Rattle.psm_scope.specs.Routines as routines;
+ghost use Rattle.psm_rules.specs.declared.rule.Rule.TheVariants as rules_of;
 ghost use Rattle.psm_rules.specs.ExprFaults.{check_query};
 ghost use Rattle.psm_rules.specs.Faults.{first_of};
-ghost use Rattle.psm_rules.specs.StatementFaults.{argument_fault, arguments_fault, assignment_fault, call_fault, column_fault, columns_fault, cursor_of, delete_fault, family_due, fetch_fault, insert_fault, insert_source_fault, inserted_types, into_fault, is_loop_label, is_passed, is_target, items_into, label_fault, listed_columns, loop_label_fault, mixed_at, on_table, only_in_procedures, opened_fault, pairs_fault, query_for, resignal_fault, return_fault, row_fault, select_into_fault, set_fault, several, simple_fault, source_fault, sources_fault, table_of, target_type, targets_fault, type_of_column, update_fault, values_for, where_fault};
+ghost use Rattle.psm_rules.specs.StatementFaults.{argument_fault, arguments_fault, assignment_fault, call_fault, column_fault, columns_fault, cursor_of, delete_fault, family_due, fetch_fault, insert_fault, insert_source_fault, inserted_types, into_fault, is_loop_label, is_passed, is_target, items_into, label_fault, loop_label_fault, mixed_at, on_table, only_in_procedures, opened_fault, pairs_fault, query_for, repeated, resignal_fault, return_fault, row_fault, select_into_fault, set_fault, several, simple_fault, source_fault, sources_fault, table_of, target_type, targets_fault, type_of_column, update_fault, values_for, where_fault};
 ghost use Rattle.psm_check_stmt.specs.InRoutine.{context, within_of};
 ghost use Rattle.psm_check_expr.specs.Seen.{seen_in_checker_scope};
 
 use crate::conditions::{diagnostics_fault, signalled_fault};
 use crate::cursors::{fetch_fault, opened_fault, positioned_fault};
-use crate::repeated::Repeats;
 use crate::sources::{
     assigned_type, family_due, mixed_at, source_fault, target_fault, target_type, targets_fault,
     variable_of,
@@ -23,7 +23,7 @@ use psm_check_expr::{
 use psm_list::{Boxed, List, OneOrMore};
 use psm_rules::{Checked, Fault, Item, Rule, as_condition, breaks, breaks_if, earlier, faults_in};
 use psm_scope::{ParameterMode, ParameterScope, RowTable};
-use psm_symbols::{column_fault, inserted_types, type_of_column, unknown_column};
+use psm_symbols::{column_fault, inserted_types, listed_fault, repeated_fault, type_of_column};
 use psm_token::Place;
 use psm_tree::{
     Assignment, Expr, Identifier, InsertSource, Names, Select, Signalled, Simple, Target, Targets,
@@ -375,20 +375,6 @@ fn item_into(item: Item, kind: Option<SqlType>) -> Option<Fault>
 
 // ---- INSERT, UPDATE and DELETE
 
-/// A list of columns: each is there, and none stands twice.
-pub(crate) fn columns_fault(
-    alloc: Global,
-    columns: Option<&Columns>,
-    names: &Names,
-) -> Result<Option<Fault>, AllocError>
-    ensures { IfOk result (λ f. f ≡ columns_fault (option_copied columns.entry) (several names.now)) }
-{
-    let mut repeats = Repeats::new(alloc, Rule::ColumnRepeated);
-    repeats.add(&names.first)?;
-    repeats.add_all(names.rest.items())?;
-    Ok(earlier(unknown_column(columns, names), repeats.fault()))
-}
-
 fn insert_fault(
     alloc: Global,
     checker_scope: CheckerScope,
@@ -403,19 +389,6 @@ fn insert_fault(
     let kinds = inserted_types(alloc, columns, names)?;
     let source = insert_source_fault(alloc, checker_scope, &kinds, source)?;
     Ok(earlier(earlier(table_fault(table, columns), listed), source))
-}
-
-fn listed_fault(
-    alloc: Global,
-    columns: Option<&Columns>,
-    names: &Option<Boxed<Names>>,
-) -> Result<Option<Fault>, AllocError>
-    ensures { IfOk result (λ f. f ≡ columns_fault (option_copied columns.entry) (listed_columns names.now)) }
-{
-    match names {
-        None => Ok(None),
-        Some(names) => columns_fault(alloc, columns, names.get()),
-    }
 }
 
 fn insert_source_fault(
@@ -557,13 +530,21 @@ fn assigned_columns_fault(
 ) -> Result<Option<Fault>, AllocError>
     ensures { IfOk result (λ f. f ≡ columns_fault (option_copied columns.entry) (map (λ a. a.column) (several assignments.now))) }
 {
-    let mut repeats = Repeats::new(alloc, Rule::ColumnRepeated);
-    repeats.add(&assignments.first.column)?;
+    let repeated = repeated_assigned_column(alloc, assignments)?;
+    Ok(earlier(unknown_assigned_column(columns, assignments), repeated))
+}
+
+fn repeated_assigned_column(
+    alloc: Global,
+    assignments: &OneOrMore<Assignment>,
+) -> Result<Option<Fault>, AllocError>
+    ensures { IfOk result (λ f. f ≡ repeated rules_of.ColumnRepeated (map (λ a. a.column) (several assignments.now))) }
+{
+    let mut names = vec![in alloc; &assignments.first.column]?;
     for a in assignments.rest.items() {
-        repeats.add(&a.column)?;
+        names.push(&a.column)?;
     }
-    let unknown = unknown_assigned_column(columns, assignments);
-    Ok(earlier(unknown, repeats.fault()))
+    repeated_fault(alloc, Rule::ColumnRepeated, names.as_slice())
 }
 
 fn unknown_assigned_column(

@@ -1,5 +1,5 @@
 //! The first fault of a table.
-ghost use Rattle.std.specs.Prelude.{◌≡◌, ◌∷◌, [], map, nat_eq, length, slice_get, IfOk, IfSome};
+ghost use Rattle.std.specs.Prelude.{◌≡◌, ◌∷◌, ◌++◌, [], map, nat_eq, length, slice_get, IfOk, IfSome};
 ghost use Rattle.psm_value.specs.SqlType.{IsType};
 ghost use Rattle.psm_value.specs.Stored.{stored};
 ghost use Rattle.psm_rules.specs.declared.rule.Rule.TheVariants as rules_of;
@@ -9,12 +9,9 @@ ghost use Rattle.psm_rules.specs.StatementFaults.{repeated, several};
 ghost use Rattle.psm_rules.specs.Types.{type_of};
 ghost use Rattle.psm_rules.specs.FileFaults.{alone, check_fault, column_names, column_rule_fault, column_rule_keys, columns_of, constant_fault, datum_of, default_fits, element_fault, element_keys, first_key, is_stored, key_fault, keys_of, no_symbols, own_keys, signed, table_elements, table_fault, table_rule_fault, too_many};
 ghost use Rattle.psm_check_stmt.specs.Keys.{and_key, and_keys, first_kept, is_one, kept};
-ghost use Rattle.psm_check_stmt.specs.Listed.{with_names};
 ghost use Rattle.psm_check_expr.specs.Keys.{key_names};
 ghost use Rattle.psm_check_expr.specs.Seen.{seen_in_checker_scope};
 
-use crate::repeated::Repeats;
-use crate::statements::columns_fault;
 use psm_check_expr::{
     CheckerScope, Columns, Key, Scopes, SymbolTable, check_expr, type_fault, type_of,
 };
@@ -23,7 +20,7 @@ use psm_rules::{
     Family, Fault, Rule, as_condition, breaks_if, earlier, family_of, too_many, typed,
 };
 use psm_scope::RowTable;
-use psm_symbols::{columns_of, signed};
+use psm_symbols::{columns_fault, columns_of, repeated_fault, signed};
 use psm_tree::{
     ColumnRule, ColumnRuleForm, Constant, ConstantForm, DataType, Element, Expr, Identifier,
     TableRuleForm, TableTree,
@@ -244,19 +241,22 @@ fn own_faults(alloc: Global, table: &TableTree) -> Result<Option<Fault>, AllocEr
 fn names_fault(alloc: Global, elements: &OneOrMore<Element>) -> Result<Option<Fault>, AllocError>
     ensures { IfOk result (λ f. f ≡ repeated rules_of.ColumnRepeated (column_names (several elements.now))) }
 {
-    let mut names = Repeats::new(alloc, Rule::ColumnRepeated);
-    add_column(&mut names, &elements.first)?;
+    let mut names = Vec::new(alloc);
+    push_name(&mut names, &elements.first)?;
     for element in elements.rest.items() {
-        add_column(&mut names, element)?;
+        push_name(&mut names, element)?;
     }
-    Ok(names.fault())
+    repeated_fault(alloc, Rule::ColumnRepeated, names.as_slice())
 }
 
-fn add_column<'a>(names: &mut Repeats<'a>, element: &'a Element) -> Result<(), AllocError>
-    ensures { IfOk result (λ _. names.new ≡ with_names names.old (column_names (element.now ∷ []))) }
+fn push_name<'a>(names: &mut Vec<&'a Identifier>, element: &'a Element) -> Result<(), AllocError>
+    ensures { IfOk result (λ _. map (λ n. n.now) names.new.items ≡ map (λ n. n.now) names.old.items ++ column_names (element.now ∷ [])) }
 {
     match element {
-        Element::Column { name, .. } => names.add(name),
+        Element::Column { name, .. } => {
+            names.push(name)?;
+            Ok(())
+        }
         Element::Rule(_) => Ok(()),
     }
 }

@@ -28,7 +28,7 @@ use Rattle.psm_wellformed.specs.Files.{NoFault, WellFormedFile, WellFormedTable,
 use Rattle.psm_checker_sound.specs.Agreement.{AreTables, HaveTypes}
 use Rattle.psm_checker_sound.proofs.WellFormedParts.{HaveColumns}
 use Rattle.psm_check_script.specs.Known.{Known, Tables, with_columns}
-use Rattle.psm_check_script.proofs.NamesBefore.{sees_more}
+use Rattle.psm_symbols.proofs.NamesBefore.{sees_more}
 use Rattle.psm_script_code.specs.FileKnown.{with_tables}
 
 both_true : (a b : Bool) → (a && b) ≡ true → (a ≡ true) × (b ≡ true)

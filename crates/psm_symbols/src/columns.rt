@@ -3,10 +3,11 @@ ghost use Rattle.std.specs.Prelude.{◌≡◌, map, IfOk};
 ghost use Rattle.std.specs.Option.{option_copied};
 ghost use Rattle.psm_scope.specs.Rows.{columns_known};
 ghost use Rattle.psm_rules.specs.Faults.{first_of};
-ghost use Rattle.psm_rules.specs.FileFaults.{columns_of, table_elements, with_column};
-ghost use Rattle.psm_rules.specs.StatementFaults.{column_fault, inserted_types, several, type_of_column};
+ghost use Rattle.psm_rules.specs.FileFaults.{columns_from, columns_of, table_elements, with_column};
+ghost use Rattle.psm_rules.specs.StatementFaults.{column_fault, columns_fault, inserted_types, listed_columns, several, type_of_column};
 ghost use Rattle.psm_symbols.specs.Columns.{all_places, column_of, inserted};
 
+use crate::repeated::repeated_column;
 use psm_check_expr::{Columns, type_of};
 use psm_list::{Boxed, List};
 use psm_rules::{Fault, Rule, breaks_if, earlier};
@@ -22,11 +23,18 @@ pub fn columns_of<'a>(alloc: Global, table: &'a TableTree) -> Result<Columns<'a>
     ensures { IfOk result (λ cs. cs ≡ columns_of (table_elements table.now)) }
 {
     let mut columns = NamesOf::new(alloc);
-    push_column(&mut columns, &table.elements.first)?;
-    for element in table.elements.rest.items() {
-        push_column(&mut columns, element)?;
-    }
+    push_columns(&mut columns, table)?;
     Ok(columns)
+}
+
+fn push_columns<'a>(columns: &mut Columns<'a>, table: &'a TableTree) -> Result<(), AllocError>
+    ensures { IfOk result (λ _. columns.new ≡ columns_from columns.old (table_elements table.now)) }
+{
+    push_column(columns, &table.elements.first)?;
+    for element in table.elements.rest.items() {
+        push_column(columns, element)?;
+    }
+    Ok(())
 }
 
 fn push_column<'a>(columns: &mut Columns<'a>, element: &'a Element) -> Result<(), AllocError>
@@ -57,8 +65,34 @@ pub fn column_fault(columns: Option<&Columns>, name: &Identifier) -> Option<Faul
     }
 }
 
-/// The first of the named columns that the table doesn't have.
-pub fn unknown_column(columns: Option<&Columns>, names: &Names) -> Option<Fault>
+/// The first fault of a list of columns: each is there, and none stands twice. Fails only without memory.
+pub fn columns_fault(
+    alloc: Global,
+    columns: Option<&Columns>,
+    names: &Names,
+) -> Result<Option<Fault>, AllocError>
+    ensures { IfOk result (λ f. f ≡ columns_fault (option_copied columns.entry) (several names.now)) }
+{
+    let repeated = repeated_column(alloc, names)?;
+    Ok(earlier(unknown_column(columns, names), repeated))
+}
+
+/// The same of the list of an INSERT, if there is one.
+pub fn listed_fault(
+    alloc: Global,
+    columns: Option<&Columns>,
+    names: &Option<Boxed<Names>>,
+) -> Result<Option<Fault>, AllocError>
+    ensures { IfOk result (λ f. f ≡ columns_fault (option_copied columns.entry) (listed_columns names.now)) }
+{
+    match names {
+        None => Ok(None),
+        Some(names) => columns_fault(alloc, columns, names.get()),
+    }
+}
+
+// The first of the named columns that the table doesn't have.
+fn unknown_column(columns: Option<&Columns>, names: &Names) -> Option<Fault>
     ensures { result ≡ first_of (map (column_fault (option_copied columns.entry)) (several names.now)) }
 {
     let mut fault = column_fault(columns, &names.first);

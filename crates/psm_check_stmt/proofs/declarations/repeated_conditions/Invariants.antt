@@ -1,8 +1,6 @@
-use Rattle.std.proofs.Common.{◌≡◌, drop}
-use Rattle.psm_rules.specs.declared.rule.Rule.TheVariants as rule
+use Rattle.std.proofs.Common.{◌≡◌, ◌++◌, drop, map}
 use Rattle.psm_rules.specs.BlockFaults.{condition_names}
-use Rattle.psm_check_stmt.specs.Listed.{with_names}
 use Rattle.psm_check_stmt.proofs.declarations.repeated_conditions.Given as goal
 
 abbrev pub invariant-loop-declaration : goal.invariant-loop-declaration
-invariant-loop-declaration l = with_names l.names (condition_names (drop l.declaration-index l.declaration-items)) ≡ record { rule = rule.DeclarationRepeated; names = condition_names l.declarations }
+invariant-loop-declaration l = map (λ n. n.now) l.names.items ++ condition_names (drop l.declaration-index l.declaration-items) ≡ condition_names l.declarations

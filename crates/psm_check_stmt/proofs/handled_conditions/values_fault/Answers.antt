@@ -1,20 +1,9 @@
-use Rattle.std.proofs.Common.{[], ap, map, subst, ◌∙◌}
-use Rattle.psm_tree.specs.declared.statement.Handler.{Handler}
-use Rattle.psm_rules.specs.Faults.{first_of}
-use Rattle.psm_rules.specs.BlockFaults.{all_values, handler_part, values_fault}
-use Rattle.psm_check_stmt.specs.Handling.{FindsIn}
-use Rattle.psm_check_stmt.proofs.Handling.{finds_all, finds_handler}
+use Rattle.std.proofs.Common.{map}
+use Rattle.psm_rules.specs.BlockFaults.{all_values, handler_part}
+use Rattle.psm_check_stmt.proofs.Handling.{found_first}
 use Rattle.psm_check_stmt.proofs.handled_conditions.values_fault.Goals as goal
-
-pub loop-handler-preserved : goal.loop-handler-preserved
-loop-handler-preserved c =
-    finds_handler c.args.scopes.now c.items-handler-items.result.now c.loop-handler.handler-index c.handler-item.result c.new-handled_conditions.result c.loop-handler.handled_conditions
-    c.handler_values_fault.new.handled_conditions c.loop-handler.fault c.in_ok-own.own c.earlier-fault.result c.loop-handler-test.true c.handler-item.is c.loop-handler.invariant
-    (subst (λ (h : Handler). FindsIn c.args.scopes.now (handler_part h).values c.loop-handler.handled_conditions c.handler_values_fault.new.handled_conditions c.in_ok-own.own) c.get.ensures c.in_ok-own.ensures)
-    c.earlier-fault.ensures
 
 pub returns : goal.returns
 returns c =
-    finds_all c.args.scopes.now c.items-handler-items.result.now c.loop-handler.handler-index c.new-handled_conditions.result c.loop-handler.handled_conditions c.loop-handler.fault
-    c.loop-handler-test.false c.new-handled_conditions.ensures c.loop-handler.invariant
-    ∙ ap (λ l. first_of (values_fault c.args.scopes.now [] (all_values (map handler_part l)))) c.items-handler-items.ensures
+    found_first c.args.scopes.now (all_values (map handler_part c.args.handlers.now)) c.new-handled_conditions.result c.block_values_fault.new.handled_conditions c.block_values_fault.result
+    c.new-handled_conditions.ensures c.block_values_fault.ensures

@@ -1,6 +1,0 @@
-use Rattle.std.proofs.Common.{◌≡◌, drop}
-use Rattle.psm_rules.specs.FileFaults.{lists_from, lists_of, table_elements}
-use Rattle.psm_check_stmt.proofs.key_lists.KeyLists.of.Given as goal
-
-abbrev pub invariant-loop-element : goal.invariant-loop-element
-invariant-loop-element l = lists_from l.lists (drop l.element-index l.element-items) ≡ lists_of (table_elements l.table)
