@@ -3,7 +3,7 @@ ghost use Rattle.std.specs.Prelude.{◌≡◌, ◌++◌, [], IfOk, map, option_m
 ghost use Rattle.psm_tree.specs.declared.expr.Select.{out-Select};
 ghost use Rattle.psm_token.specs.declared.sign.Sign.TheVariants as s;
 ghost use Rattle.psm_token.specs.declared.word.Word.TheVariants as w;
-ghost use Rattle.psm_print.specs.Spelling.{word, sign, perhaps, in_parens, listed};
+ghost use Rattle.psm_print.specs.Spelling.{word, sign, perhaps, in_parens, listed as listed_tokens};
 ghost use Rattle.psm_print.specs.ExprTokens.{enclosed_names_tokens, expr_tokens, name_tokens, target_tokens, targets_tokens};
 ghost use Rattle.psm_print.specs.StatementTokens.{area_tokens, assignments_tokens, diagnostics_tokens, insert_source_tokens, signalled_tokens, select_into_tokens, where_tokens, simple_tokens};
 
@@ -87,7 +87,7 @@ fn call(
     procedure: &Identifier,
     arguments: &List<Boxed<Expr>>,
 ) -> Result<(), AllocError>
-    ensures { IfOk result (λ _. out.new ≡ out.old ++ word w.Call ++ name_tokens procedure.now ++ in_parens (listed (map expr_tokens arguments.now))) }
+    ensures { IfOk result (λ _. out.new ≡ out.old ++ word w.Call ++ name_tokens procedure.now ++ in_parens (listed_tokens (map expr_tokens arguments.now))) }
 {
     named(out, Word::Call, procedure)?;
     out.sign(Sign::LeftParen)?;

@@ -1,4 +1,5 @@
-//! What the checkers and the resolver read off a file in the same way: columns, parameters, labels, orders, SQLSTATEs and numbers.
+//! What the checkers and the resolver read off a file in the same way: columns, parameters, labels, orders, SQLSTATEs, numbers, and
+//! names that stand twice.
 #![tactic(auto)]
 
 mod columns;
