@@ -1,5 +1,5 @@
 -- The first fault of each kind of statement and of block, by its layer.
-use Rattle.std.proofs.Common.{◌≡◌, Bool, List, Option, map, ap}
+use Rattle.std.proofs.Common.{◌≡◌, ◌∙◌, Bool, List, [], ◌∷◌, Option, Some, None, map, refl, ap}
 use denote.Hole.Carrier
 use Rattle.psm_list.specs.Several.{Several, several_map}
 use Rattle.psm_token.specs.declared.place.Place.{Place}
@@ -19,9 +19,12 @@ use Rattle.psm_tree.specs.declared.statement.ForHead.{ForHead}
 use Rattle.psm_tree.specs.declared.statement.Declaration.{Declaration}
 use Rattle.psm_tree.specs.declared.statement.CursorDeclaration.{CursorDeclaration}
 use Rattle.psm_tree.specs.declared.statement.Simple.{Simple}
-use Rattle.psm_rules.specs.Faults.{earlier, first_of}
+use Rattle.psm_rules.specs.declared.checked.Checked.{Checked}
+use Rattle.psm_rules.specs.Checked.{as_value}
+use Rattle.psm_rules.specs.Faults.{earlier, first_from, first_of}
 use Rattle.psm_rules.specs.StatementFaults.{Context, checked, inside, label_name, label_of, several, simple_fault}
-use Rattle.psm_rules.specs.BlockFaults.{BlockPart, BranchPart, HandlerPart, Part, all, block_fault, block_layer, branch_layer, branch_part, case_branches, compound_fault, handler_layer, handler_part, head_fault, head_scope, in_loop, searched, statement_fault, statement_layer, test_part, undo_fault}
+use Rattle.psm_rules.specs.BlockFaults.{BlockPart, BranchPart, HandlerPart, Part, all, block_fault, block_layer, branch_layer, branch_part, case_branches, compound_fault, handler_layer, handler_part, head_fault, head_scope, in_loop, searched, simple, statement_fault, statement_layer, test_part, undo_fault}
+use Rattle.psm_check_stmt.specs.Branches.{branch_test_fault, branches_faults, operand_fault, operand_of}
 
 statement_rolled : (layer : Statement-F Block Statement Branch Handler) → statement_fault (roll-Statement layer) ≡ statement_layer (map-Statement Block Statement Branch Handler BlockPart Part BranchPart HandlerPart block_fault statement_fault branch_part handler_part layer)
 unfolding statement_fault block_fault branch_part handler_part
@@ -37,13 +40,30 @@ pub fault-Block : (label : Option Label) (block : Block) (c : Context) → state
 unfolding roll-Statement Carrier.roll
 fault-Block label block c = ap (λ f. f c) (statement_rolled (layers.Block label block))
 
-pub fault-If : (place : Place) (branches : Several Branch) (otherwise : List Statement) (c : Context) → statement_fault (statements.If place branches otherwise) c ≡ earlier (first_of (searched c (several (several_map branch_part branches)))) (all c (map statement_fault otherwise))
-unfolding roll-Statement Carrier.roll
-fault-If place branches otherwise c = ap (λ f. f c) (statement_rolled (layers.If place branches otherwise))
+-- the branches of IF and of CASE, with an operand or without one
+searched_are : (c : Context) (bs : List BranchPart) → searched c bs ≡ branches_faults c None bs
+searched_are c [] = refl
+searched_are c (b ∷ bs) = ap (λ fs. earlier (branch_test_fault None (b c).0) (b c).1 ∷ fs) (searched_are c bs)
 
-pub fault-Case : (place : Place) (operand : Option Expr) (branches : Several Branch) (otherwise : List Statement) (c : Context) → statement_fault (statements.Case place operand branches otherwise) c ≡ earlier (first_of (case_branches c operand (several (several_map branch_part branches)))) (all c (map statement_fault otherwise))
+simple_are : (c : Context) (operand : Checked) (bs : List BranchPart) → simple c operand bs ≡ branches_faults c (Some operand) bs
+simple_are c operand [] = refl
+simple_are c operand (b ∷ bs) = ap (λ fs. earlier (branch_test_fault (Some operand) (b c).0) (b c).1 ∷ fs) (simple_are c operand bs)
+
+case_are : (c : Context) (operand : Option Expr) (bs : List BranchPart) → first_of (case_branches c operand bs) ≡ first_from (operand_fault (operand_of c operand)) (branches_faults c (operand_of c operand) bs)
+case_are c None bs = ap (first_from None) (searched_are c bs)
+case_are c (Some e) bs = let operand = as_value (checked c.checker_scope e) in ap (first_from operand.fault) (simple_are c operand bs)
+
+pub fault-If : (place : Place) (branches : Several Branch) (otherwise : List Statement) (c : Context) → statement_fault (statements.If place branches otherwise) c ≡ earlier (first_from None (branches_faults c None (several (several_map branch_part branches)))) (all c (map statement_fault otherwise))
 unfolding roll-Statement Carrier.roll
-fault-Case place operand branches otherwise c = ap (λ f. f c) (statement_rolled (layers.Case place operand branches otherwise))
+fault-If place branches otherwise c =
+    ap (λ f. f c) (statement_rolled (layers.If place branches otherwise))
+    ∙ ap (λ fs. earlier (first_from None fs) (all c (map statement_fault otherwise))) (searched_are c (several (several_map branch_part branches)))
+
+pub fault-Case : (place : Place) (operand : Option Expr) (branches : Several Branch) (otherwise : List Statement) (c : Context) → statement_fault (statements.Case place operand branches otherwise) c ≡ earlier (first_from (operand_fault (operand_of c operand)) (branches_faults c (operand_of c operand) (several (several_map branch_part branches)))) (all c (map statement_fault otherwise))
+unfolding roll-Statement Carrier.roll
+fault-Case place operand branches otherwise c =
+    ap (λ f. f c) (statement_rolled (layers.Case place operand branches otherwise))
+    ∙ ap (λ f. earlier f (all c (map statement_fault otherwise))) (case_are c operand (several (several_map branch_part branches)))
 
 pub fault-Simple : (simple : Simple) (c : Context) → statement_fault (statements.Simple simple) c ≡ simple_fault c simple
 unfolding roll-Statement Carrier.roll

@@ -1,3 +1,4 @@
+pub mod Branches
 pub mod ForItems
 pub mod Handling
 pub mod InRoutine

@@ -1,13 +1,12 @@
 //! The first fault of a statement with statements in it.
-ghost use Rattle.std.specs.Prelude.{◌≡◌, ◌∷◌, IfOk, map};
+ghost use Rattle.std.specs.Prelude.{◌≡◌, IfOk, map};
 ghost use Rattle.std.specs.Option.{option_copied};
 ghost use Rattle.psm_list.specs.Several.{several_map};
-ghost use Rattle.psm_rules.specs.Faults.{earlier, first_of};
-ghost use Rattle.psm_rules.specs.Checked.{as_condition};
-ghost use Rattle.psm_rules.specs.ExprFaults.{simple_test};
+ghost use Rattle.psm_rules.specs.Faults.{earlier, first_from, first_of};
 ghost use Rattle.psm_rules.specs.StatementFaults.{end_label_fault, inside, label_name, label_of, several};
-ghost use Rattle.psm_rules.specs.BlockFaults.{all, block_fault, branch_part, case_branches, handler_part, handlers_fault, in_loop, searched, simple, statement_fault, test_part, undo_fault};
+ghost use Rattle.psm_rules.specs.BlockFaults.{all, block_fault, branch_part, handler_part, handlers_fault, in_loop, statement_fault, test_part};
 ghost use Rattle.psm_scope.specs.Scopes.{Action};
+ghost use Rattle.psm_check_stmt.specs.Branches.{branch_test_fault, branches_faults, operand_fault, operand_of};
 ghost use Rattle.psm_check_stmt.specs.InRoutine.{context};
 
 use crate::declarations::declared_fault;
@@ -45,7 +44,7 @@ pub(crate) fn statement_fault<'w, 'a>(
             otherwise,
             ..
         } => {
-            let fault = searched(branches, c, scopes)?;
+            let fault = branches_fault(branches, c, scopes, None)?;
             let others = all(otherwise, c, scopes)?;
             Ok(earlier(fault, others))
         }
@@ -55,7 +54,8 @@ pub(crate) fn statement_fault<'w, 'a>(
             otherwise,
             ..
         } => {
-            let fault = case_fault(branches, c, scopes, operand)?;
+            let operand = operand_checked(c, scopes, operand)?;
+            let fault = branches_fault(branches, c, scopes, operand)?;
             let others = all(otherwise, c, scopes)?;
             Ok(earlier(fault, others))
         }
@@ -127,73 +127,57 @@ fn end_label_fault(start: &Identifier, end: &Option<Identifier>) -> Option<Fault
 
 // ---- IF and CASE
 
-// Branches whose tests are conditions.
-#[cycle(statement)]
-fn searched<'w, 'a>(
-    branches: &'a OneOrMore<Boxed<Branch>>,
+// The operand of a simple CASE, if there is one.
+fn operand_checked<'w, 'a>(
     c: Context<'w, 'a>,
-    scopes: &mut Scopes<'a>,
-) -> Result<Option<Fault>, AllocError>
-    ensures fault { IfOk result (λ f. f ≡ first_of (searched (context c.entry scopes.old) (several (several_map branch_part branches.now)))) }
-    ensures kept { IfOk result (λ _. scopes.new ≡ scopes.old) }
-{
-    let mut fault = searched_branch(branches.first.get(), c, scopes)?;
-    for branch in branches.rest.items() {
-        let own = searched_branch(branch.get(), c, scopes)?;
-        fault = earlier(fault, own);
-    }
-    Ok(fault)
-}
-
-#[cycle(statement)]
-#[tactic(auto, using(crate::proofs::StatementEquations::part_of_branch))]
-fn searched_branch<'w, 'a>(
-    branch: &'a Branch,
-    c: Context<'w, 'a>,
-    scopes: &mut Scopes<'a>,
-) -> Result<Option<Fault>, AllocError>
-    ensures fault { IfOk result (λ f. let b = branch_part branch.now (context c.entry scopes.old) in f ≡ earlier (as_condition b.0).fault b.1) }
-    ensures kept { IfOk result (λ _. scopes.new ≡ scopes.old) }
-{
-    let test = check_expr(c.alloc, branch.test.get(), c.checker_scope(scopes))?;
-    let fault = several(&branch.statements, c, scopes)?;
-    Ok(earlier(as_condition(test).fault, fault))
-}
-
-#[cycle(statement)]
-fn case_fault<'w, 'a>(
-    branches: &'a OneOrMore<Boxed<Branch>>,
-    c: Context<'w, 'a>,
-    scopes: &mut Scopes<'a>,
+    scopes: &Scopes<'a>,
     operand: &Option<Boxed<Expr>>,
-) -> Result<Option<Fault>, AllocError>
-    ensures fault { IfOk result (λ f. f ≡ first_of (case_branches (context c.entry scopes.old) operand.now (several (several_map branch_part branches.now)))) }
-    ensures kept { IfOk result (λ _. scopes.new ≡ scopes.old) }
+) -> Result<Option<Checked>, AllocError>
+    ensures { IfOk result (λ o. o ≡ operand_of (context c.entry scopes.now) operand.now) }
 {
     match operand {
-        None => searched(branches, c, scopes),
+        None => Ok(None),
         Some(e) => {
             let checked = check_expr(c.alloc, e.get(), c.checker_scope(scopes))?;
-            simple(branches, c, scopes, as_value(checked))
+            Ok(Some(as_value(checked)))
         }
     }
 }
 
-// Branches whose tests an operand goes with, each by itself.
+fn operand_fault(operand: Option<Checked>) -> Option<Fault>
+    ensures { result ≡ operand_fault operand }
+{
+    match operand {
+        None => None,
+        Some(operand) => operand.fault,
+    }
+}
+
+// A test is a condition, or goes with an operand.
+fn branch_test_fault(operand: Option<Checked>, test: Checked) -> Option<Fault>
+    ensures { result ≡ branch_test_fault operand test }
+{
+    match operand {
+        None => as_condition(test).fault,
+        Some(operand) => simple_test(operand, test).fault,
+    }
+}
+
+// The branches of IF or CASE; an operand goes with each test by itself.
 #[cycle(statement)]
-fn simple<'w, 'a>(
+fn branches_fault<'w, 'a>(
     branches: &'a OneOrMore<Boxed<Branch>>,
     c: Context<'w, 'a>,
     scopes: &mut Scopes<'a>,
-    operand: Checked,
+    operand: Option<Checked>,
 ) -> Result<Option<Fault>, AllocError>
-    ensures fault { IfOk result (λ f. f ≡ first_of (operand.fault ∷ simple (context c.entry scopes.old) operand (several (several_map branch_part branches.now)))) }
+    ensures fault { IfOk result (λ f. f ≡ first_from (operand_fault operand) (branches_faults (context c.entry scopes.old) operand (several (several_map branch_part branches.now)))) }
     ensures kept { IfOk result (λ _. scopes.new ≡ scopes.old) }
 {
-    let first = simple_branch(branches.first.get(), c, scopes, operand)?;
-    let mut fault = earlier(operand.fault, first);
+    let first = branch_fault(branches.first.get(), c, scopes, operand)?;
+    let mut fault = earlier(operand_fault(operand), first);
     for branch in branches.rest.items() {
-        let own = simple_branch(branch.get(), c, scopes, operand)?;
+        let own = branch_fault(branch.get(), c, scopes, operand)?;
         fault = earlier(fault, own);
     }
     Ok(fault)
@@ -201,18 +185,18 @@ fn simple<'w, 'a>(
 
 #[cycle(statement)]
 #[tactic(auto, using(crate::proofs::StatementEquations::part_of_branch))]
-fn simple_branch<'w, 'a>(
+fn branch_fault<'w, 'a>(
     branch: &'a Branch,
     c: Context<'w, 'a>,
     scopes: &mut Scopes<'a>,
-    operand: Checked,
+    operand: Option<Checked>,
 ) -> Result<Option<Fault>, AllocError>
-    ensures fault { IfOk result (λ f. let b = branch_part branch.now (context c.entry scopes.old) in f ≡ earlier (simple_test operand b.0).fault b.1) }
+    ensures fault { IfOk result (λ f. let b = branch_part branch.now (context c.entry scopes.old) in f ≡ earlier (branch_test_fault operand b.0) b.1) }
     ensures kept { IfOk result (λ _. scopes.new ≡ scopes.old) }
 {
     let test = check_expr(c.alloc, branch.test.get(), c.checker_scope(scopes))?;
     let fault = several(&branch.statements, c, scopes)?;
-    Ok(earlier(simple_test(operand, test).fault, fault))
+    Ok(earlier(branch_test_fault(operand, test), fault))
 }
 
 // ---- blocks
