@@ -27,7 +27,7 @@ use Rattle.psm_table.proofs.Ordered.{in_order-ascending}
 use Rattle.psm_table.proofs.Rules.{all-in_order, both, first_true, second_true}
 use Rattle.psm_store.specs.RowCalls.{changed_at, put_table}
 use Rattle.psm_row_changes.specs.declared.seeking.Sought.{Sought}
-use Rattle.psm_row_changes.specs.KeyTests.{adds_only, by_values, changes_all, found_in, holds_late, is_late, is_there, refers_early, replaces, replaces_late, stays, values_new, IsSought, Matched, IsDecided}
+use Rattle.psm_row_changes.specs.KeyTests.{adds_only, by_values, changes_all, found_in, holds_late, is_early, is_late, is_there, refers_early, replaces, replaces_late, stays, values_new, IsSought, Matched, IsDecided}
 use Rattle.psm_row_changes.specs.Rows.{changed_if, fit_in, keys_of_rows, with_rows, without_keys, AreInPlace, IsWhole, TakesRows}
 use Rattle.psm_row_changes.proofs.Effects.{changed_is, said, set_same}
 use Rattle.psm_row_changes.proofs.Leftover.{all-left, and_where, ascending-all, rows_in_order}
@@ -373,6 +373,21 @@ row_columns tables t key rows h e w = by (slice_get tables key.from) refl (subst
   by : (o : Option Contents) → slice_get tables key.from ≡ o → IfSome o (λ c. All (IsWhole c.def) rows) → All (λ row. AreColumnsOf row key.columns) rows
   by None g p = absurd (let bad = sym (ap (option_map (λ (x : Contents). x.def)) g) ∙ sym (slice_get-map (λ (x : Contents). x.def) tables key.from) ∙ h.refers.1 in cc)
   by (Some c) g p = let columns = columns_there tables key.from key.columns c g h.refers in λ k d l. subst (λ n. All (λ i. i < n) key.columns) (sym (p k d l).long) columns
+
+-- a constraint that is tested before the rows change, and one that is not
+module _ (tables : List Contents) (t : ℕ) (own : Option (List ℕ)) (new : List Row) (key : ForeignKey) where
+  pub early_from : is_early t own key ≡ true → key.from ≡ t
+  early_from e = eqb-true key.from t (first_true (nat_eq key.from t) (not (nat_eq key.to t) || stays own key) e)
+
+  pub looked_up : (to : Contents) → slice_get tables key.to ≡ Some to → is_early t own key ≡ true → (r : Result Bool AllocError)
+      → IfOk r (λ b. b ≡ list_all (is_referred key.columns key.target to.rows) new) → IfOk r (λ b. b ≡ refers_early (rows_in tables) t own new key)
+  looked_up to g early (Ok b) h =
+      h ∙ ap (λ (l : List Row). list_all (is_referred key.columns key.target l) new) (sym (rows_there tables key.to to g))
+      ∙ sym (ap (λ x. if x then list_all (is_referred key.columns key.target (rows_at (rows_in tables) key.to)) new else true) early)
+  looked_up to g early (Err error) h = tt
+
+  pub not_early : is_early t own key ≡ false → true ≡ refers_early (rows_in tables) t own new key
+  not_early e = sym (ap (λ x. if x then list_all (is_referred key.columns key.target (rows_at (rows_in tables) key.to)) new else true) e)
 
 -- ---- rows in the places of those that had their keys, put in anew
 

@@ -18,10 +18,13 @@ abbrev pub stays : Option (List ℕ) → ForeignKey → Bool
 stays None key = false
 stays (Some own) key = pointwise nat_eq key.target own
 
--- of a constraint by which the table refers to values that stay: whether each new row has a null in its columns, or a row that there
--- is has the same values
+-- whether a constraint is to be tested before the rows change: the table refers by it to values that stay
+abbrev pub is_early : ℕ → Option (List ℕ) → ForeignKey → Bool
+is_early t own key = nat_eq key.from t && (not (nat_eq key.to t) || stays own key)
+
+-- if it is: whether each new row has a null in its columns, or a row that there is has the same values
 abbrev pub refers_early : List (List (List Datum)) → ℕ → Option (List ℕ) → List (List Datum) → ForeignKey → Bool
-refers_early tables t own new key = if nat_eq key.from t && (not (nat_eq key.to t) || stays own key) then list_all (is_referred key.columns key.target (rows_at tables key.to)) new else true
+refers_early tables t own new key = if is_early t own key then list_all (is_referred key.columns key.target (rows_at tables key.to)) new else true
 
 -- whether a constraint is to be tested once the rows have changed: it refers to values of the table that may change, and rows may
 -- have gone or it refers to itself

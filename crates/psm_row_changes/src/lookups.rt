@@ -5,7 +5,7 @@ ghost use Rattle.std.specs.Option.{option_copied};
 ghost use Rattle.psm_table.specs.Key.{values_at, AreColumnsOf};
 ghost use Rattle.psm_table.specs.Keyed.{defs_in, has_values, is_referred, rows_in, IsKeyOf};
 ghost use Rattle.psm_table.specs.Unique.{has_null as has_null_among};
-ghost use Rattle.psm_row_changes.specs.KeyTests.{holds_late, is_late as is_tested_late, refers_early, stays as values_stay, Matched, IsDecided};
+ghost use Rattle.psm_row_changes.specs.KeyTests.{holds_late, is_early as is_tested_early, is_late as is_tested_late, refers_early, stays as values_stay, Matched, IsDecided};
 ghost use Rattle.psm_row_changes.specs.Rows.{IsWhole};
 
 use crate::filling::is_null;
@@ -51,11 +51,18 @@ fn refer_by<S: Store>(
     requires rows { IfSome (slice_get (S.tables store.now) t) (λ c. All (IsWhole c.def) rows.now) }
     ensures { IfOk result (λ b. b ≡ refers_early (rows_in (S.tables store.now)) t (option_copied own.entry) rows.now key.now) }
 {
-    if key.from == t && (key.to != t || stays(own, key)) {
+    if is_early(key, t, own) {
         refer_to(alloc, store.table(key.to), key, rows)
     } else {
         Ok(true)
     }
+}
+
+// Whether a constraint is to be tested before the rows of a table change: the table refers by it to values that stay.
+fn is_early(key: &ForeignKey, t: u32, own: Option<&[u32]>) -> bool
+    ensures { result ≡ is_tested_early t (option_copied own.entry) key.now }
+{
+    key.from == t && (key.to != t || stays(own, key))
 }
 
 // Whether a constraint refers by the columns whose values stay.
