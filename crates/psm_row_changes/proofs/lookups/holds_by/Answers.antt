@@ -4,8 +4,8 @@ use Rattle.psm_row_changes.proofs.lookups.holds_by.Goals as goal
 pub table-requires : goal.table-requires
 table-requires g c = table_there (g.S.Store.tables c.args.store.now) c.args.key.now.from c.args.key.now.columns c.requires.key.refers
 
-pub table-2-requires : goal.table-2-requires
-table-2-requires g c = table_there (g.S.Store.tables c.args.store.now) c.args.key.now.to c.args.key.now.target c.requires.key.referred
+pub table-requires-2 : goal.table-requires-2
+table-requires-2 g c = table_there (g.S.Store.tables c.args.store.now) c.args.key.now.to c.args.key.now.target c.requires.key.referred
 
 pub holds_by_values-requires-clause-columns : goal.holds_by_values-requires-clause-columns
 holds_by_values-requires-clause-columns g c = columns_there (g.S.Store.tables c.args.store.now) c.args.key.now.from c.args.key.now.columns c.table.result.now.contents c.table.ensures c.requires.key.refers

@@ -5,8 +5,8 @@ use Rattle.psm_row_changes.proofs.lookups.holds_by_walk.Goals as goal
 pub table-requires : goal.table-requires
 table-requires g c = table_there (g.S.Store.tables c.args.store.now) c.args.key.now.from c.args.key.now.columns c.requires.refers
 
-pub table-2-requires : goal.table-2-requires
-table-2-requires g c = table_there (g.S.Store.tables c.args.store.now) c.args.key.now.to c.args.key.now.target c.requires.referred
+pub table-requires-2 : goal.table-requires-2
+table-requires-2 g c = table_there (g.S.Store.tables c.args.store.now) c.args.key.now.to c.args.key.now.target c.requires.referred
 
 pub holds-requires-clause-columns : goal.holds-requires-clause-columns
 holds-requires-clause-columns g c = columns_there (g.S.Store.tables c.args.store.now) c.args.key.now.from c.args.key.now.columns c.table.result.now.contents c.table.ensures c.requires.refers
