@@ -341,8 +341,12 @@ columns_there tables n columns c here h =
     let same : h.0 ≡ c.def = cc in
     subst (λ (def : TableDef). All (λ i. i < length def.columns) columns) same h.2
 
-pub late_to : (t : ℕ) (own : Option (List ℕ)) (adds : Bool) (key : ForeignKey) → is_late t own adds key ≡ true → key.to ≡ t
-late_to t own adds key e = eqb-true key.to t (first_true (nat_eq key.to t) (not (stays own key) && (nat_eq key.from t || not adds)) e)
+module _ (t : ℕ) (adds : Bool) (key : ForeignKey) (b : Bool) (e : b ≡ is_late t None adds key) (so : b ≡ true) where
+  pub late_is : (others : Bool) → adds ≡ others → is_late t None others key ≡ true
+  late_is others f = ap (λ a. is_late t None a key) (sym f) ∙ sym e ∙ so
+
+  pub late_to : key.to ≡ t
+  late_to = eqb-true key.to t (first_true (nat_eq key.to t) (not false && (nat_eq key.from t || not adds)) (sym e ∙ so))
 
 -- a constraint that is tested by a walk over its tables, and one that is not tested
 module _ (tables : List Contents) (t : ℕ) (adds : Bool) (key : ForeignKey) where
