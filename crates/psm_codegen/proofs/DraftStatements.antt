@@ -87,11 +87,11 @@ module _ {known : Known} {context end : ℕ} (enclosing : List EnclosingBlock) w
 
   -- ---- IF and CASE
 
-  pub compared_drafted : {p t b d q : FunctionBuilder} (operand f : ResolvedExpr) (branches : List ResolvedBranch) (otherwise : List ResolvedStatement) → f ≡ operand → Drafted (λ σ. Writes known context (σ end) N f) p.code t.code → t ≡ with_code t.code p
-      → DraftedParts (λ σ. WritesComparisons known context (map (patched_block σ) enclosing) (σ end) branches) t b → d ≡ with_code (taken context end op.Drop b.code) b
-      → DraftedParts (λ σ. WritesElse known context (map (patched_block σ) enclosing) otherwise) d q → DraftedParts (λ σ. WritesForm known context (σ end) (map (patched_block σ) enclosing) (layers.Case (Some operand) branches otherwise)) p q
-  compared_drafted operand f branches otherwise h0 x h1 bs h2 ss = four (parts_alone x h1) bs (puts_parts context end (instruction.Operation op.Drop) 1 [] h2) ss
-      (λ σ x bs d ss. compared_written operand f branches otherwise h0 x.0 x.1 bs d ss)
+  pub compared_drafted : {p t b q : FunctionBuilder} (operand f : ResolvedExpr) (branches : List ResolvedBranch) → f ≡ operand → Drafted (λ σ. Writes known context (σ end) N f) p.code t.code → t ≡ with_code t.code p
+      → DraftedParts (λ σ. WritesComparisons known context (map (patched_block σ) enclosing) (σ end) branches) t b → q ≡ with_code (taken context end op.Drop b.code) b
+      → DraftedParts (λ σ y z. (last : List ResolvedStatement) (r : FunctionBuilder) → WritesElse known context (map (patched_block σ) enclosing) last z r → WritesForm known context (σ end) (map (patched_block σ) enclosing) (layers.Case (Some operand) branches last) y r) p q
+  compared_drafted operand f branches h0 x h1 bs h2 = three (parts_alone x h1) bs (puts_parts context end (instruction.Operation op.Drop) 1 [] h2)
+      (λ σ x bs d last r ss. compared_written operand f branches last h0 x.0 x.1 bs d ss)
 
   -- ---- branches, which go to the line of the label `end`
 

@@ -86,18 +86,10 @@ fn form(
             operand,
             branches: list,
             otherwise: last,
-        } => match operand {
-            None => {
-                branches(list, parts, emit_context, enclosing)?;
-                otherwise(last, parts, emit_context, enclosing)
-            }
-            Some(e) => {
-                evaluated(parts, emit_context, e.get(), Letter::N)?;
-                comparisons(list, parts, emit_context, enclosing)?;
-                take(parts, emit_context, Op::Drop)?;
-                otherwise(last, parts, emit_context, enclosing)
-            }
-        },
+        } => {
+            cases(list, parts, emit_context, enclosing, operand)?;
+            otherwise(last, parts, emit_context, enclosing)
+        }
         ResolvedStatement::Simple(s) => simple(parts, emit_context, enclosing, s.get()),
     }
 }
@@ -289,6 +281,27 @@ fn otherwise(
         no_case(parts, emit_context)
     } else {
         statements(list, parts, emit_context, enclosing)
+    }
+}
+
+/// Writes the branches of a CASE, which go to the line at which the run goes on. An operand is put before them, and dropped after them.
+#[cycle(stating)]
+fn cases(
+    list: &List<Boxed<ResolvedBranch>>,
+    parts: &mut FunctionBuilder,
+    emit_context: EmitContext<'_>,
+    enclosing: &[EnclosingBlock],
+    operand: &Option<Boxed<ResolvedExpr>>,
+) -> Result<(), AllocError>
+    ensures { IfOk result (λ _. DraftedParts (λ σ p q. (last : _) (r : Whole) → WritesElse emit_context.entry.known.now emit_context.entry.context (map (patched_block σ) enclosing.now) last q r → WritesForm emit_context.entry.known.now emit_context.entry.context (σ emit_context.entry.resume) (map (patched_block σ) enclosing.now) (layers.Case operand.now list.now last) p r) parts.old parts.new) }
+{
+    match operand {
+        None => branches(list, parts, emit_context, enclosing),
+        Some(e) => {
+            evaluated(parts, emit_context, e.get(), Letter::N)?;
+            comparisons(list, parts, emit_context, enclosing)?;
+            take(parts, emit_context, Op::Drop)
+        }
     }
 }
 

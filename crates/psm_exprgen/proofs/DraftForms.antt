@@ -1,7 +1,5 @@
 -- The lines of each form of expression, of those of its parts, with labels.
-use Rattle.std.proofs.Common.{◌≡◌, ◌+◌, ℕ, true, List, [], ◌∷◌, ◌++◌, Option, Some, None, length, ap, refl, sym, ◌∙◌, subst}
-use Rattle.std.specs.Prelude.{Result, IfOk}
-use Rattle.std.specs.declared.alloc.AllocError.{AllocError}
+use Rattle.std.proofs.Common.{◌≡◌, ◌+◌, ℕ, Bool, true, false, List, [], ◌∷◌, ◌++◌, Option, Some, None, is_some, length, ap, refl, sym, ◌∙◌, subst}
 use Rattle.psm_list.specs.Several.{Several}
 use Rattle.psm_value.specs.declared.datum.Datum.TheVariants as data_of
 use Rattle.psm_exprcode.specs.declared.op.Letter.{Letter}
@@ -19,8 +17,9 @@ use Rattle.psm_resolved.specs.RowValue.{listed}
 use Rattle.psm_resolved.specs.RowType as row_types
 use Rattle.psm_resolved.specs.Written.{letter_of_operator, op_of_logical_operator, op_of_operator}
 use Rattle.psm_code.specs.declared.instruction.Instruction.TheVariants as instruction
-use Rattle.psm_simulation.specs.Expressions.{Layer, is_straight, operands_of, operations_of, scaling}
+use Rattle.psm_simulation.specs.Expressions.{Layer, is_straight, operands_of, operations_of, scaling, some_operand}
 use Rattle.psm_exprgen.specs.declared.known.Known.{Known}
+use Rattle.psm_exprgen.specs.ExprForms.{CaseTests, WritesForm}
 use Rattle.psm_exprgen.specs.Exprs.{Arguments, Compares, Firsts, Joins, ChainLinks, Otherwise, Whens, Writes, WritesAll, function_number, more, none, straight_letter}
 use Rattle.psm_exprgen.specs.Labels.{Drafted, patched}
 use Rattle.psm_exprgen.specs.Queries.{QueryMade, item_letters}
@@ -29,7 +28,7 @@ use Rattle.psm_exprgen.proofs.Counts.{here-applied, here-taken}
 use Rattle.psm_exprgen.proofs.Drafts.{begins-same, four, one, three, two}
 use Rattle.psm_exprgen.proofs.DraftSteps.{all_applied_drafted, applied_drafted, puts_drafted, query_drafted, scoped, taken_drafted}
 use Rattle.psm_exprgen.proofs.Ends.{firsts_next, joined_next, linked_next}
-use Rattle.psm_exprgen.proofs.Forms.{call_written, coalesce_written, column_written, compared_one, compared_written, else_null, exists_written, null_written, ok_as, scalar_written, searched_one, searched_written, straight_written}
+use Rattle.psm_exprgen.proofs.Forms.{call_written, case_written, coalesce_written, column_written, compared_one, else_null, exists_written, null_written, scalar_written, searched_one, straight_written}
 use Rattle.psm_exprgen.proofs.Patches.{Still, still-logical_operator, still-operations, still-operator, still-scaling}
 
 straight-patched : (known : Known) (σ : ℕ → ℕ) (v : Written) (layer : Layer) → straight_letter known layer v ≡ straight_letter known layer (patched σ v)
@@ -46,13 +45,15 @@ module _ {known : Known} {context resume : ℕ} where
       → Drafted (λ σ. WritesAll known context (σ resume) (e ∷ es)) w v
   more_drafted a b = two a b (λ σ x y. more x y)
 
-  pub straight_drafted : {w v : Written} (k : Letter) (e : ResolvedExpr) (layer : Layer) (new : Written) (r : Result (Unit {0}) AllocError) → out-ResolvedExpr e ≡ layer → is_straight layer ≡ true
-      → Drafted (λ σ. WritesAll known context (σ resume) (operands_of layer)) w v
-      → IfOk r (λ _. new ≡ all_applied context resume (length (operands_of layer)) (straight_letter known layer v) (operations_of layer) v) → IfOk r (λ _. Drafted (λ σ. Writes known context (σ resume) k e) w new)
-  straight_drafted {w} {v} k e layer new r q h a b = ok_as r
-      (λ n. two a (all_applied_drafted context resume (length (operands_of layer)) (straight_letter known layer v) (operations_of layer) (still-operations layer) n)
-      (λ σ x y. straight_written k e layer (patched σ new) q h x
-      (y ∙ ap (λ z. all_applied context (σ resume) (length (operands_of layer)) z (operations_of layer) (patched σ v)) (straight-patched known σ v layer)))) b
+  pub all_same : {es fs : List ResolvedExpr} {w v : Written} → es ≡ fs → Drafted (λ σ. WritesAll known context (σ resume) fs) w v → Drafted (λ σ. WritesAll known context (σ resume) es) w v
+  all_same {w = w} {v = v} q a = subst (λ es. Drafted (λ σ. WritesAll known context (σ resume) es) w v) (sym q) a
+
+  pub straight_drafted : {k : Letter} {w v new : Written} (e : ResolvedExpr) → is_straight (out-ResolvedExpr e) ≡ true → Drafted (λ σ. WritesAll known context (σ resume) (operands_of (out-ResolvedExpr e))) w v
+      → new ≡ all_applied context resume (length (operands_of (out-ResolvedExpr e))) (straight_letter known (out-ResolvedExpr e) v) (operations_of (out-ResolvedExpr e)) v → Drafted (λ σ. Writes known context (σ resume) k e) w new
+  straight_drafted {k} {w} {v} {new} e h a n =
+      let layer = out-ResolvedExpr e in
+      two a (all_applied_drafted context resume (length (operands_of layer)) (straight_letter known layer v) (operations_of layer) (still-operations layer) n)
+      (λ σ x y. straight_written k e (patched σ new) h x (y ∙ ap (λ z. all_applied context (σ resume) (length (operands_of layer)) z (operations_of layer) (patched σ v)) (straight-patched known σ v layer)))
 
   -- ---- NULL, and a column
 
@@ -64,22 +65,21 @@ module _ {known : Known} {context resume : ℕ} where
 
   -- ---- calls, and queries
 
-  pub call_drafted : {k : Letter} {w v new : Written} (e : ResolvedExpr) (function routine : ℕ) (arguments : List ResolvedExpr) (letters : List Letter) (count : ℕ) (letter : Letter) → out-ResolvedExpr e ≡ layers.Call function arguments
-      → routine ≡ function_number known function → letters ≡ letters_at known.takes routine → letter ≡ letter_at known.results routine → count ≡ length arguments → Drafted (λ σ. Arguments known context (σ resume) letters 0 arguments) w v
-      → new ≡ puts context resume (instruction.FunctionCall routine) count (letter ∷ []) v → Drafted (λ σ. Writes known context (σ resume) k e) w new
-  call_drafted e function routine arguments letters count letter q r t l c a n =
-      two a (puts_drafted context resume (instruction.FunctionCall routine) count (letter ∷ []) n) (λ σ x y. call_written e function routine arguments letters count letter q r t l c x y)
+  pub call_drafted : {w v new : Written} (function routine : ℕ) (arguments : List ResolvedExpr) (letters : List Letter) (count : ℕ) (letter : Letter) → routine ≡ function_number known function → letters ≡ letters_at known.takes routine
+      → letter ≡ letter_at known.results routine → count ≡ length arguments → Drafted (λ σ. Arguments known context (σ resume) letters 0 arguments) w v → new ≡ puts context resume (instruction.FunctionCall routine) count (letter ∷ []) v
+      → Drafted (λ σ. WritesForm known context (σ resume) (layers.Call function arguments)) w new
+  call_drafted function routine arguments letters count letter r t l c a n =
+      two a (puts_drafted context resume (instruction.FunctionCall routine) count (letter ∷ []) n) (λ σ x y. call_written function routine arguments letters count letter r t l c x y)
 
-  pub scalar_drafted : {k : Letter} {w asks new : Written} (e : ResolvedExpr) (query seen : ResolvedQuery) (number : ℕ) (letter : Letter) → out-ResolvedExpr e ≡ layers.Scalar query → seen ≡ query → number ≡ length w.queries
-      → (c : Query) × QueryMade known seen c × (asks ≡ with_query c w) → letter ≡ letter_at (item_letters known seen) 0 → new ≡ puts context resume (instruction.Scalar number) 0 (letter ∷ []) asks
-      → Drafted (λ σ. Writes known context (σ resume) k e) w new
-  scalar_drafted e query seen number letter q s m a l n =
-      two (query_drafted a.0 a.2) (puts_drafted context resume (instruction.Scalar number) 0 (letter ∷ []) n) (λ σ x y. scalar_written e query seen number letter q s m (a.0, a.1, x) l y)
+  pub scalar_drafted : {w new : Written} (query : ResolvedQuery)
+      → (code : Query) × QueryMade known query code × (new ≡ puts context resume (instruction.Scalar (length w.queries)) 0 (letter_at (item_letters known query) 0 ∷ []) (with_query code w))
+      → Drafted (λ σ. WritesForm known context (σ resume) (layers.Scalar query)) w new
+  scalar_drafted {w} query a =
+      two (query_drafted a.0 refl) (puts_drafted context resume (instruction.Scalar (length w.queries)) 0 (letter_at (item_letters known query) 0 ∷ []) a.2) (λ σ x y. scalar_written query a.0 a.1 x y)
 
-  pub exists_drafted : {k : Letter} {w asks new : Written} (e : ResolvedExpr) (query seen : ResolvedQuery) (number : ℕ) → out-ResolvedExpr e ≡ layers.Exists query → seen ≡ query → number ≡ length w.queries
-      → (c : Query) × QueryMade known seen c × (asks ≡ with_query c w) → new ≡ puts context resume (instruction.Exists number) 0 (B ∷ []) asks → Drafted (λ σ. Writes known context (σ resume) k e) w new
-  exists_drafted e query seen number q s m a n =
-      two (query_drafted a.0 a.2) (puts_drafted context resume (instruction.Exists number) 0 (B ∷ []) n) (λ σ x y. exists_written e query seen number q s m (a.0, a.1, x) y)
+  pub exists_drafted : {w new : Written} (query : ResolvedQuery) → (code : Query) × QueryMade known query code × (new ≡ puts context resume (instruction.Exists (length w.queries)) 0 (B ∷ []) (with_query code w))
+      → Drafted (λ σ. WritesForm known context (σ resume) (layers.Exists query)) w new
+  exists_drafted {w} query a = two (query_drafted a.0 refl) (puts_drafted context resume (instruction.Exists (length w.queries)) 0 (B ∷ []) a.2) (λ σ x y. exists_written query a.0 a.1 x y)
 
   -- ---- ELSE
 
@@ -109,29 +109,33 @@ module _ {known : Known} {context resume : ℕ} where
       four (applied_drafted context resume op.Duplicate 0 letter (λ σ. refl) hd) a (applied_drafted context resume op.Equal 2 B (λ σ. refl) hq) (scoped n m inner e)
       (λ σ h d2 h2 s. s.0 s.1 (patched σ w) (patched σ d) (patched σ u) same h d2 h2)
 
-  pub searched_drafted : {k : Letter} {w l u f v new : Written} (e : ResolvedExpr) (whens : Several ResolvedWhen) (otherwise : Option ResolvedExpr) (scale : Option ℕ) (end : ℕ) (letter : Letter) → out-ResolvedExpr e ≡ layers.Case None whens otherwise scale
-      → letter ≡ row_types.letter_at scale → end ≡ length w.labels → l ≡ with_label None w → Drafted (λ σ. Whens known context (σ resume) letter (σ end) (listed whens)) l u → Drafted (λ σ. Otherwise known context (σ resume) letter otherwise) u f
-      → v ≡ bound end f → new ≡ all_applied context resume 1 N (scaling scale) v → Drafted (λ σ. Writes known context (σ resume) k e) w new
-  searched_drafted {k} {w} {l} {u} {f} {v} {new} e whens otherwise scale end letter q le n m a b h s =
-      let inner : Drafted (λ σ y z. σ end ≡ here z → (after : Written) → after ≡ all_applied context (σ resume) 1 N (scaling scale) z → Writes known context (σ resume) k e y after) l f =
-      two a b (λ σ x y index after t. searched_written e whens otherwise scale (σ end) letter q le index x y t) in
-      two (scoped n m inner h) (all_applied_drafted context resume 1 N (scaling scale) (still-scaling scale) s) (λ σ x t. x.0 x.1 (patched σ new) t)
+  pub tested_drafted : {k : Letter} {w u v : Written} (end : ℕ) (whens : List ResolvedWhen) (has_operand : Bool) → has_operand ≡ true → Drafted (λ σ. Compares known context (σ resume) k (σ end) whens) w u → v ≡ taken context resume op.Drop u
+      → Drafted (λ σ. CaseTests known context (σ resume) has_operand k (σ end) whens) w v
+  tested_drafted {k} {w} {u} {v} end whens has_operand q a h =
+      subst (λ z. Drafted (λ σ. CaseTests known context (σ resume) z k (σ end) whens) w v) (sym q) (two a (taken_drafted context resume op.Drop h) (λ σ x y. (patched σ u, x, y)))
 
-  pub compared_drafted : {k : Letter} {w t l u d f v new : Written} (e operand : ResolvedExpr) (whens : Several ResolvedWhen) (otherwise : Option ResolvedExpr) (scale : Option ℕ) (end : ℕ) (letter : Letter)
-      → out-ResolvedExpr e ≡ layers.Case (Some operand) whens otherwise scale → letter ≡ row_types.letter_at scale → Drafted (λ σ. Writes known context (σ resume) N operand) w t → end ≡ length t.labels → l ≡ with_label None t
-      → Drafted (λ σ. Compares known context (σ resume) letter (σ end) (listed whens)) l u → d ≡ taken context resume op.Drop u → Drafted (λ σ. Otherwise known context (σ resume) letter otherwise) d f
+  pub searched_drafted : {k : Letter} {w v : Written} (end : ℕ) (whens : List ResolvedWhen) (has_operand : Bool) → has_operand ≡ false → Drafted (λ σ. Whens known context (σ resume) k (σ end) whens) w v
+      → Drafted (λ σ. CaseTests known context (σ resume) has_operand k (σ end) whens) w v
+  searched_drafted {k} {w} {v} end whens has_operand q a = subst (λ z. Drafted (λ σ. CaseTests known context (σ resume) z k (σ end) whens) w v) (sym q) a
+
+  pub case_drafted : {k : Letter} {w t l u f v new : Written} (e : ResolvedExpr) (operand : Option ResolvedExpr) (whens : Several ResolvedWhen) (otherwise : Option ResolvedExpr) (scale : Option ℕ) (end : ℕ) (letter : Letter) (has_operand : Bool)
+      → out-ResolvedExpr e ≡ layers.Case operand whens otherwise scale → letter ≡ row_types.letter_at scale → has_operand ≡ is_some operand → Drafted (λ σ. WritesAll known context (σ resume) (some_operand operand)) w t → end ≡ length t.labels
+      → l ≡ with_label None t → Drafted (λ σ. CaseTests known context (σ resume) has_operand letter (σ end) (listed whens)) l u → Drafted (λ σ. Otherwise known context (σ resume) letter otherwise) u f
       → v ≡ bound end f → new ≡ all_applied context resume 1 N (scaling scale) v → Drafted (λ σ. Writes known context (σ resume) k e) w new
-  compared_drafted {k} {w} {t} {l} {u} {d} {f} {v} {new} e operand whens otherwise scale end letter q le o n m a hd b h s =
-      let inner : Drafted (λ σ y z. σ end ≡ here z → (first after : Written) → Writes known context (σ resume) N operand first y → after ≡ all_applied context (σ resume) 1 N (scaling scale) z → Writes known context (σ resume) k e first after) l f =
-      three a (taken_drafted context resume op.Drop hd) b (λ σ x g y index first after p r. compared_written e operand whens otherwise scale (σ end) letter q le index p x g y r) in
+  case_drafted {k} {w} {t} {l} {u} {f} {v} {new} e operand whens otherwise scale end letter has_operand q le some o n m a b h s =
+      let same : (σ : ℕ → ℕ) (y z : Written) → σ end ≡ here z → CaseTests known context (σ resume) has_operand letter (σ end) (listed whens) y (patched σ u) → CaseTests known context (σ resume) (is_some operand) (row_types.letter_at scale) (here z) (listed whens) y (patched σ u) =
+      λ σ y z index x. subst (λ i. CaseTests known context (σ resume) (is_some operand) (row_types.letter_at scale) i (listed whens) y (patched σ u)) index
+      (subst (λ i. CaseTests known context (σ resume) (is_some operand) i (σ end) (listed whens) y (patched σ u)) le (subst (λ i. CaseTests known context (σ resume) i letter (σ end) (listed whens) y (patched σ u)) some x)) in
+      let inner : Drafted (λ σ y z. σ end ≡ here z → (first after : Written) → WritesAll known context (σ resume) (some_operand operand) first y → after ≡ all_applied context (σ resume) 1 N (scaling scale) z → Writes known context (σ resume) k e first after) l f =
+      two a b (λ σ x y index first after p r. case_written e operand whens otherwise scale q p (same σ (patched σ l) (patched σ f) index x) (subst (λ i. Otherwise known context (σ resume) i otherwise (patched σ u) (patched σ f)) le y) r) in
       three o (scoped n m inner h) (all_applied_drafted context resume 1 N (scaling scale) (still-scaling scale) s) (λ σ p x r. x.0 x.1 (patched σ w) (patched σ new) p r)
 
-  pub coalesce_drafted : {k : Letter} {w l f v new : Written} (e : ResolvedExpr) (values : Several ResolvedExpr) (scale : Option ℕ) (end : ℕ) (letter : Letter) → out-ResolvedExpr e ≡ layers.Coalesce values scale → letter ≡ row_types.letter_at scale
-      → end ≡ length w.labels → l ≡ with_label None w → Drafted (λ σ. Firsts known context (σ resume) letter (σ end) values.first values.rest) l f → v ≡ bound end f → new ≡ all_applied context resume 1 N (scaling scale) v
-      → Drafted (λ σ. Writes known context (σ resume) k e) w new
-  coalesce_drafted {k} {w} {l} {f} {v} {new} e values scale end letter q le n m a h s =
-      let inner : Drafted (λ σ y z. σ end ≡ here z → (after : Written) → after ≡ all_applied context (σ resume) 1 N (scaling scale) z → Writes known context (σ resume) k e y after) l f =
-      one a (λ σ x index after t. coalesce_written e values scale (σ end) letter q le index x t) in
+  pub coalesce_drafted : {w l f v new : Written} (values : Several ResolvedExpr) (scale : Option ℕ) (end : ℕ) (letter : Letter) → letter ≡ row_types.letter_at scale → end ≡ length w.labels → l ≡ with_label None w
+      → Drafted (λ σ. Firsts known context (σ resume) letter (σ end) values.first values.rest) l f → v ≡ bound end f → new ≡ all_applied context resume 1 N (scaling scale) v
+      → Drafted (λ σ. WritesForm known context (σ resume) (layers.Coalesce values scale)) w new
+  coalesce_drafted {w} {l} {f} {v} {new} values scale end letter le n m a h s =
+      let inner : Drafted (λ σ y z. σ end ≡ here z → (after : Written) → after ≡ all_applied context (σ resume) 1 N (scaling scale) z → WritesForm known context (σ resume) (layers.Coalesce values scale) y after) l f =
+      one a (λ σ x index after t. coalesce_written values scale (σ end) letter le index x t) in
       two (scoped n m inner h) (all_applied_drafted context resume 1 N (scaling scale) (still-scaling scale) s) (λ σ x t. x.0 x.1 (patched σ new) t)
 
   -- ---- lists, with one item more

@@ -1,6 +1,6 @@
 -- The lines of each form of expression, of those of its parts.
 use Rattle.std.proofs.Common.{◌≡◌, ℕ, suc, true, List, [], ◌∷◌, Option, Some, None, length, ap, sym, ◌∙◌, subst}
-use Rattle.std.specs.Prelude.{Result, Ok, Err, IfOk}
+use Rattle.std.specs.Prelude.{Result, Ok, Err, IfOk, is_some}
 use Rattle.std.specs.declared.alloc.AllocError.{AllocError}
 use Rattle.psm_list.specs.Several.{Several}
 use Rattle.psm_value.specs.declared.datum.Datum.TheVariants as data_of
@@ -16,9 +16,10 @@ use Rattle.psm_resolved.specs.declared.expr.ResolvedWhen.{ResolvedWhen, out-Reso
 use Rattle.psm_resolved.specs.RowValue.{listed}
 use Rattle.psm_resolved.specs.RowType as row_types
 use Rattle.psm_code.specs.declared.instruction.Instruction.TheVariants as instruction
-use Rattle.psm_simulation.specs.Expressions.{Layer, is_straight, operands_of, operations_of, scaling}
+use Rattle.psm_simulation.specs.Expressions.{is_straight, operands_of, operations_of, scaling, some_operand}
 use Rattle.psm_exprgen.specs.declared.known.Known.{Known}
-use Rattle.psm_exprgen.specs.Exprs.{Arguments, Compares, Firsts, Joins, Otherwise, Whens, Writes, WritesAll, call, coalesce, column, compare, compared, else_written, exists, function_number, logical_operator, no_else, no_more, no_when, null, scalar, searched, straight, straight_letter, when}
+use Rattle.psm_exprgen.specs.ExprForms.{CaseTests, WritesForm}
+use Rattle.psm_exprgen.specs.Exprs.{Arguments, Compares, Firsts, Joins, Otherwise, Whens, Writes, WritesAll, call, coalesce, column, compare, compared, else_written, exists, function_number, logical_operator, more, no_else, no_more, no_when, none, null, scalar, searched, straight, straight_letter, when}
 use Rattle.psm_exprgen.specs.Queries.{QueryMade, item_letters}
 use Rattle.psm_exprgen.specs.Written.{Written, all_applied, applied, here, last_letter, letter_at, letters_at, puts, taken, with_query}
 
@@ -33,14 +34,9 @@ several_of first rest = record { first = first; rest = rest }
 module _ {known : Known} {context resume : ℕ} where
   -- ---- operands one after another, and operations
 
-  straight_at : {k : Letter} {w v : Written} (e : ResolvedExpr) (layer : Layer) → out-ResolvedExpr e ≡ layer → is_straight layer ≡ true → WritesAll known context resume (operands_of layer) w v
-      → Writes known context resume k e w (all_applied context resume (length (operands_of layer)) (straight_letter known layer v) (operations_of layer) v)
-  straight_at {k = k} {w = w} {v = v} e layer q = subst (λ l. is_straight l ≡ true → WritesAll known context resume (operands_of l) w v
-      → Writes known context resume k e w (all_applied context resume (length (operands_of l)) (straight_letter known l v) (operations_of l) v)) q (λ h a. straight h a)
-
-  pub straight_written : {w v : Written} (k : Letter) (e : ResolvedExpr) (layer : Layer) (new : Written) → out-ResolvedExpr e ≡ layer → is_straight layer ≡ true → WritesAll known context resume (operands_of layer) w v
-      → new ≡ all_applied context resume (length (operands_of layer)) (straight_letter known layer v) (operations_of layer) v → Writes known context resume k e w new
-  straight_written {w = w} k e layer new q h a n = subst (λ x. Writes known context resume k e w x) (sym n) (straight_at e layer q h a)
+  pub straight_written : {w v : Written} (k : Letter) (e : ResolvedExpr) (new : Written) → is_straight (out-ResolvedExpr e) ≡ true → WritesAll known context resume (operands_of (out-ResolvedExpr e)) w v
+      → new ≡ all_applied context resume (length (operands_of (out-ResolvedExpr e))) (straight_letter known (out-ResolvedExpr e) v) (operations_of (out-ResolvedExpr e)) v → Writes known context resume k e w new
+  straight_written {w = w} k e new h a n = subst (λ x. Writes known context resume k e w x) (sym n) (straight h a)
 
   -- ---- NULL, and a column
 
@@ -58,10 +54,10 @@ module _ {known : Known} {context resume : ℕ} where
 
   -- ---- calls, and queries
 
-  pub call_written : {k : Letter} {w v new : Written} (e : ResolvedExpr) (function routine : ℕ) (arguments : List ResolvedExpr) (letters : List Letter) (count : ℕ) (letter : Letter) → out-ResolvedExpr e ≡ layers.Call function arguments
-      → routine ≡ function_number known function → letters ≡ letters_at known.takes routine → letter ≡ letter_at known.results routine → count ≡ length arguments → Arguments known context resume letters 0 arguments w v
-      → new ≡ puts context resume (instruction.FunctionCall routine) count (letter ∷ []) v → Writes known context resume k e w new
-  call_written {k = k} {w = w} {v = v} {new = new} e function routine arguments letters count letter q r t l c a n =
+  pub call_written : {w v new : Written} (function routine : ℕ) (arguments : List ResolvedExpr) (letters : List Letter) (count : ℕ) (letter : Letter) → routine ≡ function_number known function → letters ≡ letters_at known.takes routine
+      → letter ≡ letter_at known.results routine → count ≡ length arguments → Arguments known context resume letters 0 arguments w v → new ≡ puts context resume (instruction.FunctionCall routine) count (letter ∷ []) v
+      → WritesForm known context resume (layers.Call function arguments) w new
+  call_written {w = w} {v = v} {new = new} function routine arguments letters count letter r t l c a n k e q =
       let number = function_number known function in
       let full : Arguments known context resume (letters_at known.takes number) 0 arguments w v = subst (λ x. Arguments known context resume x 0 arguments w v) (t ∙ ap (letters_at known.takes) r) a in
       let ends : new ≡ puts context resume (instruction.FunctionCall number) (length arguments) (letter_at known.results number ∷ []) v =
@@ -69,20 +65,17 @@ module _ {known : Known} {context resume : ℕ} where
       ∙ ap (λ i. puts context resume (instruction.FunctionCall number) (length arguments) (i ∷ []) v) (l ∙ ap (letter_at known.results) r) in
       subst (λ x. Writes known context resume k e w x) (sym ends) (call function arguments q full)
 
-  pub scalar_written : {k : Letter} {w asks new : Written} (e : ResolvedExpr) (query seen : ResolvedQuery) (number : ℕ) (letter : Letter) → out-ResolvedExpr e ≡ layers.Scalar query → seen ≡ query → number ≡ length w.queries
-      → (c : Query) × QueryMade known seen c × (asks ≡ with_query c w) → letter ≡ letter_at (item_letters known seen) 0 → new ≡ puts context resume (instruction.Scalar number) 0 (letter ∷ []) asks → Writes known context resume k e w new
-  scalar_written {k = k} {w = w} {asks = asks} {new = new} e query seen number letter q s m a l n =
-      let ends : new ≡ puts context resume (instruction.Scalar (length w.queries)) 0 (letter_at (item_letters known seen) 0 ∷ []) (with_query a.0 w) =
-      n ∙ ap (λ i. puts context resume (instruction.Scalar i) 0 (letter ∷ []) asks) m ∙ ap (λ i. puts context resume (instruction.Scalar (length w.queries)) 0 (i ∷ []) asks) l
-      ∙ ap (puts context resume (instruction.Scalar (length w.queries)) 0 (letter_at (item_letters known seen) 0 ∷ [])) a.2 in
-      subst (λ x. Writes known context resume k e w x) (sym ends) (scalar seen a.0 (q ∙ ap layers.Scalar (sym s)) a.1)
+  pub scalar_written : {w asks new : Written} (query : ResolvedQuery) (code : Query) → QueryMade known query code → asks ≡ with_query code w
+      → new ≡ puts context resume (instruction.Scalar (length w.queries)) 0 (letter_at (item_letters known query) 0 ∷ []) asks → WritesForm known context resume (layers.Scalar query) w new
+  scalar_written {w = w} query code made a n k e q =
+      let ends = n ∙ ap (puts context resume (instruction.Scalar (length w.queries)) 0 (letter_at (item_letters known query) 0 ∷ [])) a in
+      subst (λ x. Writes known context resume k e w x) (sym ends) (scalar query code q made)
 
-  pub exists_written : {k : Letter} {w asks new : Written} (e : ResolvedExpr) (query seen : ResolvedQuery) (number : ℕ) → out-ResolvedExpr e ≡ layers.Exists query → seen ≡ query → number ≡ length w.queries
-      → (c : Query) × QueryMade known seen c × (asks ≡ with_query c w) → new ≡ puts context resume (instruction.Exists number) 0 (B ∷ []) asks → Writes known context resume k e w new
-  exists_written {k = k} {w = w} {asks = asks} {new = new} e query seen number q s m a n =
-      let ends : new ≡ puts context resume (instruction.Exists (length w.queries)) 0 (B ∷ []) (with_query a.0 w) =
-      n ∙ ap (λ i. puts context resume (instruction.Exists i) 0 (B ∷ []) asks) m ∙ ap (puts context resume (instruction.Exists (length w.queries)) 0 (B ∷ [])) a.2 in
-      subst (λ x. Writes known context resume k e w x) (sym ends) (exists seen a.0 (q ∙ ap layers.Exists (sym s)) a.1)
+  pub exists_written : {w asks new : Written} (query : ResolvedQuery) (code : Query) → QueryMade known query code → asks ≡ with_query code w → new ≡ puts context resume (instruction.Exists (length w.queries)) 0 (B ∷ []) asks
+      → WritesForm known context resume (layers.Exists query) w new
+  exists_written {w = w} query code made a n k e q =
+      let ends = n ∙ ap (puts context resume (instruction.Exists (length w.queries)) 0 (B ∷ [])) a in
+      subst (λ x. Writes known context resume k e w x) (sym ends) (exists query code q made)
 
   -- ---- ELSE
 
@@ -111,28 +104,16 @@ module _ {known : Known} {context resume : ℕ} where
       subst (λ i. Writes known context resume i (out-ResolvedWhen c).test (applied context resume op.Duplicate 0 i w) u) l (subst (λ z. Writes known context resume letter (out-ResolvedWhen c).test z u) hd a) in
       subst (λ z. Compares known context resume k end (c ∷ []) w z) (sym (n ∙ ap (λ i. applied context resume (op.Jump end) 1 i t) l)) (compare test result no_more)
 
-  pub searched_written : {k : Letter} {w u v new : Written} (e : ResolvedExpr) (whens : Several ResolvedWhen) (otherwise : Option ResolvedExpr) (scale : Option ℕ) (end : ℕ) (letter : Letter) → out-ResolvedExpr e ≡ layers.Case None whens otherwise scale
-      → letter ≡ row_types.letter_at scale → end ≡ here v → Whens known context resume letter end (listed whens) w u
-      → Otherwise known context resume letter otherwise u v → new ≡ all_applied context resume 1 N (scaling scale) v → Writes known context resume k e w new
-  searched_written {k = k} {w = w} {u = u} {v = v} e whens otherwise scale end letter q l to a b n =
-      let tests : Whens known context resume (row_types.letter_at scale) (here v) (listed whens) w u = subst (λ i. Whens known context resume i (here v) (listed whens) w u) l (subst (λ i. Whens known context resume letter i (listed whens) w u) to a) in
-      subst (λ x. Writes known context resume k e w x) (sym n) (searched whens otherwise scale q tests (subst (λ i. Otherwise known context resume i otherwise u v) l b))
+  pub case_written : {k : Letter} {w t u v new : Written} (e : ResolvedExpr) (operand : Option ResolvedExpr) (whens : Several ResolvedWhen) (otherwise : Option ResolvedExpr) (scale : Option ℕ)
+      → out-ResolvedExpr e ≡ layers.Case operand whens otherwise scale → WritesAll known context resume (some_operand operand) w t → CaseTests known context resume (is_some operand) (row_types.letter_at scale) (here v) (listed whens) t u
+      → Otherwise known context resume (row_types.letter_at scale) otherwise u v → new ≡ all_applied context resume 1 N (scaling scale) v → Writes known context resume k e w new
+  case_written {k = k} {w = w} e None whens otherwise scale q none a b n = subst (λ x. Writes known context resume k e w x) (sym n) (searched whens otherwise scale q a b)
+  case_written {k = k} {w = w} {v = v} e (Some operand) whens otherwise scale q (more o none) (u, a, h) b n =
+      subst (λ x. Writes known context resume k e w x) (sym n) (compared operand whens otherwise scale q o a (subst (λ z. Otherwise known context resume (row_types.letter_at scale) otherwise z v) h b))
 
-  pub compared_written : {k : Letter} {w t u d v new : Written} (e operand : ResolvedExpr) (whens : Several ResolvedWhen) (otherwise : Option ResolvedExpr) (scale : Option ℕ) (end : ℕ) (letter : Letter)
-      → out-ResolvedExpr e ≡ layers.Case (Some operand) whens otherwise scale → letter ≡ row_types.letter_at scale → end ≡ here v
-      → Writes known context resume N operand w t → Compares known context resume letter end (listed whens) t u → d ≡ taken context resume op.Drop u → Otherwise known context resume letter otherwise d v
-      → new ≡ all_applied context resume 1 N (scaling scale) v → Writes known context resume k e w new
-  compared_written {k = k} {w = w} {t = t} {u = u} {d = d} {v = v} e operand whens otherwise scale end letter q l to o a hd b n =
-      let tests : Compares known context resume (row_types.letter_at scale) (here v) (listed whens) t u =
-      subst (λ i. Compares known context resume i (here v) (listed whens) t u) l (subst (λ i. Compares known context resume letter i (listed whens) t u) to a) in
-      let other : Otherwise known context resume (row_types.letter_at scale) otherwise (taken context resume op.Drop u) v =
-      subst (λ i. Otherwise known context resume i otherwise (taken context resume op.Drop u) v) l (subst (λ z. Otherwise known context resume letter otherwise z v) hd b) in
-      subst (λ x. Writes known context resume k e w x) (sym n) (compared operand whens otherwise scale q o tests other)
-
-  pub coalesce_written : {k : Letter} {w v new : Written} (e : ResolvedExpr) (values : Several ResolvedExpr) (scale : Option ℕ) (end : ℕ) (letter : Letter) → out-ResolvedExpr e ≡ layers.Coalesce values scale → letter ≡ row_types.letter_at scale
-      → end ≡ here v → Firsts known context resume letter end values.first values.rest w v → new ≡ all_applied context resume 1 N (scaling scale) v
-      → Writes known context resume k e w new
-  coalesce_written {k = k} {w = w} {v = v} e values scale end letter q l to a n =
+  pub coalesce_written : {w v new : Written} (values : Several ResolvedExpr) (scale : Option ℕ) (end : ℕ) (letter : Letter) → letter ≡ row_types.letter_at scale → end ≡ here v
+      → Firsts known context resume letter end values.first values.rest w v → new ≡ all_applied context resume 1 N (scaling scale) v → WritesForm known context resume (layers.Coalesce values scale) w new
+  coalesce_written {w = w} {v = v} values scale end letter l to a n k e q =
       let rest : Firsts known context resume (row_types.letter_at scale) (here v) values.first values.rest w v =
       subst (λ i. Firsts known context resume i (here v) values.first values.rest w v) l (subst (λ i. Firsts known context resume letter i values.first values.rest w v) to a) in
       subst (λ x. Writes known context resume k e w x) (sym n) (coalesce values scale q rest)

@@ -11,3 +11,4 @@ pub mod Drafts
 pub mod Patches
 pub mod DraftSteps
 pub mod DraftForms
+mod Operands

@@ -1,25 +1,25 @@
 //! The lines of an expression outside of rows.
-ghost use Rattle.std.specs.Prelude.{◌≡◌, [], ◌∷◌, length, suc, IfOk};
-ghost use Rattle.psm_exprcode.specs.declared.query.Query.{Query};
+ghost use Rattle.std.specs.Prelude.{◌≡◌, [], ◌∷◌, drop, IfOk};
+ghost use Rattle.psm_resolved.specs.declared.expr.ResolvedExpr.{out-ResolvedExpr};
+ghost use Rattle.psm_resolved.specs.declared.expr.ResolvedExpr.TheOpen as layers;
 ghost use Rattle.psm_resolved.specs.RowValue.{listed};
+ghost use Rattle.psm_simulation.specs.Expressions.{operands_of, some_operand};
 ghost use Rattle.psm_exprgen.specs.Labels.{Drafted};
-ghost use Rattle.psm_exprgen.specs.Queries.{QueryMade};
-ghost use Rattle.psm_exprgen.specs.Written.{with_query};
+ghost use Rattle.psm_exprgen.specs.ExprForms.{CaseTests, WritesForm};
 ghost use Rattle.psm_exprgen.specs.Exprs.{Arguments, Compares, Firsts, Joins, ChainLinks, Otherwise, Whens, Writes, WritesAll};
 
 use crate::emit_context::EmitContext;
-use crate::letters::first_letter;
 use crate::lookups::{letter_at, letters_at, number_at};
-use crate::queries::query_code;
+use crate::operations::{null, operations};
+use crate::subqueries::{exists, scalar};
 use crate::writer::Writer;
 use psm_code::Instruction;
 use psm_exprcode::{Letter, Op};
 use psm_list::{Boxed, List, OneOrMore};
 use psm_resolved::{
-    LogicalOperator, ResolvedExpr, ResolvedOperation, ResolvedQuery, ResolvedWhen, calculated,
-    calculating, changed, changing, comparing, joining, letter_of_results,
+    LogicalOperator, ResolvedExpr, ResolvedOperation, ResolvedWhen, calculated, calculating,
+    joining, letter_of_results,
 };
-use psm_value::Datum;
 use std::alloc::AllocError;
 
 /// Writes an expression (ISO/IEC 9075:1992, clauses 6 and 8), in which NULL is a value of that letter. A column can't stand outside of
@@ -34,38 +34,9 @@ pub fn expr(
     ensures { IfOk result (λ _. Drafted (λ σ. Writes emit_context.entry.known.now emit_context.entry.context (σ emit_context.entry.resume) letter e.now) out.old out.new) }
 {
     match e {
-        ResolvedExpr::Null => out.applied(
-            emit_context,
-            Op::Constant(letter, Datum::Null),
-            0,
-            letter,
-        ),
-        ResolvedExpr::Column(_) => {
-            out.applied(emit_context, Op::Constant(letter, Datum::Null), 0, letter)
-        }
-        ResolvedExpr::Scalar(query) => {
-            let query = query.get();
-            let number = asked(out, emit_context, query)?;
-            let letter = first_letter(emit_context.known, query);
-            out.put(emit_context, Instruction::Scalar(number), 0, letter)
-        }
-        ResolvedExpr::Exists(query) => {
-            let query = query.get();
-            let number = asked(out, emit_context, query)?;
-            out.put(emit_context, Instruction::Exists(number), 0, Letter::B)
-        }
-        ResolvedExpr::Number(value) => {
-            let value = Datum::Num(*value);
-            out.applied(emit_context, Op::Constant(Letter::N, value), 0, Letter::N)
-        }
-        ResolvedExpr::Text(value) => {
-            let value = Datum::Text(value.copy(emit_context.alloc)?);
-            out.applied(emit_context, Op::Constant(Letter::T, value), 0, Letter::T)
-        }
-        ResolvedExpr::Variable(slot) => {
-            let letter = letter_at(emit_context.known.variables.items(), *slot as usize);
-            out.applied(emit_context, Op::Variable(*slot), 0, letter)
-        }
+        ResolvedExpr::Null | ResolvedExpr::Column(_) => null(out, emit_context, letter),
+        ResolvedExpr::Scalar(query) => scalar(out, emit_context, query.get()),
+        ResolvedExpr::Exists(query) => exists(out, emit_context, query.get()),
         ResolvedExpr::LogicalOperator {
             logical_operator,
             operands,
@@ -73,174 +44,104 @@ pub fn expr(
             part(out, emit_context, &operands.first, Letter::B)?;
             joined(out, emit_context, &operands.rest, *logical_operator)
         }
-        ResolvedExpr::Not(condition) => {
-            part(out, emit_context, condition, Letter::N)?;
-            out.applied(emit_context, Op::Not, 1, Letter::B)
-        }
-        ResolvedExpr::Compare {
-            operator,
-            left,
-            right,
-        } => {
-            part(out, emit_context, left, Letter::N)?;
-            part(out, emit_context, right, Letter::N)?;
-            out.applied(emit_context, comparing(*operator), 2, Letter::B)
-        }
-        ResolvedExpr::IsNull { negated, value } => {
-            part(out, emit_context, value, Letter::N)?;
-            out.applied(emit_context, Op::IsNull, 1, Letter::B)?;
-            out.perhaps_not(emit_context, *negated)
-        }
-        ResolvedExpr::Between {
-            negated,
-            value,
-            low,
-            high,
-        } => {
-            part(out, emit_context, value, Letter::N)?;
-            part(out, emit_context, low, Letter::N)?;
-            part(out, emit_context, high, Letter::N)?;
-            out.applied(emit_context, Op::Between, 3, Letter::B)?;
-            out.perhaps_not(emit_context, *negated)
-        }
-        ResolvedExpr::Like {
-            negated,
-            value,
-            pattern,
-            escape,
-        } => {
-            part(out, emit_context, value, Letter::N)?;
-            part(out, emit_context, pattern, Letter::N)?;
-            match escape {
-                None => {
-                    out.applied(emit_context, Op::Like, 2, Letter::B)?;
-                    out.perhaps_not(emit_context, *negated)
-                }
-                Some(escape) => {
-                    part(out, emit_context, escape, Letter::N)?;
-                    out.applied(emit_context, Op::LikeEscape, 3, Letter::B)?;
-                    out.perhaps_not(emit_context, *negated)
-                }
-            }
-        }
-        ResolvedExpr::In {
-            negated,
-            value,
-            list,
-        } => {
-            part(out, emit_context, value, Letter::N)?;
-            several(out, emit_context, list)?;
-            let count = counted(list.rest.items().len())?;
-            out.applied(emit_context, Op::In(count), count as usize + 1, Letter::B)?;
-            out.perhaps_not(emit_context, *negated)
-        }
         ResolvedExpr::OperatorChain { first, chain_links } => {
             part(out, emit_context, first, Letter::N)?;
             linked(out, emit_context, chain_links)
         }
-        ResolvedExpr::Negated(number) => {
-            part(out, emit_context, number, Letter::N)?;
-            out.applied(emit_context, Op::Negate, 1, Letter::N)
-        }
         ResolvedExpr::Call {
             function,
             arguments: list,
-        } => {
-            let routine = number_at(emit_context.known.functions.items(), *function);
-            let letters = letters_at(emit_context.known.takes.items(), routine);
-            arguments(out, emit_context, letters, list)?;
-            let letter = letter_at(emit_context.known.results.items(), routine as usize);
-            let takes = list.items().len();
-            out.put(
-                emit_context,
-                Instruction::FunctionCall(routine),
-                takes,
-                letter,
-            )
-        }
+        } => called(out, emit_context, *function, list),
         ResolvedExpr::Case {
             operand,
             whens,
             otherwise,
             scale,
         } => {
-            let letter = letter_of_results(*scale);
-            match operand {
-                None => {
-                    let end = out.label()?;
-                    searched(out, emit_context, whens, end, letter)?;
-                    alternative(out, emit_context, otherwise, letter)?;
-                    out.bind(end)?;
-                    out.rescale(emit_context, *scale)
-                }
-                Some(value) => {
-                    part(out, emit_context, value, Letter::N)?;
-                    let end = out.label()?;
-                    compared(out, emit_context, whens, end, letter)?;
-                    out.taken(emit_context, Op::Drop)?;
-                    alternative(out, emit_context, otherwise, letter)?;
-                    out.bind(end)?;
-                    out.rescale(emit_context, *scale)
-                }
-            }
-        }
-        ResolvedExpr::Coalesce { values, scale } => {
-            let kind = letter_of_results(*scale);
+            perhaps(out, emit_context, operand)?;
             let end = out.label()?;
-            firsts(out, emit_context, values, end, kind)?;
+            let letter = letter_of_results(*scale);
+            tests(out, emit_context, whens, operand.is_some(), end, letter)?;
+            alternative(out, emit_context, otherwise, letter)?;
             out.bind(end)?;
             out.rescale(emit_context, *scale)
         }
-        ResolvedExpr::Cast { source, to } => {
-            part(out, emit_context, source, Letter::N)?;
-            out.applied(emit_context, Op::Cast(*to), 1, Letter::of_type(*to))
-        }
-        ResolvedExpr::NullIf { left, right } => {
-            part(out, emit_context, left, Letter::N)?;
-            part(out, emit_context, right, Letter::N)?;
-            let letter = out.second_letter();
-            out.applied(emit_context, Op::NullIf, 2, letter)
-        }
-        ResolvedExpr::Function { function, argument } => {
-            part(out, emit_context, argument, Letter::N)?;
-            out.applied(emit_context, changing(*function), 1, changed(*function))
-        }
-        ResolvedExpr::Position { part: text, whole } => {
-            part(out, emit_context, text, Letter::N)?;
-            part(out, emit_context, whole, Letter::N)?;
-            out.applied(emit_context, Op::Position, 2, Letter::N)
-        }
-        ResolvedExpr::Substring { text, from, length } => {
-            part(out, emit_context, text, Letter::N)?;
-            part(out, emit_context, from, Letter::N)?;
-            match length {
-                None => out.applied(emit_context, Op::SubstringFrom, 2, Letter::T),
-                Some(length) => {
-                    part(out, emit_context, length, Letter::N)?;
-                    out.applied(emit_context, Op::SubstringFromFor, 3, Letter::T)
-                }
-            }
-        }
-        ResolvedExpr::Trim { side, text } => {
-            part(out, emit_context, text, Letter::N)?;
-            out.applied(emit_context, Op::Trim(*side), 1, Letter::T)
+        ResolvedExpr::Coalesce { values, scale } => coalesced(out, emit_context, values, *scale),
+        _ => {
+            operands(out, emit_context, e)?;
+            operations(out, emit_context, e)
         }
     }
 }
 
-/// Puts a query after those that there are, and gives its number back.
-fn asked(
+/// Writes the operands of an expression that is its operands, one after another, with operations after them. Another form has none.
+#[cycle(writing)]
+fn operands(
     out: &mut Writer,
     emit_context: EmitContext<'_>,
-    query: &ResolvedQuery,
-) -> Result<u32, AllocError>
-    ensures number { IfOk result (λ number. number ≡ length out.old.queries) }
-    ensures made { IfOk result (λ _. (code : Query) × QueryMade emit_context.entry.known.now query.now code × (out.new ≡ with_query code out.old)) }
+    e: &ResolvedExpr,
+) -> Result<(), AllocError>
+    ensures { IfOk result (λ _. Drafted (λ σ. WritesAll emit_context.entry.known.now emit_context.entry.context (σ emit_context.entry.resume) (operands_of (out-ResolvedExpr e.now))) out.old out.new) }
 {
-    let number = out.query_count()?;
-    let code = query_code(emit_context.alloc, emit_context.known, query)?;
-    out.with_query(code)?;
-    Ok(number)
+    match e {
+        ResolvedExpr::Not(first)
+        | ResolvedExpr::Negated(first)
+        | ResolvedExpr::Compare { left: first, .. }
+        | ResolvedExpr::IsNull { value: first, .. }
+        | ResolvedExpr::Between { value: first, .. }
+        | ResolvedExpr::In { value: first, .. }
+        | ResolvedExpr::Like { value: first, .. }
+        | ResolvedExpr::Cast { source: first, .. }
+        | ResolvedExpr::NullIf { left: first, .. }
+        | ResolvedExpr::Function {
+            argument: first,
+            ..
+        }
+        | ResolvedExpr::Position { part: first, .. }
+        | ResolvedExpr::Substring { text: first, .. }
+        | ResolvedExpr::Trim { text: first, .. } => {
+            part(out, emit_context, first, Letter::N)?;
+            others(out, emit_context, e)
+        }
+        _ => Ok(()),
+    }
+}
+
+/// Writes those after the first.
+#[cycle(writing)]
+fn others(
+    out: &mut Writer,
+    emit_context: EmitContext<'_>,
+    e: &ResolvedExpr,
+) -> Result<(), AllocError>
+    ensures { IfOk result (λ _. Drafted (λ σ. WritesAll emit_context.entry.known.now emit_context.entry.context (σ emit_context.entry.resume) (drop 1 (operands_of (out-ResolvedExpr e.now)))) out.old out.new) }
+{
+    match e {
+        ResolvedExpr::Compare { right: second, .. }
+        | ResolvedExpr::NullIf { right: second, .. }
+        | ResolvedExpr::Position { whole: second, .. } => {
+            part(out, emit_context, second, Letter::N)
+        }
+        ResolvedExpr::Between { low, high, .. } => {
+            part(out, emit_context, low, Letter::N)?;
+            part(out, emit_context, high, Letter::N)
+        }
+        ResolvedExpr::Like {
+            pattern: second,
+            escape: third,
+            ..
+        }
+        | ResolvedExpr::Substring {
+            from: second,
+            length: third,
+            ..
+        } => {
+            part(out, emit_context, second, Letter::N)?;
+            perhaps(out, emit_context, third)
+        }
+        ResolvedExpr::In { list, .. } => several(out, emit_context, list),
+        _ => Ok(()),
+    }
 }
 
 /// Writes an operand.
@@ -254,6 +155,21 @@ fn part(
     ensures { IfOk result (λ _. Drafted (λ σ. Writes emit_context.entry.known.now emit_context.entry.context (σ emit_context.entry.resume) letter e.now) out.old out.new) }
 {
     expr(out, emit_context, e.get(), letter)
+}
+
+/// Writes an operand that may be absent.
+#[cycle(writing)]
+fn perhaps(
+    out: &mut Writer,
+    emit_context: EmitContext<'_>,
+    e: &Option<Boxed<ResolvedExpr>>,
+) -> Result<(), AllocError>
+    ensures { IfOk result (λ _. Drafted (λ σ. WritesAll emit_context.entry.known.now emit_context.entry.context (σ emit_context.entry.resume) (some_operand e.now)) out.old out.new) }
+{
+    match e {
+        None => Ok(()),
+        Some(e) => expr(out, emit_context, e.get(), Letter::N),
+    }
 }
 
 /// Writes conditions, with AND or OR after each.
@@ -306,6 +222,29 @@ fn several(
     Ok(())
 }
 
+/// Writes a call of a function.
+#[cycle(writing)]
+fn called(
+    out: &mut Writer,
+    emit_context: EmitContext<'_>,
+    function: u32,
+    list: &List<Boxed<ResolvedExpr>>,
+) -> Result<(), AllocError>
+    ensures { IfOk result (λ _. Drafted (λ σ. WritesForm emit_context.entry.known.now emit_context.entry.context (σ emit_context.entry.resume) (layers.Call function list.now)) out.old out.new) }
+{
+    let routine = number_at(emit_context.known.functions.items(), function);
+    let letters = letters_at(emit_context.known.takes.items(), routine);
+    arguments(out, emit_context, letters, list)?;
+    let letter = letter_at(emit_context.known.results.items(), routine as usize);
+    let takes = list.items().len();
+    out.put(
+        emit_context,
+        Instruction::FunctionCall(routine),
+        takes,
+        letter,
+    )
+}
+
 /// Writes the arguments of a routine (ISO/IEC 9075-4:1996), whose parameters have these letters. Out of memory is the one error.
 #[cycle(writing)]
 pub fn arguments(
@@ -325,7 +264,23 @@ pub fn arguments(
     Ok(())
 }
 
-/// Writes the values of a COALESCE: each but the last goes to the line of the label `end` where it isn't null.
+/// Writes a COALESCE.
+#[cycle(writing)]
+fn coalesced(
+    out: &mut Writer,
+    emit_context: EmitContext<'_>,
+    values: &OneOrMore<Boxed<ResolvedExpr>>,
+    scale: Option<u8>,
+) -> Result<(), AllocError>
+    ensures { IfOk result (λ _. Drafted (λ σ. WritesForm emit_context.entry.known.now emit_context.entry.context (σ emit_context.entry.resume) (layers.Coalesce values.now scale)) out.old out.new) }
+{
+    let end = out.label()?;
+    firsts(out, emit_context, values, end, letter_of_results(scale))?;
+    out.bind(end)?;
+    out.rescale(emit_context, scale)
+}
+
+/// Writes its values: each but the last goes to the line of the label `end` where it isn't null.
 #[cycle(writing)]
 fn firsts(
     out: &mut Writer,
@@ -342,6 +297,27 @@ fn firsts(
         expr(out, emit_context, value.get(), letter)?;
     }
     Ok(())
+}
+
+/// Writes the WHENs of a CASE, whose results go to the line of the label `end`. If there is an operand, it stands on the operands, and is
+/// dropped after them.
+#[cycle(writing)]
+fn tests(
+    out: &mut Writer,
+    emit_context: EmitContext<'_>,
+    whens: &OneOrMore<Boxed<ResolvedWhen>>,
+    has_operand: bool,
+    end: u32,
+    letter: Letter,
+) -> Result<(), AllocError>
+    ensures { IfOk result (λ _. Drafted (λ σ. CaseTests emit_context.entry.known.now emit_context.entry.context (σ emit_context.entry.resume) has_operand letter (σ end) (listed whens.now)) out.old out.new) }
+{
+    if has_operand {
+        compared(out, emit_context, whens, end, letter)?;
+        out.taken(emit_context, Op::Drop)
+    } else {
+        searched(out, emit_context, whens, end, letter)
+    }
 }
 
 /// Writes WHENs, whose results go to the line of the label `end`.
@@ -433,17 +409,7 @@ fn alternative(
     ensures { IfOk result (λ _. Drafted (λ σ. Otherwise emit_context.entry.known.now emit_context.entry.context (σ emit_context.entry.resume) letter otherwise.now) out.old out.new) }
 {
     match otherwise {
-        None => out.applied(emit_context, Op::Constant(letter, Datum::Null), 0, letter),
+        None => null(out, emit_context, letter),
         Some(e) => expr(out, emit_context, e.get(), letter),
-    }
-}
-
-/// One more than a number. More than fit in 32 bits count as out of memory.
-fn counted(others: usize) -> Result<u32, AllocError>
-    ensures { IfOk result (λ count. count ≡ suc others) }
-{
-    match u32::try_from(others) {
-        Ok(others) if others < u32::MAX => Ok(others + 1),
-        _ => Err(AllocError),
     }
 }

@@ -6,9 +6,11 @@ mod exprs;
 mod known;
 mod letters;
 mod lookups;
+mod operations;
 mod queries;
 mod row_types;
 mod rows;
+mod subqueries;
 mod writer;
 
 pub use emit_context::EmitContext;

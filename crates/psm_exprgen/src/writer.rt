@@ -189,8 +189,22 @@ impl Writer {
         self.takes(emit_context, Instruction::Operation(op), 1)
     }
 
+    /// Writes an operation that takes n operands and puts a truth value, and NOT after it, where it is wanted.
+    pub fn tested(
+        &mut self,
+        emit_context: EmitContext<'_>,
+        op: Op,
+        count: usize,
+        negated: bool,
+    ) -> Result<(), AllocError>
+        ensures { IfOk result (λ _. self.new ≡ all_applied emit_context.entry.context emit_context.entry.resume count B (op ∷ negating negated) self.old) }
+    {
+        self.applied(emit_context, op, count, Letter::B)?;
+        self.perhaps_not(emit_context, negated)
+    }
+
     /// Writes NOT, where it is wanted.
-    pub fn perhaps_not(
+    fn perhaps_not(
         &mut self,
         emit_context: EmitContext<'_>,
         negated: bool,

@@ -1,9 +1,10 @@
-use Rattle.std.proofs.Common.{◌∷◌, ap, map, sym, ◌∙◌, None, Some}
+use Rattle.std.proofs.Common.{◌∷◌, ap, map, sym, ◌∙◌}
 use Rattle.psm_resolved.specs.declared.statement.ResolvedStatement.{ResolvedStatement, out-ResolvedStatement}
+use Rattle.psm_resolved.specs.declared.statement.ResolvedStatement.TheOpen as layers
 use Rattle.psm_resolved.specs.declared.statement.ResolvedStatement.TheVariants as statements
 use Rattle.psm_exprgen.proofs.Drafts.{one, two}
 use Rattle.psm_codegen.specs.declared.enclosing.EnclosingBlock.TheVariants.{Loop}
-use Rattle.psm_codegen.specs.Labels.{patched_block}
+use Rattle.psm_codegen.specs.Labels.{patched_block, patched_parts}
 use Rattle.psm_codegen.specs.Statements.{WritesBranches, WritesComparisons, WritesHandlers, WritesStatements, more, none, no_branch, no_comparison, no_handler}
 use Rattle.psm_codegen.proofs.CallForms.{ok_as}
 use Rattle.psm_codegen.proofs.DraftLists.{all_left, next_left, none_left}
@@ -32,14 +33,17 @@ form-returns-in-For t c = ok_as c.over_rows.result (λ a. one a (λ σ f. f c.ar
 pub form-returns-in_ok-branches-in-If : goal.form-returns-in_ok-branches-in-If
 form-returns-in_ok-branches-in-If t c = ok_as c.statements.result (λ a. two c.in_ok-branches-in-If.ensures a (λ σ x y. if_written c.in-If.list c.in-If.otherwise x y c.args.s.now (ap out-ResolvedStatement c.in-If.is ∙ statements.outs-If c.in-If.list c.in-If.otherwise))) c.statements.ensures
 
-pub form-returns-in_ok-branches-in-None : goal.form-returns-in_ok-branches-in-None
-form-returns-in_ok-branches-in-None t c = ok_as c.otherwise.result (λ a. two c.in_ok-branches-in-None.ensures a (λ σ x y. case_written c.in-Case.list c.in-Case.last x y c.args.s.now (ap out-ResolvedStatement (c.in-Case.is ∙ ap (λ o. statements.Case o c.in-Case.list c.in-Case.last) c.in-None.is) ∙ statements.outs-Case None c.in-Case.list c.in-Case.last))) c.otherwise.ensures
-
-pub form-returns-in_ok-take-in-Some : goal.form-returns-in_ok-take-in-Some
-form-returns-in_ok-take-in-Some t c = ok_as c.otherwise-in-Some.result (λ a. one (compared_drafted c.args.enclosing.now c.in-Some.e c.get-in-Some.result.now c.in-Case.list c.in-Case.last c.get-in-Some.ensures c.in_ok-evaluated-in-Some.ensures.written c.in_ok-evaluated-in-Some.ensures.alone c.in_ok-comparisons-in-Some.ensures c.in_ok-take-in-Some.ensures a) (λ σ f. f c.args.s.now (ap out-ResolvedStatement (c.in-Case.is ∙ ap (λ o. statements.Case o c.in-Case.list c.in-Case.last) c.in-Some.is) ∙ statements.outs-Case (Some c.in-Some.e) c.in-Case.list c.in-Case.last))) c.otherwise-in-Some.ensures
+pub form-returns-in_ok-cases-in-Case : goal.form-returns-in_ok-cases-in-Case
+form-returns-in_ok-cases-in-Case t c = ok_as c.otherwise.result (λ a. two c.in_ok-cases-in-Case.ensures a (λ σ f ss. f c.in-Case.last (patched_parts σ c.otherwise.new.parts) ss c.args.s.now (ap out-ResolvedStatement c.in-Case.is ∙ statements.outs-Case c.in-Case.operand c.in-Case.list c.in-Case.last))) c.otherwise.ensures
 
 pub form-returns-in-Simple : goal.form-returns-in-Simple
 form-returns-in-Simple t c = ok_as c.simple.result (λ a. one a (λ σ x. simple_written c.in-Simple.s c.get-in-Simple.result.now c.get-in-Simple.ensures x c.args.s.now (ap out-ResolvedStatement c.in-Simple.is ∙ statements.outs-Simple c.in-Simple.s))) c.simple.ensures
+
+pub cases-returns-in-None : goal.cases-returns-in-None
+cases-returns-in-None t c = ok_as c.branches.result (λ a. one a (λ σ bs last r ss s o e. case_written c.args.list.now last bs ss s (o ∙ ap (λ x. layers.Case x c.args.list.now last) c.in-None.is) e)) c.branches.ensures
+
+pub cases-returns-in_ok-comparisons : goal.cases-returns-in_ok-comparisons
+cases-returns-in_ok-comparisons t c = ok_as c.take.result (λ a. one (compared_drafted c.args.enclosing.now c.in-Some.e c.get.result.now c.args.list.now c.get.ensures c.in_ok-evaluated.ensures.written c.in_ok-evaluated.ensures.alone c.in_ok-comparisons.ensures a) (λ σ f last r ss s o e. f last r ss s (o ∙ ap (λ x. layers.Case x c.args.list.now last) c.in-Some.is) e)) c.take.ensures
 
 pub compound-returns : goal.compound-returns
 compound-returns t c = ok_as c.plain.result (λ a. compound_drafted c.args.enclosing.now c.args.level c.args.block.now c.in_ok-declared.ensures.written c.in_ok-declared.ensures.alone c.in_ok-cursors.ensures c.in_ok-numbers.ensures c.in_ok-exit.ensures.number c.in_ok-exit.ensures.labels c.in_ok-inner.ensures.number c.in_ok-inner.ensures.entered c.in_ok-start.ensures.number c.in_ok-start.ensures.labels c.in_ok-pass.ensures c.in_ok-handlers.ensures c.in_ok-bind.ensures c.in_ok-within.ensures c.in_ok-bind-2.ensures a) c.plain.ensures
