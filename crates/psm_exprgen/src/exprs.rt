@@ -34,7 +34,8 @@ pub fn expr(
     ensures { IfOk result (λ _. Drafted (λ σ. Writes emit_context.entry.known.now emit_context.entry.context (σ emit_context.entry.resume) letter e.now) out.old out.new) }
 {
     match e {
-        ResolvedExpr::Null | ResolvedExpr::Column(_) => null(out, emit_context, letter),
+        ResolvedExpr::Null => null(out, emit_context, letter),
+        ResolvedExpr::Column(_) => null(out, emit_context, letter),
         ResolvedExpr::Scalar(query) => scalar(out, emit_context, query.get()),
         ResolvedExpr::Exists(query) => exists(out, emit_context, query.get()),
         ResolvedExpr::LogicalOperator {

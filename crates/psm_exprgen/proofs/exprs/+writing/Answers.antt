@@ -19,8 +19,8 @@ use Rattle.psm_exprgen.proofs.exprs.+writing.Goals as goal
 pub expr-returns-in-Null : goal.expr-returns-in-Null
 expr-returns-in-Null t c = ok_as c.null.result (λ a. null_drafted c.args.e.now (ap out-ResolvedExpr c.in-Null.is ∙ exprs.outs-Null) a) c.null.ensures
 
-pub expr-returns-in-Null-2 : goal.expr-returns-in-Null-2
-expr-returns-in-Null-2 t c = ok_as c.null-in-Null-2.result (λ a. column_drafted c.args.e.now c.in-Null-2.field-0 (ap out-ResolvedExpr c.in-Null-2.is ∙ exprs.outs-Column c.in-Null-2.field-0) a) c.null-in-Null-2.ensures
+pub expr-returns-in-Column : goal.expr-returns-in-Column
+expr-returns-in-Column t c = ok_as c.null-in-Column.result (λ a. column_drafted c.args.e.now c.in-Column.field-0 (ap out-ResolvedExpr c.in-Column.is ∙ exprs.outs-Column c.in-Column.field-0) a) c.null-in-Column.ensures
 
 pub expr-returns-in-Scalar : goal.expr-returns-in-Scalar
 expr-returns-in-Scalar t c = ok_as c.scalar.result (λ a. one (scalar_drafted c.get.result.now a) (λ σ f. f c.args.letter c.args.e.now (ap out-ResolvedExpr (c.in-Scalar.is ∙ ap exprs.Scalar (sym c.get.ensures)) ∙ exprs.outs-Scalar c.get.result.now))) c.scalar.ensures
