@@ -1,5 +1,5 @@
 //! The lines of an expression outside of rows.
-ghost use Rattle.std.specs.Prelude.{◌≡◌, [], ◌∷◌, drop, IfOk};
+ghost use Rattle.std.specs.Prelude.{[], ◌∷◌, drop, IfOk};
 ghost use Rattle.psm_resolved.specs.declared.expr.ResolvedExpr.{out-ResolvedExpr};
 ghost use Rattle.psm_resolved.specs.declared.expr.ResolvedExpr.TheOpen as layers;
 ghost use Rattle.psm_resolved.specs.RowValue.{listed};

@@ -1,5 +1,5 @@
 //! The operations of an expression on its operands, once these are written.
-ghost use Rattle.std.specs.Prelude.{◌≡◌, [], ◌∷◌, length, suc, IfOk};
+ghost use Rattle.std.specs.Prelude.{◌≡◌, ◌∷◌, length, suc, IfOk};
 ghost use Rattle.psm_value.specs.declared.datum.Datum.TheVariants as data_of;
 ghost use Rattle.psm_exprcode.specs.declared.op.Letter.TheVariants.{B};
 ghost use Rattle.psm_exprcode.specs.declared.op.Op.TheVariants as op;
