@@ -116,7 +116,7 @@ module _ {known : Known} {context resume : ℕ} where
 
   pub searched_drafted : {k : Letter} {w v : Written} (end : ℕ) (whens : List ResolvedWhen) (has_operand : Bool) → has_operand ≡ false → Drafted (λ σ. Whens known context (σ resume) k (σ end) whens) w v
       → Drafted (λ σ. CaseTests known context (σ resume) has_operand k (σ end) whens) w v
-  searched_drafted {k} {w} {v} end whens has_operand q a = subst (λ z. Drafted (λ σ. CaseTests known context (σ resume) z k (σ end) whens) w v) (sym q) a
+  searched_drafted {k} {w} {v} end whens has_operand q a = subst (λ z. Drafted (λ σ. CaseTests known context (σ resume) z k (σ end) whens) w v) (sym q) (one a (λ σ x. x))
 
   pub case_drafted : {k : Letter} {w t l u f v new : Written} (e : ResolvedExpr) (operand : Option ResolvedExpr) (whens : Several ResolvedWhen) (otherwise : Option ResolvedExpr) (scale : Option ℕ) (end : ℕ) (letter : Letter) (has_operand : Bool)
       → out-ResolvedExpr e ≡ layers.Case operand whens otherwise scale → letter ≡ row_types.letter_at scale → has_operand ≡ is_some operand → Drafted (λ σ. WritesAll known context (σ resume) (some_operand operand)) w t → end ≡ length t.labels

@@ -65,6 +65,18 @@ module _ {known : Known} {context resume : ℕ} where
       ∙ ap (λ i. puts context resume (instruction.FunctionCall number) (length arguments) (i ∷ []) v) (l ∙ ap (letter_at known.results) r) in
       subst (λ x. Writes known context resume k e w x) (sym ends) (call function arguments q full)
 
+  pub scalar_put : {query : ResolvedQuery} {number : ℕ} {letter : Letter} {w asks new : Written} → number ≡ length w.queries → letter ≡ letter_at (item_letters known query) 0 → (code : Query) × QueryMade known query code × (asks ≡ with_query code w)
+      → new ≡ puts context resume (instruction.Scalar number) 0 (letter ∷ []) asks
+      → (code : Query) × QueryMade known query code × (new ≡ puts context resume (instruction.Scalar (length w.queries)) 0 (letter_at (item_letters known query) 0 ∷ []) (with_query code w))
+  scalar_put {query} {letter = letter} {w = w} {asks = asks} m l a n =
+      (a.0, a.1, n ∙ ap (λ i. puts context resume (instruction.Scalar i) 0 (letter ∷ []) asks) m ∙ ap (λ k. puts context resume (instruction.Scalar (length w.queries)) 0 (k ∷ []) asks) l
+      ∙ ap (puts context resume (instruction.Scalar (length w.queries)) 0 (letter_at (item_letters known query) 0 ∷ [])) a.2)
+
+  pub exists_put : {query : ResolvedQuery} {number : ℕ} {w asks new : Written} → number ≡ length w.queries → (code : Query) × QueryMade known query code × (asks ≡ with_query code w)
+      → new ≡ puts context resume (instruction.Exists number) 0 (B ∷ []) asks → (code : Query) × QueryMade known query code × (new ≡ puts context resume (instruction.Exists (length w.queries)) 0 (B ∷ []) (with_query code w))
+  exists_put {w = w} {asks = asks} m a n =
+      (a.0, a.1, n ∙ ap (λ i. puts context resume (instruction.Exists i) 0 (B ∷ []) asks) m ∙ ap (puts context resume (instruction.Exists (length w.queries)) 0 (B ∷ [])) a.2)
+
   pub scalar_written : {w asks new : Written} (query : ResolvedQuery) (code : Query) → QueryMade known query code → asks ≡ with_query code w
       → new ≡ puts context resume (instruction.Scalar (length w.queries)) 0 (letter_at (item_letters known query) 0 ∷ []) asks → WritesForm known context resume (layers.Scalar query) w new
   scalar_written {w = w} query code made a n k e q =

@@ -42,8 +42,8 @@ form-returns-in-Simple t c = ok_as c.simple.result (λ a. one a (λ σ x. simple
 pub cases-returns-in-None : goal.cases-returns-in-None
 cases-returns-in-None t c = ok_as c.branches.result (λ a. one a (λ σ bs last r ss s o e. case_written c.args.list.now last bs ss s (o ∙ ap (λ x. layers.Case x c.args.list.now last) c.in-None.is) e)) c.branches.ensures
 
-pub cases-returns-in_ok-comparisons : goal.cases-returns-in_ok-comparisons
-cases-returns-in_ok-comparisons t c = ok_as c.take.result (λ a. one (compared_drafted c.args.enclosing.now c.in-Some.e c.get.result.now c.args.list.now c.get.ensures c.in_ok-evaluated.ensures.written c.in_ok-evaluated.ensures.alone c.in_ok-comparisons.ensures a) (λ σ f last r ss s o e. f last r ss s (o ∙ ap (λ x. layers.Case x c.args.list.now last) c.in-Some.is) e)) c.take.ensures
+pub cases-returns-in_ok-comparisons-in-Some : goal.cases-returns-in_ok-comparisons-in-Some
+cases-returns-in_ok-comparisons-in-Some t c = ok_as c.take.result (λ a. one (compared_drafted c.args.enclosing.now c.in-Some.e c.get.result.now c.args.list.now c.get.ensures c.in_ok-evaluated-in-Some.ensures.written c.in_ok-evaluated-in-Some.ensures.alone c.in_ok-comparisons-in-Some.ensures a) (λ σ f last r ss s o e. f last r ss s (o ∙ ap (λ x. layers.Case x c.args.list.now last) c.in-Some.is) e)) c.take.ensures
 
 pub compound-returns : goal.compound-returns
 compound-returns t c = ok_as c.plain.result (λ a. compound_drafted c.args.enclosing.now c.args.level c.args.block.now c.in_ok-declared.ensures.written c.in_ok-declared.ensures.alone c.in_ok-cursors.ensures c.in_ok-numbers.ensures c.in_ok-exit.ensures.number c.in_ok-exit.ensures.labels c.in_ok-inner.ensures.number c.in_ok-inner.ensures.entered c.in_ok-start.ensures.number c.in_ok-start.ensures.labels c.in_ok-pass.ensures c.in_ok-handlers.ensures c.in_ok-bind.ensures c.in_ok-within.ensures c.in_ok-bind-2.ensures a) c.plain.ensures
