@@ -4,7 +4,7 @@ ghost use Rattle.psm_list.specs.Several.{several_map};
 ghost use Rattle.psm_scope.specs.Routines.{function};
 ghost use Rattle.psm_rules.specs.Checked.{as_condition, as_value, shape_of};
 ghost use Rattle.psm_rules.specs.Shapes.{kind_of};
-ghost use Rattle.psm_rules.specs.ExprFaults.{check_call, called, check_case, chained, else_of, check_expr, logical_operator_of, check_chain_link, linked, check_name, check_pick, check_query, seen, seen_in, seen_option, simple_test, check_when};
+ghost use Rattle.psm_rules.specs.ExprFaults.{check_call, called, check_case, chained, check_coalesce, check_exists, check_scalar, compares, else_of, check_expr, logical_operator_of, check_chain_link, linked, check_name, check_pick, check_query, seen, seen_in, seen_option, simple_test, check_when};
 ghost use Rattle.psm_check_expr.specs.Seen.{pick_of, seen_in_checker_scope};
 
 use crate::checker_scope::{CheckerScope, name_in, on_row};
@@ -74,10 +74,7 @@ pub fn check_expr(
         }
         Expr::In { value, list, .. } => {
             let first = check_expr(alloc, value.get(), checker_scope)?;
-            let mut values = Vec::new(alloc);
-            values.push(as_value(first))?;
-            push_several(alloc, list, checker_scope, &mut values)?;
-            Ok(compares(first.place, values.as_slice()))
+            check_in(alloc, list, checker_scope, first)
         }
         Expr::Like {
             value,
@@ -106,20 +103,12 @@ pub fn check_expr(
             let checked = check_expr(alloc, expr.get(), checker_scope)?;
             Ok(checked_with(*place, checked))
         }
-        Expr::Subquery { place, query } => match checker_scope.row {
-            Some(_) => Ok(broken(Rule::NotAllowedOnRow, *place)),
-            None => {
-                let checked = check_query(alloc, query.get(), checker_scope)?;
-                check_scalar(alloc, *place, &checked)
-            }
-        },
-        Expr::Exists { place, query } => match checker_scope.row {
-            Some(_) => Ok(broken(Rule::NotAllowedOnRow, *place)),
-            None => {
-                let checked = check_query(alloc, query.get(), checker_scope)?;
-                Ok(check_exists(*place, &checked))
-            }
-        },
+        Expr::Subquery { place, query } => {
+            check_subquery(alloc, query.get(), checker_scope, *place)
+        }
+        Expr::Exists { place, query } => {
+            check_has_row(alloc, query.get(), checker_scope, *place)
+        }
         Expr::Case {
             place,
             operand,
@@ -135,11 +124,7 @@ pub fn check_expr(
             let checked = check_expr(alloc, source.get(), checker_scope)?;
             Ok(check_cast(*place, checked, to))
         }
-        Expr::Coalesce { place, values } => {
-            let mut checked = Vec::new(alloc);
-            push_several(alloc, values, checker_scope, &mut checked)?;
-            Ok(check_coalesce(*place, checked.as_slice()))
-        }
+        Expr::Coalesce { place, values } => check_values(alloc, values, checker_scope, *place),
         Expr::NullIf { place, left, right } => {
             let first = check_expr(alloc, left.get(), checker_scope)?;
             let second = check_expr(alloc, right.get(), checker_scope)?;
@@ -239,6 +224,75 @@ fn check_logical_operator(
         conditions.push(as_condition(checked))?;
     }
     Ok(logical_operator_of(first.place, conditions.as_slice()))
+}
+
+// IN, with what is found in the value before it.
+#[cycle(expression)]
+fn check_in(
+    alloc: Global,
+    list: &OneOrMore<Boxed<Expr>>,
+    checker_scope: CheckerScope,
+    first: Checked,
+) -> Result<Checked, AllocError>
+    ensures { IfOk result (λ f. f ≡ compares first.place (as_value first ∷ map as_value (seen_in (seen_in_checker_scope checker_scope.entry) (several_map check_expr list.now)))) }
+{
+    let mut values = Vec::new(alloc);
+    values.push(as_value(first))?;
+    push_several(alloc, list, checker_scope, &mut values)?;
+    Ok(compares(first.place, values.as_slice()))
+}
+
+// The values of COALESCE.
+#[cycle(expression)]
+fn check_values(
+    alloc: Global,
+    list: &OneOrMore<Boxed<Expr>>,
+    checker_scope: CheckerScope,
+    place: Place,
+) -> Result<Checked, AllocError>
+    ensures { IfOk result (λ f. f ≡ check_coalesce place (map as_value (seen_in (seen_in_checker_scope checker_scope.entry) (several_map check_expr list.now)))) }
+{
+    let mut values = Vec::new(alloc);
+    push_several(alloc, list, checker_scope, &mut values)?;
+    Ok(check_coalesce(place, values.as_slice()))
+}
+
+// ---- queries that stand in an expression
+
+#[cycle(expression)]
+fn check_subquery(
+    alloc: Global,
+    query: &Select,
+    checker_scope: CheckerScope,
+    place: Place,
+) -> Result<Checked, AllocError>
+    ensures { IfOk result (λ f. f ≡ check_scalar place (seen_in_checker_scope checker_scope.entry).row (check_query query.now (seen_in_checker_scope checker_scope.entry))) }
+{
+    match checker_scope.row {
+        Some(_) => Ok(broken(Rule::NotAllowedOnRow, place)),
+        None => {
+            let checked = check_query(alloc, query, checker_scope)?;
+            check_scalar(alloc, place, &checked)
+        }
+    }
+}
+
+#[cycle(expression)]
+fn check_has_row(
+    alloc: Global,
+    query: &Select,
+    checker_scope: CheckerScope,
+    place: Place,
+) -> Result<Checked, AllocError>
+    ensures { IfOk result (λ f. f ≡ check_exists place (seen_in_checker_scope checker_scope.entry).row (check_query query.now (seen_in_checker_scope checker_scope.entry))) }
+{
+    match checker_scope.row {
+        Some(_) => Ok(broken(Rule::NotAllowedOnRow, place)),
+        None => {
+            let checked = check_query(alloc, query, checker_scope)?;
+            Ok(check_exists(place, &checked))
+        }
+    }
 }
 
 // ---- names

@@ -39,7 +39,7 @@ use Rattle.psm_resolved.specs.Outcomes.{valued, decided, named, of_one, of_two, 
 use Rattle.psm_resolved.specs.RowValue.{tested, function_of, row_value}
 use Rattle.psm_resolved.specs.RowType as row_type
 use Rattle.psm_resolved.specs.RowType.{RowType, Of, is_of, given, where_true, row_type_of}
-use Rattle.psm_resolved.specs.Written.{Written, with_op, with_not, letter_or, last_letter, op_of_comparison, op_of_function, Adds, puts_value, Writes, WritesSource}
+use Rattle.psm_resolved.specs.Written.{Written, with_op, with_not, letter_or, op_of_comparison, op_of_function, Adds, puts_value, Writes, WritesSource}
 use Rattle.psm_resolved.proofs.Equations.{value-Number, value-Text, value-Column, value-Variable, value-Not, value-Compare, value-IsNull, value-Between, value-Like, value-Negated, value-Cast, value-NullIf, value-Function, value-Position, value-Substring, value-Trim, row_type-Number, row_type-Text, row_type-Column, row_type-Variable, row_type-Not, row_type-Compare, row_type-IsNull, row_type-Between, row_type-Like, row_type-Negated, row_type-Cast, row_type-NullIf, row_type-Function, row_type-Position, row_type-Substring, row_type-Trim}
 use Rattle.psm_resolved.proofs.Lines.{fall_through, Rule}
 use Rattle.psm_resolved.proofs.Operations.{move_one, move_two, move_three, move_truth, value_fall_through, truth_fall_through, one_fall_through, two_fall_through, three_fall_through, one_truth_fall_through, one_moved, truth_moved, two_moved, three_moved, adds_same, adds_more, adds_op, adds_leaf}
@@ -380,14 +380,15 @@ null_if_inverted a b s k e h = by (is_of N a && is_of N b) refl (sym (ap (is_of 
   by true g m = number g (sym (is_letter-same k N m))
   by false g m = let d = where_true_inverted (where_true (is_of T a && is_of T b) T) (is_of T a && is_of T b) T k refl m in texts d.0 d.1
 
-pub null_if_written : (columns variables : List Letter) (e a b : ResolvedExpr) (l : Letter) (w0 w1 w2 w3 : Written) (r : Result (Unit {0}) AllocError) → e ≡ exprs.NullIf a b → Writes columns variables a w0 w1 → l ≡ last_letter w1.stack → Writes columns variables b w1 w2
+pub null_if_written : (columns variables : List Letter) (e a b : ResolvedExpr) (l : Letter) (w0 w1 w2 w3 : Written) (r : Result (Unit {0}) AllocError) → e ≡ exprs.NullIf a b → Writes columns variables a w0 w1 → Writes columns variables b w1 w2 → l ≡ letter_or (slice_get w2.stack 1)
     → IfOk r (λ _. w3 ≡ with_op w2 op.NullIf 2 l) → IfOk r (λ _. Writes columns variables e w0 w3)
-null_if_written columns variables e a b l w0 w1 w2 w3 r q x p z y = written_ok columns variables e w0 w3 (with_op w2 op.NullIf 2 l) r y (λ k h.
+null_if_written columns variables e a b l w0 w1 w2 w3 r q x z p y = written_ok columns variables e w0 w3 (with_op w2 op.NullIf 2 l) r y (λ k h.
     let s = null_if_inverted (row_type_of columns variables a) (row_type_of columns variables b) (row_type_of columns variables e) k (ap (row_type_of columns variables) q ∙ row_type-NullIf columns variables a b) h in
     let first = x k s.1 in
+    let second = z k s.2 in
     let f : Datum → Datum → Outcome = λ c d. valued (Ok (unless_equal c d)) in
-    subst (λ i. Adds (is_of_kind columns variables) (k ∷ []) (puts_value e) w0 (with_op w2 op.NullIf 2 i)) (sym (p ∙ ap last_letter first.letters))
+    subst (λ i. Adds (is_of_kind columns variables) (k ∷ []) (puts_value e) w0 (with_op w2 op.NullIf 2 i)) (sym (p ∙ ap (λ st. letter_or (slice_get st 1)) (second.letters ∙ ap (λ st. k ∷ st) first.letters)))
     (two_adds (is_of_kind columns variables) k k k op.NullIf f (λ row vars. row_value row vars a) (λ row vars. row_value row vars b) (λ row vars. row_value row vars e) w0 w1 w2
     (record { kind = k; other = N; bounded = refl; is_kind = s.0; allowed = refl; takes_is = refl; puts_is = refl; branch_is = refl })
     (λ row vars os. two_fall_through (λ c d below. with_value below (Ok (unless_equal c d))) f (λ c d below. value_fall_through below (Ok (unless_equal c d))) os)
-    (λ row vars. ap (row_value row vars) q ∙ value-NullIf row vars a b) first (z k s.2)))
+    (λ row vars. ap (row_value row vars) q ∙ value-NullIf row vars a b) first second))

@@ -10,4 +10,5 @@ pub mod Lists
 pub mod Pending
 pub mod Cases
 pub mod Choices
+pub mod Straight
 pub mod Whole

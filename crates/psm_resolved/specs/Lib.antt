@@ -6,3 +6,4 @@ pub mod Written
 pub mod Exits
 pub mod Open
 pub mod Choices
+pub mod Straight

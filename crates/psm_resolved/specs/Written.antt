@@ -71,6 +71,11 @@ abbrev pub with_comparison : Bool → Written → Written
 with_comparison false w = w
 with_comparison true w = with_op w op.Equal 2 B
 
+-- without the operand of a CASE below the last one, where it stands there
+abbrev pub with_drop_below : Bool → Letter → Written → Written
+with_drop_below false k w = w
+with_drop_below true k w = with_op w op.DropBelow 2 k
+
 -- ---- operations
 
 abbrev pub op_of_comparison : Comparison → Op

@@ -6,7 +6,7 @@ ghost use Rattle.psm_resolved.specs.Written.{IsCodeOf};
 
 use crate::expr::ResolvedExpr;
 use crate::expr_context::ExprContext;
-use crate::exprs::source;
+use crate::exprs::expr;
 use crate::writer::Writer;
 use psm_exprcode::{ExprCode, Letter, RawExpr};
 use std::alloc::{AllocError, Global};
@@ -29,7 +29,7 @@ pub fn row_code(
         variables,
     };
     let mut out = Writer::new(alloc);
-    source(&mut out, expr_context, e, letter)?;
+    expr(&mut out, expr_context, e, letter)?;
     Ok(coded(out.into_lines()))
 }
 

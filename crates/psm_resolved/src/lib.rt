@@ -7,6 +7,7 @@ mod expr;
 mod expr_context;
 mod exprs;
 mod file;
+mod operating;
 mod operators;
 mod statement;
 mod writer;

@@ -1,7 +1,9 @@
 //! Lines that are written one after another.
-ghost use Rattle.std.specs.Prelude.{◌≡◌, ◌∷◌, [], ◌++◌, drop, reverse, length, IfOk};
+ghost use Rattle.std.specs.Prelude.{◌≡◌, ◌∷◌, [], ◌++◌, drop, reverse, length, slice_get, IfOk};
 ghost use Rattle.psm_exprcode.specs.Numbered.{with_op_at};
-ghost use Rattle.psm_resolved.specs.Written.{with_line, with_op, with_not, with_scale, with_copy, with_comparison, last_letter, patched, Jumps, Leaves};
+ghost use Rattle.psm_resolved.specs.Written.{with_line, with_op, with_scale, with_copy, with_comparison, with_drop_below, last_letter, letter_or, patched, Jumps, Leaves};
+ghost use Rattle.psm_resolved.specs.Straight.{negating, with_ops};
+ghost use Rattle.psm_exprcode.specs.declared.op.Letter.TheVariants.{B};
 ghost use Rattle.psm_resolved.specs.Exits.{exit_op};
 
 use psm_exprcode::{ExprWriter, Letter, Op, RawExpr};
@@ -63,10 +65,11 @@ impl Writer {
         self.code.put(puts)
     }
 
-    /// Writes NOT, where it is wanted.
-    pub fn perhaps_not(&mut self, negated: bool) -> Result<(), AllocError>
-        ensures { IfOk result (λ _. self.new ≡ with_not negated self.old) }
+    /// Writes an operation that takes n operands and puts a truth value, and NOT after it, where it is wanted.
+    pub fn test(&mut self, op: Op, takes: usize, negated: bool) -> Result<(), AllocError>
+        ensures { IfOk result (λ _. self.new ≡ with_ops self.old takes B (op ∷ negating negated)) }
     {
+        self.apply(op, takes, Letter::B)?;
         if negated {
             self.apply(Op::Not, 1, Letter::B)?;
         }
@@ -104,11 +107,35 @@ impl Writer {
         Ok(())
     }
 
+    /// Takes the operand of a CASE off, where its result stands on it.
+    pub fn perhaps_drop_below(
+        &mut self,
+        is_compared: bool,
+        letter: Letter,
+    ) -> Result<(), AllocError>
+        ensures { IfOk result (λ _. self.new ≡ with_drop_below is_compared letter self.old) }
+    {
+        if is_compared {
+            self.apply(Op::DropBelow, 2, letter)?;
+        }
+        Ok(())
+    }
+
     /// The letter of the last operand; that of a number where there is none.
     pub fn last(&self) -> Letter
         ensures { result ≡ last_letter self.now.stack }
     {
         match self.code.letter_below(0) {
+            Some(letter) => letter,
+            None => Letter::N,
+        }
+    }
+
+    /// The letter of the operand below it.
+    pub fn second(&self) -> Letter
+        ensures { result ≡ letter_or (slice_get self.now.stack 1) }
+    {
+        match self.code.letter_below(1) {
             Some(letter) => letter,
             None => Letter::N,
         }
