@@ -10,6 +10,7 @@ use Rattle.psm_resolved.specs.declared.expr.ResolvedOperation.{ResolvedOperation
 use Rattle.psm_resolved.specs.declared.expr.ResolvedWhen.{ResolvedWhen, out-ResolvedWhen}
 use Rattle.psm_resolved.specs.declared.file.ResolvedFile.{ResolvedFile}
 use Rattle.psm_resolved.specs.Written.{letter_of_operator, op_of_logical_operator, op_of_operator}
+use Rattle.psm_resolved.specs.Straight.{straight_letter}
 use Rattle.psm_code.specs.declared.code.RawCode.{RawCode}
 use Rattle.psm_code.specs.declared.code.RawRoutine.{RawRoutine}
 use Rattle.psm_code.specs.declared.instruction.Instruction.TheVariants as instruction
@@ -17,7 +18,7 @@ use Rattle.psm_simulation.specs.Env.{Raising}
 use Rattle.psm_simulation.specs.Expressions.{IsFunction, Puts, PutsAll, Takes, operands_of, operations_of, scaling}
 use Rattle.psm_simulation.specs.Expressions as stands
 use Rattle.psm_exprgen.specs.declared.known.Known.{Known}
-use Rattle.psm_exprgen.specs.Exprs.{Arguments, Compares, Firsts, Joins, ChainLinks, Otherwise, Whens, Writes, WritesAll, function_number, straight_letter}
+use Rattle.psm_exprgen.specs.Exprs.{Arguments, Compares, Firsts, Joins, ChainLinks, Otherwise, Whens, Writes, WritesAll, function_number}
 use Rattle.psm_exprgen.specs.Exprs as written
 use Rattle.psm_exprgen.specs.Queries.{item_letters}
 use Rattle.psm_exprgen.specs.Written.{Written, applied, here, last_letter, letter_at, taken, with_query}
@@ -45,8 +46,8 @@ module _ (file : ResolvedFile) (code : RawCode) (r : RawRoutine) (known : Known)
     puts_written {e = e} (written.straight {v = v} h all) o b =
         let layer = out-ResolvedExpr e in
         let count = length (operands_of layer) in
-        stands.straight h (all_written all (of_straight h (opened o refl)) (begins-earlier (grows-all_applied context resume count (straight_letter known layer v) (operations_of layer) v) b))
-        (operations_there context resume count (straight_letter known layer v) (operations_of layer) v b)
+        stands.straight h (all_written all (of_straight h (opened o refl)) (begins-earlier (grows-all_applied context resume count (straight_letter known.variables layer v.stack) (operations_of layer) v) b))
+        (operations_there context resume count (straight_letter known.variables layer v.stack) (operations_of layer) v b)
     puts_written (written.logical_operator j operands q a rest) o b =
         let all = of_logical_operator (opened o q) in
         stands.logical_operator j operands q (puts_written a (of_first all) (begins-earlier (grows-joins rest) b)) (joins_written rest (of_rest all) b)

@@ -11,12 +11,13 @@ use Rattle.psm_resolved.specs.declared.expr.ResolvedExpr.TheOpen as layers
 use Rattle.psm_resolved.specs.declared.expr.ResolvedOperation.{ResolvedOperation}
 use Rattle.psm_resolved.specs.declared.expr.ResolvedQuery.{ResolvedQuery}
 use Rattle.psm_resolved.specs.declared.expr.ResolvedWhen.{ResolvedWhen}
+use Rattle.psm_resolved.specs.Straight.{straight_letter}
 use Rattle.psm_code.specs.declared.code.RawCode.{RawCode}
 use Rattle.psm_code.specs.declared.code.RawRoutine.{RawRoutine}
 use Rattle.psm_code.specs.PlanRules.{query_faults}
 use Rattle.psm_simulation.specs.Expressions.{Layer, operations_of, operands_of, scaling}
 use Rattle.psm_exprgen.specs.declared.known.Known.{Known}
-use Rattle.psm_exprgen.specs.Exprs.{Arguments, Compares, Firsts, Joins, ChainLinks, Otherwise, Whens, Writes, WritesAll, straight_letter}
+use Rattle.psm_exprgen.specs.Exprs.{Arguments, Compares, Firsts, Joins, ChainLinks, Otherwise, Whens, Writes, WritesAll}
 use Rattle.psm_exprgen.specs.Exprs as written
 use Rattle.psm_exprgen.specs.Queries.{QueryMade}
 use Rattle.psm_exprgen.specs.Written.{Written, all_applied, applied, with_query}
@@ -65,7 +66,7 @@ module _ {e : TypingContext} {known : Known} {code : RawCode} {r : RawRoutine} (
       writes-clear (written.column i q) t p c = c
       writes-clear {x = x} (written.straight {v = v} g all) t p c =
           let layer : Layer = out-ResolvedExpr x in
-          all_applied-clear context resume (length (operands_of layer)) (straight_letter known layer v) (operations_of layer) v (all-clear all (operands-well_typed e t.0 layer g (well_typed-layer t.1 refl)) (of_straight g (well_formed-layer p refl)) c)
+          all_applied-clear context resume (length (operands_of layer)) (straight_letter known.variables layer v.stack) (operations_of layer) v (all-clear all (operands-well_typed e t.0 layer g (well_typed-layer t.1 refl)) (of_straight g (well_formed-layer p refl)) c)
       writes-clear (written.logical_operator j operands q a rest) t p c =
           let s = all-well_typed (well_typed-layer t.1 q).1 in
           let all = of_logical_operator (well_formed-layer p q) in

@@ -26,6 +26,7 @@ use Rattle.psm_resolved.specs.declared.expr.ResolvedExpr.TheOpen as layers
 use Rattle.psm_resolved.specs.RowValue.{listed}
 use Rattle.psm_resolved.specs.RowType.{function_of, is_scale, letter_at}
 use Rattle.psm_resolved.specs.Written.{letter_of_operator, letter_or, op_of_comparison, op_of_function, op_of_logical_operator, op_of_operator}
+use Rattle.psm_resolved.specs.Straight.{straight_letter}
 use Rattle.psm_code.specs.declared.code.RawCode.{RawCode}
 use Rattle.psm_code.specs.declared.code.RawRoutine.{RawRoutine}
 use Rattle.psm_code.specs.declared.instruction.Instruction.TheVariants as instruction
@@ -35,7 +36,6 @@ use Rattle.psm_code.specs.RoutineRules.{constant_fits, jump_of, may_stand, names
 use Rattle.psm_code.specs.Rules.{is_some, there}
 use Rattle.psm_simulation.specs.Expressions.{Layer, is_straight, negating, operands_of, operations_of, scaling}
 use Rattle.psm_exprgen.specs.declared.known.Known.{Known}
-use Rattle.psm_exprgen.specs.Exprs.{straight_letter}
 use Rattle.psm_exprgen.specs.Written.{Written}
 use Rattle.psm_typing.specs.Expressions.{AreExprs}
 use Rattle.psm_typing.specs.Expressions as well_typed
@@ -150,7 +150,7 @@ pub record Form (e : TypingContext) (known : Known) (code : RawCode) (r : RawRou
   pub stays : AllStay (operations_of layer)
   pub some : is_some (operations_of layer) ≡ true
   pub typed : allows false layer ≡ true
-  pub letter : (v : Written) (s : List Letter) → v.stack ≡ reverse (letters_put N (operands_of layer) letters) ++ s → straight_letter known layer v ≡ k
+  pub letter : (v : Written) (s : List Letter) → v.stack ≡ reverse (letters_put N (operands_of layer) letters) ++ s → straight_letter known.variables layer v.stack ≡ k
 
 pub there-mapped : (k : Letter) (o : Option SqlType) → option_map letter_of o ≡ Some k → there o ≡ true
 there-mapped k None h = absurd (cc)
@@ -161,7 +161,7 @@ module _ {e : TypingContext} {known : Known} {code : RawCode} {r : RawRoutine} (
   as-letter {layer} q f = subst (Form e known code r layer) (sym q) f
 
   typed-form : (layer : Layer) (k : Letter) (ks : List Letter) → AreExprs e (operands_of layer) ks → AllWellFormed known false (operands_of layer) → AllMake code r (reverse ks) (operations_of layer) k → AllStay (operations_of layer)
-      → is_some (operations_of layer) ≡ true → allows false layer ≡ true → ((v : Written) (s : List Letter) → v.stack ≡ reverse ks ++ s → straight_letter known layer v ≡ k) → Form e known code r layer k
+      → is_some (operations_of layer) ≡ true → allows false layer ≡ true → ((v : Written) (s : List Letter) → v.stack ≡ reverse ks ++ s → straight_letter known.variables layer v.stack ≡ k) → Form e known code r layer k
   typed-form layer k ks all p m stays some typed l =
       let same : letters_put N (operands_of layer) ks ≡ ks = puts-typed N (operands_of layer) ks all p in
       record {

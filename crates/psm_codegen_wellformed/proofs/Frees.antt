@@ -20,9 +20,10 @@ use Rattle.psm_resolved.specs.declared.expr.ResolvedOperation.{ResolvedOperation
 use Rattle.psm_resolved.specs.declared.expr.ResolvedWhen.{ResolvedWhen, out-ResolvedWhen}
 use Rattle.psm_resolved.specs.RowType as row_types
 use Rattle.psm_resolved.specs.Written.{letter_of_operator, op_of_logical_operator, op_of_operator}
+use Rattle.psm_resolved.specs.Straight.{straight_letter}
 use Rattle.psm_simulation.specs.Expressions.{Layer, operands_of, operations_of, scaling}
 use Rattle.psm_exprgen.specs.declared.known.Known.{Known}
-use Rattle.psm_exprgen.specs.Exprs.{Arguments, Compares, Firsts, Joins, ChainLinks, Otherwise, Whens, Writes, WritesAll, function_number, straight_letter}
+use Rattle.psm_exprgen.specs.Exprs.{Arguments, Compares, Firsts, Joins, ChainLinks, Otherwise, Whens, Writes, WritesAll, function_number}
 use Rattle.psm_exprgen.specs.Exprs as written
 use Rattle.psm_exprgen.specs.Queries.{item_letters}
 use Rattle.psm_exprgen.specs.Written.{Written, all_applied, applied, here, last_letter, letter_at, taken, with_query}
@@ -82,7 +83,7 @@ module _ {e : TypingContext} {known : Known} {code : RawCode} {r : RawRoutine} {
         let o : Form e known code r layer k = form keeps layer k g (well_formed-within p refl) parts (well_typed-layer t refl) in
         let puts = letters_put N (operands_of layer) o.letters in
         let count = length (operands_of layer) in
-        let letter = straight_letter known layer v in
+        let letter = straight_letter known.variables layer v.stack in
         let operands : v.stack ≡ reverse puts ++ w.stack = all-stack keeps all o.operands parts in
         let makes : AllMake code r (reverse puts) (operations_of layer) letter = subst (AllMake code r (reverse puts) (operations_of layer)) (sym (o.letter v w.stack operands)) o.makes in
         let grows = grows-all_applied context resume count letter (operations_of layer) v in

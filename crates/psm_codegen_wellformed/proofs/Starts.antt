@@ -9,10 +9,11 @@ use Rattle.psm_resolved.specs.declared.expr.ResolvedExpr.{ResolvedExpr, out-Reso
 use Rattle.psm_resolved.specs.declared.expr.ResolvedOperation.{ResolvedOperation, out-ResolvedOperation}
 use Rattle.psm_resolved.specs.declared.expr.ResolvedWhen.{ResolvedWhen}
 use Rattle.psm_resolved.specs.Written.{letter_of_operator, op_of_logical_operator, op_of_operator}
+use Rattle.psm_resolved.specs.Straight.{straight_letter}
 use Rattle.psm_simulation.specs.Expressions.{operands_of, operations_of, scaling}
 use Rattle.std.specs.Prelude.{length}
 use Rattle.psm_exprgen.specs.declared.known.Known.{Known}
-use Rattle.psm_exprgen.specs.Exprs.{Arguments, Compares, Firsts, Joins, ChainLinks, Otherwise, Whens, Writes, WritesAll, straight_letter}
+use Rattle.psm_exprgen.specs.Exprs.{Arguments, Compares, Firsts, Joins, ChainLinks, Otherwise, Whens, Writes, WritesAll}
 use Rattle.psm_exprgen.specs.Exprs as written
 use Rattle.psm_exprgen.specs.Written.{Written, applied, here, last_letter, taken}
 use Rattle.psm_exprgen.specs.Writing.{Begins}
@@ -28,7 +29,7 @@ module _ {known : Known} {r : RawRoutine} {context resume : ℕ} where
     writes-starts {e = e} (written.straight {v = v} h all) b f =
         let layer = out-ResolvedExpr e in
         let count = length (operands_of layer) in
-        all-starts all (begins-earlier (grows-all_applied context resume count (straight_letter known layer v) (operations_of layer) v) b) (all_applied-starts context resume count (straight_letter known layer v) (operations_of layer) v b f)
+        all-starts all (begins-earlier (grows-all_applied context resume count (straight_letter known.variables layer v.stack) (operations_of layer) v) b) (all_applied-starts context resume count (straight_letter known.variables layer v.stack) (operations_of layer) v b f)
     writes-starts (written.logical_operator j operands q a rest) b f = writes-starts a (begins-earlier (grows-joins rest) b) (joins-starts rest b f)
     writes-starts (written.operator_chain first chain_links q a rest) b f = writes-starts a (begins-earlier (grows-chain_links rest) b) (chain_links-starts rest b f)
     writes-starts (written.call {v = v} function arguments q all) b f = arguments-starts all (begins-earlier (grows-line context (Some resume) _ _ {w = v}) b) (line-starts context (Some resume) _ v b.lines)

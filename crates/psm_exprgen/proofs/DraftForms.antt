@@ -16,11 +16,12 @@ use Rattle.psm_resolved.specs.declared.expr.ResolvedWhen.{ResolvedWhen, out-Reso
 use Rattle.psm_resolved.specs.RowValue.{listed}
 use Rattle.psm_resolved.specs.RowType as row_types
 use Rattle.psm_resolved.specs.Written.{letter_of_operator, op_of_logical_operator, op_of_operator}
+use Rattle.psm_resolved.specs.Straight.{straight_letter}
 use Rattle.psm_code.specs.declared.instruction.Instruction.TheVariants as instruction
 use Rattle.psm_simulation.specs.Expressions.{Layer, is_straight, operands_of, operations_of, scaling, some_operand}
 use Rattle.psm_exprgen.specs.declared.known.Known.{Known}
 use Rattle.psm_exprgen.specs.ExprForms.{CaseTests, WritesForm}
-use Rattle.psm_exprgen.specs.Exprs.{Arguments, Compares, Firsts, Joins, ChainLinks, Otherwise, Whens, Writes, WritesAll, function_number, more, none, straight_letter}
+use Rattle.psm_exprgen.specs.Exprs.{Arguments, Compares, Firsts, Joins, ChainLinks, Otherwise, Whens, Writes, WritesAll, function_number, more, none}
 use Rattle.psm_exprgen.specs.Labels.{Drafted, patched}
 use Rattle.psm_exprgen.specs.Queries.{QueryMade, item_letters}
 use Rattle.psm_exprgen.specs.Written.{Written, all_applied, applied, bound, here, last_letter, letter_at, letters_at, puts, taken, with_label, with_query}
@@ -30,10 +31,6 @@ use Rattle.psm_exprgen.proofs.DraftSteps.{all_applied_drafted, applied_drafted, 
 use Rattle.psm_exprgen.proofs.Ends.{firsts_next, joined_next, linked_next}
 use Rattle.psm_exprgen.proofs.Forms.{call_written, case_written, coalesce_written, column_written, compared_one, else_null, exists_written, null_written, scalar_written, searched_one, straight_written}
 use Rattle.psm_exprgen.proofs.Patches.{Still, still-logical_operator, still-operations, still-operator, still-scaling}
-
-straight-patched : (known : Known) (σ : ℕ → ℕ) (v : Written) (layer : Layer) → straight_letter known layer v ≡ straight_letter known layer (patched σ v)
-straight-patched known σ v (layers.NullIf left right) = refl
-straight-patched known σ v layer = refl
 
 module _ {known : Known} {context resume : ℕ} where
   -- ---- operands one after another, and operations
@@ -49,11 +46,11 @@ module _ {known : Known} {context resume : ℕ} where
   all_same {w = w} {v = v} q a = subst (λ es. Drafted (λ σ. WritesAll known context (σ resume) es) w v) (sym q) a
 
   pub straight_drafted : {k : Letter} {w v new : Written} (e : ResolvedExpr) → is_straight (out-ResolvedExpr e) ≡ true → Drafted (λ σ. WritesAll known context (σ resume) (operands_of (out-ResolvedExpr e))) w v
-      → new ≡ all_applied context resume (length (operands_of (out-ResolvedExpr e))) (straight_letter known (out-ResolvedExpr e) v) (operations_of (out-ResolvedExpr e)) v → Drafted (λ σ. Writes known context (σ resume) k e) w new
+      → new ≡ all_applied context resume (length (operands_of (out-ResolvedExpr e))) (straight_letter known.variables (out-ResolvedExpr e) v.stack) (operations_of (out-ResolvedExpr e)) v → Drafted (λ σ. Writes known context (σ resume) k e) w new
   straight_drafted {k} {w} {v} {new} e h a n =
       let layer = out-ResolvedExpr e in
-      two a (all_applied_drafted context resume (length (operands_of layer)) (straight_letter known layer v) (operations_of layer) (still-operations layer) n)
-      (λ σ x y. straight_written k e (patched σ new) h x (y ∙ ap (λ z. all_applied context (σ resume) (length (operands_of layer)) z (operations_of layer) (patched σ v)) (straight-patched known σ v layer)))
+      two a (all_applied_drafted context resume (length (operands_of layer)) (straight_letter known.variables layer v.stack) (operations_of layer) (still-operations layer) n)
+      (λ σ x y. straight_written k e (patched σ new) h x y)
 
   -- ---- NULL, and a column
 

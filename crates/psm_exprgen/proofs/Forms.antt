@@ -15,11 +15,12 @@ use Rattle.psm_resolved.specs.declared.expr.ResolvedQuery.{ResolvedQuery}
 use Rattle.psm_resolved.specs.declared.expr.ResolvedWhen.{ResolvedWhen, out-ResolvedWhen}
 use Rattle.psm_resolved.specs.RowValue.{listed}
 use Rattle.psm_resolved.specs.RowType as row_types
+use Rattle.psm_resolved.specs.Straight.{straight_letter}
 use Rattle.psm_code.specs.declared.instruction.Instruction.TheVariants as instruction
 use Rattle.psm_simulation.specs.Expressions.{is_straight, operands_of, operations_of, scaling, some_operand}
 use Rattle.psm_exprgen.specs.declared.known.Known.{Known}
 use Rattle.psm_exprgen.specs.ExprForms.{CaseTests, WritesForm}
-use Rattle.psm_exprgen.specs.Exprs.{Arguments, Compares, Firsts, Joins, Otherwise, Whens, Writes, WritesAll, call, coalesce, column, compare, compared, else_written, exists, function_number, logical_operator, more, no_else, no_more, no_when, none, null, scalar, searched, straight, straight_letter, when}
+use Rattle.psm_exprgen.specs.Exprs.{Arguments, Compares, Firsts, Joins, Otherwise, Whens, Writes, WritesAll, call, coalesce, column, compare, compared, else_written, exists, function_number, logical_operator, more, no_else, no_more, no_when, none, null, scalar, searched, straight, when}
 use Rattle.psm_exprgen.specs.Queries.{QueryMade, item_letters}
 use Rattle.psm_exprgen.specs.Written.{Written, all_applied, applied, here, last_letter, letter_at, letters_at, puts, taken, with_query}
 
@@ -35,7 +36,7 @@ module _ {known : Known} {context resume : ℕ} where
   -- ---- operands one after another, and operations
 
   pub straight_written : {w v : Written} (k : Letter) (e : ResolvedExpr) (new : Written) → is_straight (out-ResolvedExpr e) ≡ true → WritesAll known context resume (operands_of (out-ResolvedExpr e)) w v
-      → new ≡ all_applied context resume (length (operands_of (out-ResolvedExpr e))) (straight_letter known (out-ResolvedExpr e) v) (operations_of (out-ResolvedExpr e)) v → Writes known context resume k e w new
+      → new ≡ all_applied context resume (length (operands_of (out-ResolvedExpr e))) (straight_letter known.variables (out-ResolvedExpr e) v.stack) (operations_of (out-ResolvedExpr e)) v → Writes known context resume k e w new
   straight_written {w = w} k e new h a n = subst (λ x. Writes known context resume k e w x) (sym n) (straight h a)
 
   -- ---- NULL, and a column

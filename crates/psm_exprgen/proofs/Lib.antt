@@ -11,4 +11,3 @@ pub mod Drafts
 pub mod Patches
 pub mod DraftSteps
 pub mod DraftForms
-mod Operands

@@ -17,26 +17,13 @@ use Rattle.psm_resolved.specs.declared.expr.ResolvedWhen.{ResolvedWhen, out-Reso
 use Rattle.psm_resolved.specs.RowValue.{listed}
 use Rattle.psm_resolved.specs.RowType.{function_of}
 use Rattle.psm_resolved.specs.RowType as row_types
+use Rattle.psm_resolved.specs.Straight.{straight_letter}
 use Rattle.psm_resolved.specs.Written.{letter_of_operator, op_of_logical_operator, op_of_operator}
 use Rattle.psm_code.specs.declared.instruction.Instruction.TheVariants as instruction
 use Rattle.psm_simulation.specs.Expressions.{Layer, is_straight, operands_of, operations_of, scaling}
 use Rattle.psm_exprgen.specs.declared.known.Known.{Known}
 use Rattle.psm_exprgen.specs.Queries.{QueryMade, item_letters}
 use Rattle.psm_exprgen.specs.Written.{Written, all_applied, applied, here, last_letter, letter_at, letters_at, number_at, puts, second_letter, taken, with_query}
-
--- the letter that is put where the operands are evaluated one after another
-abbrev pub straight_letter : Known → Layer → Written → Letter
-straight_letter known (layers.Number n) w = N
-straight_letter known (layers.Text t) w = T
-straight_letter known (layers.Variable slot) w = letter_at known.variables slot
-straight_letter known (layers.Negated e) w = N
-straight_letter known (layers.Cast source to) w = letter_of to
-straight_letter known (layers.NullIf left right) w = second_letter w
-straight_letter known (layers.Function function argument) w = function_of function
-straight_letter known (layers.Position part whole) w = N
-straight_letter known (layers.Substring text from length) w = T
-straight_letter known (layers.Trim side text) w = T
-straight_letter known layer w = B
 
 -- the number of a function among all routines, or 0
 abbrev pub function_number : Known → ℕ → ℕ
@@ -48,7 +35,7 @@ mutual
     null : {k : Letter} {e : ResolvedExpr} {w : Written} → out-ResolvedExpr e ≡ layers.Null → Writes known context resume k e w (applied context resume (op.Constant k data_of.Null) 0 k w)
     column : {k : Letter} {e : ResolvedExpr} {w : Written} (i : ℕ) → out-ResolvedExpr e ≡ layers.Column i → Writes known context resume k e w (applied context resume (op.Constant k data_of.Null) 0 k w)
     straight : {k : Letter} {e : ResolvedExpr} {w v : Written} → is_straight (out-ResolvedExpr e) ≡ true → WritesAll known context resume (operands_of (out-ResolvedExpr e)) w v
-        → Writes known context resume k e w (all_applied context resume (length (operands_of (out-ResolvedExpr e))) (straight_letter known (out-ResolvedExpr e) v) (operations_of (out-ResolvedExpr e)) v)
+        → Writes known context resume k e w (all_applied context resume (length (operands_of (out-ResolvedExpr e))) (straight_letter known.variables (out-ResolvedExpr e) v.stack) (operations_of (out-ResolvedExpr e)) v)
     logical_operator : {k : Letter} {e : ResolvedExpr} {w u v : Written} (j : LogicalOperator) (operands : Several ResolvedExpr) → out-ResolvedExpr e ≡ layers.LogicalOperator j operands
         → Writes known context resume B operands.first w u → Joins known context resume j operands.rest u v → Writes known context resume k e w v
     operator_chain : {k : Letter} {e : ResolvedExpr} {w u v : Written} (first : ResolvedExpr) (chain_links : List ResolvedOperation) → out-ResolvedExpr e ≡ layers.OperatorChain first chain_links

@@ -5,7 +5,7 @@ ghost use Rattle.psm_exprcode.specs.declared.op.Letter.TheVariants.{B};
 ghost use Rattle.psm_exprcode.specs.declared.op.Op.TheVariants as op;
 ghost use Rattle.psm_resolved.specs.declared.expr.ResolvedExpr.{out-ResolvedExpr};
 ghost use Rattle.psm_simulation.specs.Expressions.{negating, operands_of, operations_of};
-ghost use Rattle.psm_exprgen.specs.Exprs.{straight_letter};
+ghost use Rattle.psm_resolved.specs.Straight.{straight_letter};
 ghost use Rattle.psm_exprgen.specs.Written.{all_applied, applied, letter_at as letter_there, second_letter};
 
 use crate::emit_context::EmitContext;
@@ -22,7 +22,7 @@ pub(crate) fn operations(
     emit_context: EmitContext<'_>,
     e: &ResolvedExpr,
 ) -> Result<(), AllocError>
-    ensures { IfOk result (λ _. out.new ≡ all_applied emit_context.entry.context emit_context.entry.resume (length (operands_of (out-ResolvedExpr e.now))) (straight_letter emit_context.entry.known.now (out-ResolvedExpr e.now) out.old) (operations_of (out-ResolvedExpr e.now)) out.old) }
+    ensures { IfOk result (λ _. out.new ≡ all_applied emit_context.entry.context emit_context.entry.resume (length (operands_of (out-ResolvedExpr e.now))) (straight_letter emit_context.entry.known.now.variables (out-ResolvedExpr e.now) out.old.stack) (operations_of (out-ResolvedExpr e.now)) out.old) }
 {
     match e {
         ResolvedExpr::Number(value) => {

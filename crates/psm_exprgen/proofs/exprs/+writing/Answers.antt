@@ -4,6 +4,7 @@ use Rattle.psm_resolved.specs.declared.expr.ResolvedExpr.{out-ResolvedExpr}
 use Rattle.psm_resolved.specs.declared.expr.ResolvedExpr.TheVariants as exprs
 use Rattle.psm_resolved.specs.RowValue.{listed}
 use Rattle.psm_resolved.proofs.Several.{next_item, first_same}
+use Rattle.psm_resolved.proofs.Straight.{first_operand, second_and_third, second_operand}
 use Rattle.psm_simulation.specs.Expressions.{is_straight, operands_of, some_operand}
 use Rattle.psm_exprgen.specs.Exprs.{Compares, Firsts, Whens, WritesAll, joined, last, linked, no_argument, operator_chain}
 use Rattle.psm_exprgen.specs.Labels.{Drafted}
@@ -13,7 +14,6 @@ use Rattle.psm_exprgen.proofs.DraftSteps.{here_drafted}
 use Rattle.psm_exprgen.proofs.Drafts.{one, two}
 use Rattle.psm_exprgen.proofs.Ends.{all_next, argument_next, compares_next, whens_next}
 use Rattle.psm_exprgen.proofs.Forms.{else_value, logical_operator_written, ok_as}
-use Rattle.psm_exprgen.proofs.Operands.{first_operand, second_and_third, second_operand}
 use Rattle.psm_exprgen.proofs.exprs.+writing.Goals as goal
 
 pub expr-returns-in-Null : goal.expr-returns-in-Null
