@@ -18,7 +18,7 @@ use Rattle.psm_resolved.specs.RowType as row_types
 use Rattle.psm_resolved.specs.Written.{letter_of_operator, op_of_logical_operator, op_of_operator}
 use Rattle.psm_resolved.specs.Straight.{straight_letter}
 use Rattle.psm_code.specs.declared.instruction.Instruction.TheVariants as instruction
-use Rattle.psm_simulation.specs.Expressions.{Layer, is_straight, operands_of, operations_of, scaling, some_operand}
+use Rattle.psm_simulation.specs.Expressions.{is_straight, operands_of, operations_of, scaling, some_operand}
 use Rattle.psm_exprgen.specs.declared.known.Known.{Known}
 use Rattle.psm_exprgen.specs.ExprForms.{CaseTests, WritesForm}
 use Rattle.psm_exprgen.specs.Exprs.{Arguments, Compares, Firsts, Joins, ChainLinks, Otherwise, Whens, Writes, WritesAll, function_number, more, none}

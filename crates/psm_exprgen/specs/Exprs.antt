@@ -4,10 +4,9 @@ use Rattle.std.specs.Prelude.{◌≡◌, ℕ, suc, true, List, [], ◌∷◌, le
 use Rattle.psm_value.specs.declared.datum.Datum.TheVariants as data_of
 use Rattle.psm_list.specs.Several.{Several}
 use Rattle.psm_exprcode.specs.declared.op.Letter.{Letter}
-use Rattle.psm_exprcode.specs.declared.op.Letter.TheVariants.{N, T, B}
+use Rattle.psm_exprcode.specs.declared.op.Letter.TheVariants.{N, B}
 use Rattle.psm_exprcode.specs.declared.op.Op.TheVariants as op
 use Rattle.psm_exprcode.specs.declared.query.Query.{Query}
-use Rattle.psm_exprcode.specs.Kinds.{letter_of}
 use Rattle.psm_resolved.specs.declared.expr.LogicalOperator.{LogicalOperator}
 use Rattle.psm_resolved.specs.declared.expr.ResolvedExpr.{ResolvedExpr, out-ResolvedExpr}
 use Rattle.psm_resolved.specs.declared.expr.ResolvedExpr.TheOpen as layers
@@ -15,15 +14,14 @@ use Rattle.psm_resolved.specs.declared.expr.ResolvedOperation.{ResolvedOperation
 use Rattle.psm_resolved.specs.declared.expr.ResolvedQuery.{ResolvedQuery}
 use Rattle.psm_resolved.specs.declared.expr.ResolvedWhen.{ResolvedWhen, out-ResolvedWhen}
 use Rattle.psm_resolved.specs.RowValue.{listed}
-use Rattle.psm_resolved.specs.RowType.{function_of}
 use Rattle.psm_resolved.specs.RowType as row_types
 use Rattle.psm_resolved.specs.Straight.{straight_letter}
 use Rattle.psm_resolved.specs.Written.{letter_of_operator, op_of_logical_operator, op_of_operator}
 use Rattle.psm_code.specs.declared.instruction.Instruction.TheVariants as instruction
-use Rattle.psm_simulation.specs.Expressions.{Layer, is_straight, operands_of, operations_of, scaling}
+use Rattle.psm_simulation.specs.Expressions.{is_straight, operands_of, operations_of, scaling}
 use Rattle.psm_exprgen.specs.declared.known.Known.{Known}
 use Rattle.psm_exprgen.specs.Queries.{QueryMade, item_letters}
-use Rattle.psm_exprgen.specs.Written.{Written, all_applied, applied, here, last_letter, letter_at, letters_at, number_at, puts, second_letter, taken, with_query}
+use Rattle.psm_exprgen.specs.Written.{Written, all_applied, applied, here, last_letter, letter_at, letters_at, number_at, puts, taken, with_query}
 
 -- the number of a function among all routines, or 0
 abbrev pub function_number : Known → ℕ → ℕ

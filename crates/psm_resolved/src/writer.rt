@@ -1,5 +1,5 @@
 //! Lines that are written one after another.
-ghost use Rattle.std.specs.Prelude.{◌≡◌, ◌∷◌, [], ◌++◌, drop, reverse, length, slice_get, IfOk};
+ghost use Rattle.std.specs.Prelude.{◌≡◌, ◌∷◌, [], drop, length, slice_get, IfOk};
 ghost use Rattle.psm_exprcode.specs.Numbered.{with_op_at};
 ghost use Rattle.psm_resolved.specs.Written.{with_line, with_op, with_scale, with_copy, with_comparison, with_drop_below, last_letter, letter_or, patched, Jumps, Leaves};
 ghost use Rattle.psm_resolved.specs.Straight.{negating, with_ops};
