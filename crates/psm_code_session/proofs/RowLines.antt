@@ -30,7 +30,7 @@ use Rattle.psm_resolved.specs.Choices.{Branch, WritesElse, WritesWhens}
 use Rattle.psm_resolved.specs.RowValue.{listed}
 use Rattle.psm_resolved.specs.RowType.{goes_as, row_type_of}
 use Rattle.psm_resolved.specs.RowType as row_types
-use Rattle.psm_resolved.specs.Written.{Extends, IsCodeOf, Leaves, Written, Writes, WritesAll, WritesOthers, WritesSource, last_letter, letter_of_operator, letter_or, op_of_comparison, op_of_function, op_of_logical_operator, op_of_operator, patched, with_comparison, with_copy, with_line, with_not, with_op, with_scale}
+use Rattle.psm_resolved.specs.Written.{Extends, IsCodeOf, Leaves, Written, Writes, WritesAll, WritesOthers, WritesSource, letter_of_operator, letter_or, op_of_comparison, op_of_function, op_of_logical_operator, op_of_operator, patched, with_comparison, with_copy, with_line, with_not, with_op, with_scale}
 use Rattle.psm_resolved.proofs.Cases.{AwaitsOthers, awaits_first, coalesce_written, others_end, others_next}
 use Rattle.psm_resolved.proofs.Choices.{branch_written, branches_end, branches_first, branches_next, compared_written, else_given, else_null, searched_written}
 use Rattle.psm_resolved.proofs.Forms.{between_written, cast_written, column_written, compare_written, function_written, is_null_written, like_escape_written, like_written, negated_written, not_written, null_if_written, number_written, part_for_written, part_written, position_written, text_written, trim_written, variable_written}
@@ -147,9 +147,9 @@ module _ (columns variables : List Letter) where
   null_if_made a b f g old =
       let x = f old in
       let y = g x.0 in
-      let k : Letter = last_letter x.0.stack in
+      let k : Letter = letter_or (slice_get y.0.stack 1) in
       let new : Written = with_op y.0 op.NullIf 2 k in
-      (new, null_if_written columns variables (exprs.NullIf a b) a b k old x.0 y.0 new (Ok tt) refl x.1 refl y.1 refl)
+      (new, null_if_written columns variables (exprs.NullIf a b) a b k old x.0 y.0 new (Ok tt) refl x.1 y.1 refl refl)
 
   between_made : (negated : Bool) (a b c : ResolvedExpr) → Makes a → Makes b → Makes c → Makes (exprs.Between negated a b c)
   between_made negated a b c f g h old =

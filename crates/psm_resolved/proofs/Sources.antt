@@ -129,6 +129,9 @@ null_written columns variables e l w0 w1 (Err x) q a = tt
 nothing : (columns variables : List Letter) (e : ResolvedExpr) (w0 w1 : Written) → row_type_of columns variables e ≡ Wrong → Writes columns variables e w0 w1
 nothing columns variables e w0 w1 q = λ k h. let f : false ≡ true = sym (ap (is_of k) q) ∙ h in absurd (cc)
 
+pub null_alone : (columns variables : List Letter) (e : ResolvedExpr) (w0 w1 : Written) → e ≡ exprs.Null → Writes columns variables e w0 w1
+null_alone columns variables e w0 w1 q = λ k h. let f : false ≡ true = sym (ap (is_of k) (ap (row_type_of columns variables) q ∙ row_type-Null columns variables)) ∙ h in absurd (cc)
+
 pub call_written : (columns variables : List Letter) (e : ResolvedExpr) (f : ℕ) (arguments : List ResolvedExpr) (w0 w1 : Written) → e ≡ exprs.Call f arguments → Writes columns variables e w0 w1
 call_written columns variables e f arguments w0 w1 q = nothing columns variables e w0 w1 (ap (row_type_of columns variables) q ∙ row_type-Call columns variables f arguments)
 
