@@ -1,5 +1,5 @@
 -- What stands for a statement that has no fault is well-formed: an induction over statements.
-use Rattle.std.proofs.Common.{◌≡◌, ◌≤◌, ℕ, suc, List, [], ◌∷◌, ◌++◌, length, map, Option, Some, None, ap, sym, ◌∙◌, subst, arith}
+use Rattle.std.proofs.Common.{◌≡◌, ◌≤◌, ℕ, suc, List, [], ◌∷◌, ◌++◌, length, map, Option, Some, None, ap, sym, ◌∙◌, subst, arith, false}
 use Rattle.std.specs.Prelude.{Bool}
 use Rattle.psm_exprcode.specs.declared.op.Letter.{Letter}
 use Rattle.psm_exprcode.specs.declared.op.Letter.TheVariants.{B}
@@ -34,7 +34,7 @@ use Rattle.psm_typing.specs.TypingContext.{Each, TypingContext}
 use Rattle.psm_typing.specs.Statements as places
 use Rattle.psm_typing.specs.Statements.{in_action, inside, looping, over_rows}
 use Rattle.psm_wellformed.specs.Statements as well_formed
-use Rattle.psm_wellformed.specs.Statements.{AreActions, AreBranches, AreWellFormed, IsWellFormed, IsTest, Letters}
+use Rattle.psm_wellformed.specs.Statements.{AreActions, AreBranches, AreWellFormed, IsWellFormed, Letters}
 use Rattle.psm_checker_sound.specs.Numbered.{AreBelow, Fills, IsNumbered, cursors_in, cursors_in_branch, cursors_in_handler}
 use Rattle.psm_checker_sound.specs.Places.{StandsAt}
 use Rattle.psm_checker_sound.specs.StatementsStand as stand
@@ -52,10 +52,10 @@ use Rattle.psm_checker_sound.proofs.Moving.{IsHere, here-grown, here_in-action, 
 use Rattle.psm_checker_sound.proofs.Opening.{BlockLayer, ResolvedLayer, StatementLayer, block_fault-out, block_fault_in, resolve_block-out, block_resolved_in, branch_cursors-out, resolve_branch-out, resolve_branches, cursors-out, cursors_of_all, cursors_of_branches, cursors_of_handlers, cursors_of_layer, fault-out, fault_in, handler_cursors-out, resolve_handler-out, resolve_handlers, resolved-out, resolved_in, resolve_statements}
 use Rattle.psm_checker_sound.proofs.Parts.{neither}
 use Rattle.psm_checker_sound.proofs.Premises.{PartsWellFormed, parts_well_formed}
-use Rattle.psm_checker_sound.proofs.WellFormedForms.{IsCompared}
-use Rattle.psm_checker_sound.proofs.WellFormedParts.{HaveColumns}
+use Rattle.psm_checker_sound.proofs.Tests.{IsCompared}
 use Rattle.psm_checker_sound.proofs.Statements.{simple_well_typed}
 use Rattle.psm_checker_sound.proofs.Whole.{three_none}
+use Rattle.psm_typing.specs.Expressions.{IsExpr}
 
 -- ---- what is proved
 
@@ -157,7 +157,7 @@ module _ (e : TypingContext) (known : Known) (letters : Letters) (parts : PartsW
         let tests = simple c (as_value (checked c.checker_scope x)) (map branch_part (several branches)) in
         let two = neither (first_of ((as_value (checked c.checker_scope x)).fault ∷ tests)) (faults.all c (map statement_fault otherwise)) none in
         let own = neither (as_value (checked c.checker_scope x)).fault (first_of tests) (sym (first_of_cons (as_value (checked c.checker_scope x)).fault tests) ∙ two.0) in
-        let q : IsCompared e known c.checker_scope resolver_scope x = parts.compared c.checker_scope resolver_scope p.agree p.outside x w own.0 in
+        let q : IsCompared e c.checker_scope resolver_scope x = parts.compared c.checker_scope resolver_scope p.agree p.outside x w own.0 in
         let good = compared_good e known letters parts c resolver_scope p.agree p.outside x q hs own.1 in
         let done = chosen_done hs h q.letter s c symbols scopes n here (λ own. branches_done hs q.letter s c symbols scopes n good here own) (λ there own. all_done h s c symbols scopes bs.1 two.1 there own) (closed_at (resolved.Case y bs.0 ss.0) (layers.Case y bs.0 ss.0) ss.1 (resolved.outs-Case y bs.0 ss.0) closed) in
         record { well_formed = well_formed.compared (expr_at resolver_scope x) bs.0 ss.0 (resolved.outs-Case y bs.0 ss.0) q.value q.operand done.0 done.1; types = done.2 }
@@ -283,7 +283,7 @@ module _ (e : TypingContext) (known : Known) (letters : Letters) (parts : PartsW
         let second = all_done hs s c symbols scopes r.1 two.1 (here-grown (statement-grows h resolver_scope n) here) (closed.0, numbered.1) in
         (well_formed.more first.well_formed second.0, λ a. second.1 (first.types a))
 
-    branches_done : {xs : List Branch} → BranchesStand xs → (k : Letter) (s : places.StatementScope) (c : Context) (symbols : SymbolTable) (scopes : Scopes) (n : Numbering) → Each (IsGoodBranch e known c (at_scopes symbols scopes) k) xs → Here s c symbols scopes n
+    branches_done : {xs : List Branch} → BranchesStand xs → (k : Letter) (s : places.StatementScope) (c : Context) (symbols : SymbolTable) (scopes : Scopes) (n : Numbering) → Each (IsGoodBranch e c (at_scopes symbols scopes) k) xs → Here s c symbols scopes n
         → BranchesClosed (resolve_branches xs (at_scopes symbols scopes) n) → AreBranches e known letters s (resolve_branches xs (at_scopes symbols scopes) n).0 k × (AreTypes n → AreTypes (resolve_branches xs (at_scopes symbols scopes) n).1)
     branches_done stand.no_branch k s c symbols scopes n good here closed = (well_formed.no_branch, λ a. a)
     branches_done (stand.branch {x = x} {xs = xs} t h hs) k s c symbols scopes n good here closed =
@@ -298,7 +298,7 @@ module _ (e : TypingContext) (known : Known) (letters : Letters) (parts : PartsW
         let filled : Fills e r.1 = fills-before (branches-grow hs resolver_scope r.1) closed.0 in
         let first = all_done h s c symbols scopes n good.0.1 here (subst (λ r. Fills e r.1) same filled, subst (Each (IsNumbered e known letters)) (branch_cursors-out r.0 ∙ ap (λ o. cursors_of_all o.statements) opened) numbered.0) in
         let second = branches_done hs k s c symbols scopes r.1 good.1 (here-grown grown here) (closed.0, numbered.1) in (
-          well_formed.and_branch (subst (λ o. IsTest e known o.test k) (sym opened) good.0.0) (subst (λ o. AreWellFormed e known letters s o.statements) (sym opened) first.0) second.0,
+          well_formed.and_branch (subst (λ o. IsExpr e false o.test k) (sym opened) good.0.0) (subst (λ o. AreWellFormed e known letters s o.statements) (sym opened) first.0) second.0,
           λ a. second.1 (subst (λ r. AreTypes r.1) (sym same) (first.1 a)),
         )
 
@@ -307,11 +307,11 @@ module _ (e : TypingContext) (known : Known) (letters : Letters) (parts : PartsW
 outside : (resolver_scope : ResolverScope) → resolver_scope.row ≡ None → resolver_scope ≡ at_scopes resolver_scope.symbols resolver_scope.scopes
 outside resolver_scope h = ap (λ r. let s : ResolverScope = record { symbols = resolver_scope.symbols; scopes = resolver_scope.scopes; row = r } in s) h
 
-pub statement-well_formed : (e : TypingContext) (known : Known) (letters : Letters) → HaveColumns e → (s : places.StatementScope) (c : Context) (resolver_scope : ResolverScope) (n : Numbering) (x : Statement) → StatementStands x → statement_fault x c ≡ None
+pub statement-well_formed : (e : TypingContext) (known : Known) (letters : Letters) (s : places.StatementScope) (c : Context) (resolver_scope : ResolverScope) (n : Numbering) (x : Statement) → StatementStands x → statement_fault x c ≡ None
     → StandsAt e known letters s c resolver_scope → AreBelow n resolver_scope.scopes → Fills e (resolve_statement x resolver_scope n).1 → Each (IsNumbered e known letters) (cursors_in (resolve_statement x resolver_scope n).0) → IsDone e known letters s n (resolve_statement x resolver_scope n)
-statement-well_formed e known letters columns s c resolver_scope n x well none at below filled numbered =
+statement-well_formed e known letters s c resolver_scope n x well none at below filled numbered =
     let same : resolver_scope ≡ at_scopes resolver_scope.symbols resolver_scope.scopes = outside resolver_scope at.outside in
     let here : IsHere e known letters s c (at_scopes resolver_scope.symbols resolver_scope.scopes) n = subst (λ o. IsHere e known letters s c o n) same (record { stands = at; below = below }) in
     let closed : IsClosed e known letters (resolve_statement x (at_scopes resolver_scope.symbols resolver_scope.scopes) n) = subst (λ o. IsClosed e known letters (resolve_statement x o n)) same (filled, numbered) in
     subst (λ o. IsDone e known letters s n (resolve_statement x o n)) (sym same)
-    (statement e known letters (parts_well_formed e known letters columns at.is) well s c resolver_scope.symbols resolver_scope.scopes n none here closed)
+    (statement e known letters (parts_well_formed e known letters at.is) well s c resolver_scope.symbols resolver_scope.scopes n none here closed)

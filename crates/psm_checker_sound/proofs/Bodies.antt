@@ -1,5 +1,5 @@
 -- The body of a routine of an accepted file stands at a place where what is seen agrees: its parameters, and what the file declares.
-use Rattle.std.proofs.Common.{◌≡◌, ℕ, List, [], ◌∷◌, ◌++◌, map, Option, Some, None, option_map, refl, ap, sym, ◌∙◌, subst, arith}
+use Rattle.std.proofs.Common.{◌≡◌, ℕ, List, [], ◌∷◌, ◌++◌, map, Option, Some, None, option_map, refl, ap, sym, ◌∙◌, subst, arith, true}
 use Rattle.std.specs.Prelude.{filter, not}
 use Rattle.std.proofs.lemmas.List.{append_assoc}
 use Rattle.psm_value.specs.declared.sqltype.SqlType.{SqlType}
@@ -23,7 +23,7 @@ use Rattle.psm_resolve_expr.specs.Exprs.{type_known}
 use Rattle.psm_resolve_expr.specs.ResolverScope as resolver_scopes
 use Rattle.psm_resolve_expr.specs.ResolverScope.{ResolverScope}
 use Rattle.psm_declare.specs.Numbering.{Numbering, next_slot, with_slot}
-use Rattle.psm_resolve.specs.Files.{resolved_file, nothing_numbered, resolve_routine, routine_numbered, numbered_parameters}
+use Rattle.psm_resolve.specs.Files.{resolved_file, nothing_numbered, resolve_routine, routine_numbered, numbered_parameters, resolve_table}
 use Rattle.psm_resolve.specs.SymbolTables.{known_symbols}
 use Rattle.psm_meaning.specs.Calls.{returns}
 use Rattle.psm_exprgen.specs.Writing.{BeginsWith}
@@ -31,7 +31,7 @@ use Rattle.psm_codegen.specs.Files.{known_of}
 use Rattle.psm_typing.specs.TypingContext.{Each, TypingContext, Shape}
 use Rattle.psm_wellformed.specs.Files.{body, typing_context_of}
 use Rattle.psm_wellformed.specs.Statements.{Letters}
-use Rattle.psm_checker_sound.specs.Agreement.{Agree, AreFunctions, AreTables, HasSlot, IsWithin}
+use Rattle.psm_checker_sound.specs.Agreement.{Agree, AreFunctions, AreTables, HasSlot, HaveColumns, IsWithin}
 use Rattle.psm_checker_sound.specs.Meant.{IsProcedureMeant}
 use Rattle.psm_checker_sound.specs.Numbered.{AreBelow}
 use Rattle.psm_checker_sound.specs.Places.{StandsAt}
@@ -43,6 +43,10 @@ use Rattle.psm_checker_sound.proofs.Heads.{type_in_slot}
 use Rattle.psm_checker_sound.proofs.Procedures.{procedures-known}
 use Rattle.psm_checker_sound.proofs.Routines.{IsAccepted, IsTypeKnown, parameters-known, result-known}
 use Rattle.psm_checker_sound.proofs.SymbolTables.{are-functions, are-tables, same-functions, same-tables}
+use Rattle.psm_resolved.specs.declared.file.ResolvedTable.{ResolvedTable}
+use Rattle.psm_checker_sound.proofs.Faultless.{each-as, each-mapped}
+use Rattle.psm_code.specs.Rules.{is_some}
+use Rattle.psm_checker_sound.proofs.Tables.{table-columns}
 
 -- ---- the scope of a routine, in which only its parameters are declared
 
@@ -110,6 +114,7 @@ resolved_at v name vs = record { symbols = v; scopes = head_scopes name vs; row 
 record Declares (e : TypingContext) (w v : SymbolTable) (o : Option DataType) : Type 0 where
   tables : w.tables ≡ v.tables
   functions : w.functions ≡ v.functions
+  columns : HaveColumns e
   known_tables : AreTables v.tables e.file.tables
   known_functions : AreFunctions v.functions.signatures v.functions.results (filter (λ r. returns r.returns) e.file.routines)
   procedures : (n : Spelling) (count : ℕ) → IsProcedureMeant e count (procedure n count w.procedures) (procedure n count v.procedures)
@@ -122,6 +127,7 @@ head-agrees e w v o d name us vs h = record {
   functions = d.functions;
   scopes = ap (λ ks. scope.Routine name (record { variables = ks; conditions = []; cursors = [] }) ∷ []) h.alike;
   row = refl;
+  columns = d.columns;
   known_tables = d.known_tables;
   known_functions = d.known_functions;
   slots = (h.there, tt);
@@ -156,10 +162,18 @@ typing_context_in f r shapes = typing_context_of (resolved_file f) (resolve_rout
 abbrev pub body_resolver_scope : FileTree → Routine → ResolverScope
 body_resolver_scope f r = record { symbols = known_symbols f; scopes = (routine_numbered r).0; row = None }
 
+abbrev HasColumn : ResolvedTable → Type 0
+HasColumn t = is_some t.definition.columns ≡ true
+
+-- each table has a column
+have-columns : (f : FileTree) → FileParts f → (r : Routine) (shapes : List Shape) → HaveColumns (typing_context_in f r shapes)
+have-columns f p r shapes = each-mapped HasColumn resolve_table f.tables (each-as (λ t. table_fault t ≡ None) (λ t. HasColumn (resolve_table t)) table-columns f.tables p.tables)
+
 file-declares : (f : FileTree) → FileParts f → (r : Routine) → IsAccepted (symbols_of f) r → (shapes : List Shape) → Declares (typing_context_in f r shapes) (symbols_of f) (known_symbols f) r.returns
 file-declares f p r a shapes = record {
   tables = same-tables f;
   functions = same-functions f;
+  columns = have-columns f p r shapes;
   known_tables = are-tables f p.names p.tables;
   known_functions = are-functions (symbols_of f) (known_symbols f) f p.routines;
   procedures = procedures-known (symbols_of f) (known_symbols f) (resolved_file f) f refl p.routines (typing_context_in f r shapes) refl;

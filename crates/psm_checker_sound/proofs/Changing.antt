@@ -48,12 +48,13 @@ use Rattle.psm_checker_sound.specs.Agreement.{Agree, HaveTypes, letter_in}
 use Rattle.psm_checker_sound.specs.Meant.{IsCursorMeant, Meant}
 use Rattle.psm_checker_sound.specs.Simples.{InsertStands, WhichStands}
 use Rattle.psm_checker_sound.specs.Stands.{as_source, stands}
-use Rattle.psm_checker_sound.proofs.Judging.{Control, OnRow, goes_as_row_type, null-source, row_type_at}
+use Rattle.psm_checker_sound.proofs.Judging.{Control, OnRow, null-source, row_type_at}
 use Rattle.psm_checker_sound.proofs.Parts.{IsResult, IsSourceOf, Part, as_condition-clean, as_value-clean, neither, operand_source, result, tested, value_of_family}
 use Rattle.psm_checker_sound.proofs.Queries.{IsTable, named_placed, tables_placed}
 use Rattle.psm_checker_sound.proofs.Accepted.{Fits}
 use Rattle.psm_checker_sound.proofs.Simples.{items_many, mapped_many, same_count}
 use Rattle.psm_checker_sound.proofs.Whole.{expr_accepted, query_accepted, three_none}
+use Rattle.psm_typing.proofs.Inversion.{widened}
 
 -- ---- the table of a statement
 
@@ -92,6 +93,7 @@ agree_on e checker_scope resolver_scope a table k = record {
   functions = a.functions;
   scopes = a.scopes;
   row = ap (λ cs. Some (record { name = table.name; alias = None; columns = cs })) (ap columns_known k.known ∙ sym k.seen);
+  columns = a.columns;
   known_tables = a.known_tables;
   known_functions = a.known_functions;
   slots = a.slots;
@@ -113,7 +115,7 @@ where_well_typed e s checker_scope resolver_scope a m table k (Some (wheres.Cond
     let kinds : List SqlType = kinds_of k.there.definition.columns in
     let part : Part e (OnRow kinds) (stands x) (check_expr x inner_checker_scope) (resolve_expr x inner_resolver_scope) = expr_accepted x e inner_checker_scope inner_resolver_scope (OnRow kinds) (agree_on e checker_scope resolver_scope a table k) (fits_on e checker_scope resolver_scope table k) in
     let shaped = as_condition-clean (check_expr x inner_checker_scope) (part (operand_source (stands x) well)).clean none in
-    goes_as_row_type B (row_type_at e kinds (resolve_expr x inner_resolver_scope).expr) (tested e (OnRow kinds) (stands x) (check_expr x inner_checker_scope) (resolve_expr x inner_resolver_scope) part well shaped)
+    is_of_row_type B (row_type_at e kinds (resolve_expr x inner_resolver_scope).expr) (tested e (OnRow kinds) (stands x) (check_expr x inner_checker_scope) (resolve_expr x inner_resolver_scope) part well shaped)
 where_well_typed e s checker_scope resolver_scope a m table k (Some (wheres.Current n)) well none = positioned_by e s table n (cursor_of checker_scope.scopes n) (making.cursor_of resolver_scope.scopes n) (m.cursors n.name) none
 
 pub delete_well_typed : (e : TypingContext) (s : places.StatementScope) (checker_scope : CheckerScope) (resolver_scope : ResolverScope) → Agree e checker_scope resolver_scope → Meant e s checker_scope resolver_scope → (table : Identifier) (which : Option Which) → WhichStands which
@@ -133,11 +135,11 @@ letter_of_source Condition = N
 record IsOfSome (e : TypingContext) (x : ResolvedExpr) : Type 0 where
   letter : Letter
   value : IsTrue (is_value letter)
-  judged : IsExpr e x letter
+  judged : IsExpr e true x letter
 
 source_some : (e : TypingContext) (m : Resolved) (s : Shape) → IsSourceOf e Control m s → IsOfSome e m.expr
-source_some e m (Value t) h = record { letter = letter_in (family_of t.kind); value = value_of_family (family_of t.kind); judged = h.judged.0 }
-source_some e m Untyped h = record { letter = N; value = refl; judged = subst (λ x. IsExpr e x N) (sym h.1) (null-source e Control N refl).0 }
+source_some e m (Value t) h = record { letter = letter_in (family_of t.kind); value = value_of_family (family_of t.kind); judged = widened h.judged }
+source_some e m Untyped h = record { letter = N; value = refl; judged = subst (λ x. IsExpr e true x N) (sym h.1) (null-source e Control N refl) }
 source_some e m Condition h = absurd h
 
 value_some : (e : TypingContext) (checker_scope : CheckerScope) (resolver_scope : ResolverScope) → Agree e checker_scope resolver_scope → resolver_scope.row ≡ None → (x : Expr) → IsTrue (as_source (stands x)) → (k : Option SqlType) → source_fault k (check_expr x checker_scope) ≡ None → IsOfSome e (expr_at resolver_scope x)

@@ -51,14 +51,12 @@ use Rattle.psm_typing.specs.TypingContext.{Each, TypingContext, letters_of, take
 use Rattle.psm_meaning.specs.Calls.{returns}
 use Rattle.psm_checker_sound.specs.Agreement.{AreFunctions, letter_in}
 use Rattle.psm_checker_sound.specs.Stands.{Standing, as_operand, as_source, may_be}
-use Rattle.psm_resolved.specs.declared.expr.ResolvedExpr.TheOpen as layers
-use Rattle.psm_wellformed.specs.Expressions as well_formed
-use Rattle.psm_checker_sound.proofs.WellFormedParts.{AllFit, Fit, more_fit, none_fit, null_fit, well_formed_as, widened_fit}
 use Rattle.psm_checker_sound.proofs.Choosing.{IsCallee, chosen_called}
 use Rattle.psm_checker_sound.proofs.Judging.{AllSources, ElseJudged, Judged, Source, WhensJudged, Where, Control, cast-judged, cast_null-judged, coalesce-judged, compared-judged, judged-source, null-source, searched-judged}
 use Rattle.psm_checker_sound.proofs.Parts.{AllResults, Clean, Good, IsResolved, IsNullAlone, IsOperand, IsResult, IsSane, IsSourceOf, IsValue, Part, Parts, all_shaped, as_condition-clean, as_value-clean, compares_clean, compares_judged, combined-clean, combined-parts, neither, operand, operand_source, operands, result, results, same_family, sources_clean, tested, value_of_family, compared_shape}
 use Rattle.psm_checker_sound.proofs.Results.{Agrees, IsResultOf, SaneShape, letter_of_result, results-clean, results_value, scale_of_sane}
 use Rattle.psm_checker_sound.proofs.Forms.{resolved_value, shape_some, type_good, typed_value}
+use Rattle.psm_typing.proofs.Inversion.{widened}
 
 pub all_true : (a b : Bool) → a ≡ true → b ≡ true → (a && b) ≡ true
 all_true true b h k = k
@@ -488,12 +486,12 @@ value_letter (types.Numeric p s) = refl
 value_letter (types.Char n) = refl
 value_letter (types.VarChar n) = refl
 
-source_goes : (e : TypingContext) (m : Resolved) (s : Shape) (t : SqlType) → IsSourceOf e Control m s → goes_to (shapes.kind_of s) (kind_of t) ≡ true → IsExpr e m.expr (letter_of t)
-source_goes e m (Value u) t h g = subst (IsExpr e m.expr) (letter_goes u.kind t h.sane.typed g) h.judged.0
-source_goes e m Untyped t h g = subst (λ x. IsExpr e x (letter_of t)) (sym h.1) (null-source e Control (letter_of t) (value_letter t)).0
+source_goes : (e : TypingContext) (m : Resolved) (s : Shape) (t : SqlType) → IsSourceOf e Control m s → goes_to (shapes.kind_of s) (kind_of t) ≡ true → IsExpr e true m.expr (letter_of t)
+source_goes e m (Value u) t h g = subst (IsExpr e true m.expr) (letter_goes u.kind t h.sane.typed g) (widened h.judged)
+source_goes e m Untyped t h g = subst (λ x. IsExpr e true x (letter_of t)) (sym h.1) (null-source e Control (letter_of t) (value_letter t))
 source_goes e m Condition t h g = absurd h
 
-arguments_go : (e : TypingContext) (fs : List Checked) (ms : List Resolved) (ts : List SqlType) → AllResults e Control fs ms → all_go (map (λ a. shapes.kind_of a.shape) ms) (map kind_of ts) ≡ true → AreExprs e (map expr_in ms) (letters_of ts)
+arguments_go : (e : TypingContext) (fs : List Checked) (ms : List Resolved) (ts : List SqlType) → AllResults e Control fs ms → all_go (map (λ a. shapes.kind_of a.shape) ms) (map kind_of ts) ≡ true → AreExprs e true (map expr_in ms) (letters_of ts)
 arguments_go e [] [] [] h g = typed_expr.none
 arguments_go e [] [] (t ∷ ts) h g = absurd cc
 arguments_go e [] (m ∷ ms) ts h g = absurd h
@@ -504,17 +502,6 @@ arguments_go e (f ∷ fs) (m ∷ ms) (t ∷ ts) h g =
     let r : IsResult e Control f m = h.0 in
     typed_expr.more (source_goes e m r.shape t r.source (subst (λ s. goes_to (shapes.kind_of s) (kind_of t) ≡ true) (source_shape e Control m r.shape r.source) parts.0))
     (arguments_go e fs ms ts h.1 parts.1)
-
-pub source_fit : (e : TypingContext) (m : Resolved) (s : Shape) → IsSourceOf e Control m s → Fit e true m.expr
-source_fit e m (Value t) h = widened_fit e m.expr h.judged.1
-source_fit e m Untyped h = subst (Fit e true) (sym h.1) (null_fit e)
-source_fit e m Condition h = absurd h
-
-arguments_fit : (e : TypingContext) (fs : List Checked) (ms : List Resolved) → AllResults e Control fs ms → AllFit e true (map expr_in ms)
-arguments_fit e [] [] h = none_fit e true
-arguments_fit e [] (m ∷ ms) h = absurd h
-arguments_fit e (f ∷ fs) [] h = absurd h
-arguments_fit e (f ∷ fs) (m ∷ ms) h = let r : IsResult e Control f m = h.0 in more_fit e true m.expr (map expr_in ms) (source_fit e m r.shape r.source) (arguments_fit e fs ms h.1)
 
 listed_at : {A : Type 0} (xs : List A) (i : ℕ) (x d : A) → slice_get xs i ≡ Some x → slice_index_or xs i d ≡ x
 listed_at [] i x d h = absurd cc
@@ -545,10 +532,8 @@ called_good e place standing callable name fs ms (Ok k) known rs is =
     let args : List ArgKind = map (λ a. shapes.kind_of a.shape) ms in
     let callee : IsCallee args callable.results (functions_of e) k = chosen_called name args callable.signatures callable.results (functions_of e) k known is in
     type_good e Control standing place (slice_index_or callable.results k None) callee.type (resolved.called (map expr_in ms) (Ok (k, slice_index_or callable.results k None)))
-    (listed_at callable.results k (Some callee.type) None callee.result) refl callee.bounded (
-      typed_expr.call k (map expr_in ms) callee.routine callee.type (exprs.outs-Call k (map expr_in ms)) callee.there callee.returned (arguments_go e fs ms (taken_by callee.routine.parameters) rs callee.goes),
-      λ c. well_formed_as (exprs.Call k (map expr_in ms)) (layers.Call k (map expr_in ms)) (exprs.outs-Call k (map expr_in ms)) refl refl (well_formed.call (arguments_fit e fs ms rs c)),
-    )
+    (listed_at callable.results k (Some callee.type) None callee.result) refl callee.bounded
+    (typed_expr.call k (map expr_in ms) callee.routine callee.type (exprs.outs-Call k (map expr_in ms)) callee.there callee.returned (arguments_go e fs ms (taken_by callee.routine.parameters) rs callee.goes))
 called_good e place standing callable name fs ms (Err NoRoutine) known rs is = record { clean = λ none. absurd cc; resolved = λ s is. absurd cc }
 called_good e place standing callable name fs ms (Err Ambiguous) known rs is = record { clean = λ none. absurd cc; resolved = λ s is. absurd cc }
 

@@ -1,5 +1,5 @@
 -- The laws, from what the induction gives.
-use Rattle.std.proofs.Common.{◌≡◌, List, [], ◌∷◌, map, Option, Some, None, refl, ap, sym, ◌∙◌, subst}
+use Rattle.std.proofs.Common.{◌≡◌, List, [], ◌∷◌, map, Option, Some, None, refl, ap, sym, ◌∙◌, subst, true}
 use Rattle.std.specs.Prelude.{IsTrue}
 use Rattle.psm_value.specs.declared.sqltype.SqlType.{SqlType}
 use Rattle.psm_exprcode.specs.declared.op.Letter.{Letter}
@@ -50,10 +50,8 @@ accepted e w standing f m part well none =
     (is ∙ ap (λ s. Some s) (sym same), λ k type_checks. resolved_source e w m (shown f.shape) resolved k (subst (λ s. TypeChecks s k) same type_checks))
 
 pub outside_of_rows : (e : TypingContext) (checker_scope : CheckerScope) (resolver_scope : ResolverScope) → Agree e checker_scope resolver_scope → resolver_scope.row ≡ None → (x : Expr) → IsTrue (as_source (stands x)) → (check_expr x checker_scope).fault ≡ None
-    → ((check_expr x checker_scope).shape ≡ Some (resolve_expr x resolver_scope).shape) × ((k : Letter) → TypeChecks (resolve_expr x resolver_scope).shape k → IsExpr e (resolve_expr x resolver_scope).expr k)
-outside_of_rows e checker_scope resolver_scope a r x well none =
-    let g = accepted e Control (stands x) (check_expr x checker_scope) (resolve_expr x resolver_scope) (expr_accepted x e checker_scope resolver_scope Control a (subst (Fits Control) (sym r) tt)) well none in
-    (g.0, λ k type_checks. (g.1 k type_checks).0)
+    → ((check_expr x checker_scope).shape ≡ Some (resolve_expr x resolver_scope).shape) × ((k : Letter) → TypeChecks (resolve_expr x resolver_scope).shape k → IsExpr e true (resolve_expr x resolver_scope).expr k)
+outside_of_rows e checker_scope resolver_scope a r x well none = accepted e Control (stands x) (check_expr x checker_scope) (resolve_expr x resolver_scope) (expr_accepted x e checker_scope resolver_scope Control a (subst (Fits Control) (sym r) tt)) well none
 
 pub on_rows : (e : TypingContext) (checker_scope : CheckerScope) (resolver_scope : ResolverScope) (row : RowTable (Option SqlType)) (types : List SqlType) → Agree e checker_scope resolver_scope → resolver_scope.row ≡ Some row → HaveTypes row.columns types → (x : Expr) → IsTrue (as_source (stands x)) → (check_expr x checker_scope).fault ≡ None
     → ((check_expr x checker_scope).shape ≡ Some (resolve_expr x resolver_scope).shape) × ((k : Letter) → TypeChecks (resolve_expr x resolver_scope).shape k → IsOfLetter (letters_of types) (variables_of e) (resolve_expr x resolver_scope).expr k)

@@ -29,7 +29,7 @@ BlockParts = ResolvedBlock-F ResolvedStatement ResolvedBlock ResolvedBranch Reso
 pub record AreParts (e : TypingContext) (known : Known) (letters : Letters) (s : places.StatementScope) (level : ℕ) (o : BlockParts) : Type 0 where
   pub bound : s.bound ≤ level
   pub declarations : Each (IsDeclaration e) o.declarations
-  pub declared : Each (WellFormedDeclaration known) o.declarations
+  pub declared : Each WellFormedDeclaration o.declarations
   pub cursors : Each (IsCursor e) o.cursors
   pub opened : Each (WellFormedCursor known letters) o.cursors
   pub apart : AreApart o.handlers

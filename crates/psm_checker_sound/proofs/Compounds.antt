@@ -61,7 +61,7 @@ module _ (e : TypingContext) (known : Known) (letters : Letters) (parts : PartsW
   pub record IsOpened : Type 0 where
     pub here : IsHere e known letters within (within_scopes c (declared_scopes label c.checker_scope xs cursors)) (at_scopes symbols end.0) end.1
     pub declarations : Each (IsDeclaration e) (declarations_of symbols (before label outer n) xs)
-    pub well_formed : Each (WellFormedDeclaration known) (declarations_of symbols (before label outer n) xs)
+    pub well_formed : Each WellFormedDeclaration (declarations_of symbols (before label outer n) xs)
     pub are_cursors : Each (IsCursor e) own
     pub well_formed_cursors : Each (WellFormedCursor known letters) own
     pub types : AreTypes n → AreTypes end.1

@@ -173,7 +173,7 @@ module _ (e : TypingContext) (known : Known) (letters : Letters) (s : places.Sta
           types = types;
         },
         (record { letters = item_letters known own.query; query = q.well_typed; shape = numbered.shape; items = q.may x.insensitive }, tt),
-        (record { query = q.well_formed; rows = q.rows; items = numbered.items }, tt),
+        (record { rows = q.rows; items = numbered.items }, tt),
       )
 
   abbrev Cursor_at : Numbering → CursorDeclaration → checker_scopes.Scopes → Numbered → Type 0

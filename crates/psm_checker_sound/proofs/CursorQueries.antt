@@ -1,5 +1,5 @@
 -- The query of a cursor that has no fault: it is well-formed, no set function stands in it, and its items are of the letters of their shapes.
-use Rattle.std.proofs.Common.{◌≡◌, ℕ, Bool, true, false, ◌&&◌, List, ◌∷◌, map, Option, Some, None, option_map, refl, ap, sym, ◌∙◌, subst}
+use Rattle.std.proofs.Common.{◌≡◌, ℕ, Bool, true, false, List, ◌∷◌, map, Option, Some, None, option_map, refl, ap, sym, ◌∙◌, subst}
 use Rattle.std.specs.Prelude.{IsTrue, slice_get}
 use Rattle.psm_token.specs.declared.place.Place.{Place}
 use Rattle.psm_exprcode.specs.declared.op.Letter.{Letter}
@@ -33,11 +33,11 @@ use Rattle.psm_exprgen.specs.declared.known.Known.{Known}
 use Rattle.psm_exprgen.specs.Queries as written
 use Rattle.psm_exprgen.specs.Queries.{item_letters, letters_of_layer}
 use Rattle.psm_exprgen.specs.Written.{letters_at}
-use Rattle.psm_typing.specs.Queries.{AreItems, IsQuery, IsRowTest}
+use Rattle.psm_typing.specs.Queries.{AreItems, IsQuery, IsRowTest, HasItems}
 use Rattle.psm_typing.specs.TypingContext.{Each, TypingContext, columns_of, variables_of}
 use Rattle.psm_typing.specs.Statements.{MayBe}
 use Rattle.psm_wellformed.specs.Queries as asked
-use Rattle.psm_wellformed.specs.Queries.{WellFormedQuery, are_well_formed, has_rows}
+use Rattle.psm_wellformed.specs.Queries.{has_rows}
 use Rattle.psm_wellformed.specs.Statements.{Letters}
 use Rattle.psm_checker_sound.specs.Agreement.{Agree, AllTypeCheck}
 use Rattle.psm_checker_sound.specs.Places.{IsTyped}
@@ -81,14 +81,9 @@ ordered_well_typed : (e : TypingContext) (downward : Bool) (q : ResolvedQuery) (
 ordered_well_typed e downward q ks h = let r = sym (opened downward q) in record {
   table = h.table;
   there = subst (λ o. slice_get e.file.tables o.table ≡ Some h.table) r h.there;
+  some = subst (λ o. HasItems (rows.items_of (out-ResolvedItems o.items))) r h.some;
   items = subst (λ o. AreItems (columns_of h.table) (variables_of e) (rows.items_of (out-ResolvedItems o.items)) ks) r h.items;
   test = subst (λ o. IsRowTest (columns_of h.table) (variables_of e) o.test) r h.test;
-}
-
-ordered_well_formed : (known : Known) (downward : Bool) (q : ResolvedQuery) → WellFormedQuery known q → WellFormedQuery known (ordered downward q)
-ordered_well_formed known downward q h = let r = sym (opened downward q) in record {
-  is = subst (λ o. (written.are_items (letters_at known.columns o.table) known.variables (out-ResolvedItems o.items) && written.is_test_perhaps (letters_at known.columns o.table) known.variables o.test) ≡ true) r h.is;
-  items = subst (λ o. are_well_formed (letters_at known.columns o.table) known.variables (out-ResolvedItems o.items) ≡ true) r h.items;
 }
 
 ordered_rows : (downward : Bool) (q : ResolvedQuery) → has_rows (asked.items_of q) ≡ true → has_rows (asked.items_of (ordered downward q)) ≡ true
@@ -103,7 +98,6 @@ may_by false (layers.Sets sets) h = absurd cc
 
 -- what is known of the query of a cursor at a place
 pub record IsCursorQuery (e : TypingContext) (known : Known) (checker_scope : CheckerScope) (resolver_scope : ResolverScope) (q : OrderedQuery) : Type 0 where
-  pub well_formed : WellFormedQuery known (ordered_query resolver_scope q)
   pub rows : has_rows (asked.items_of (ordered_query resolver_scope q)) ≡ true
   pub well_typed : IsQuery e (ordered_query resolver_scope q) (item_letters known (ordered_query resolver_scope q))
   pub may : (insensitive : Bool) → MayBe insensitive (query_of (ordered_query resolver_scope q)).items
@@ -126,7 +120,6 @@ cursor_query e known letters parts checker_scope resolver_scope a q well none se
     let type_check : AllTypeCheck (resolve_query q.query resolver_scope).shapes (item_letters known resolved) = parts.type_check checker_scope resolver_scope a q.query well none in
     let same : item_letters known resolved ≡ item_letters known (ordered downward resolved) = sym (ordered_letters known downward resolved) in
     let rows : has_rows (asked.items_of (ordered downward resolved)) ≡ true = ordered_rows downward resolved (parts.rows checker_scope resolver_scope a q.query well none (no_set (first_set (checked_query checker_scope q).picks) sets)) in record {
-      well_formed = ordered_well_formed known downward resolved (parts.queries checker_scope resolver_scope a q.query well none);
       rows = rows;
       well_typed = ordered_well_typed e downward resolved (item_letters known (ordered downward resolved)) (subst (IsQuery e resolved) same (g.3 (item_letters known resolved) type_check));
       may = λ insensitive. may_by insensitive (asked.items_of (ordered downward resolved)) rows;

@@ -137,7 +137,7 @@ module _ (e : TypingContext) (known : Known) (letters : Letters) (s : places.Sta
       (more.0, (there, subst (λ k. Each (λ slot. slice_get e.routine.slots slot ≡ Some t) (slots_from k ns)) (one_longer n.slots t) more.1))
 
   abbrev Declares : Numbering → checker_scopes.Scopes → Numbered → List ResolvedDeclaration → Type 0
-  Declares from fs so_far xs = After from fs so_far × Each (IsDeclaration e) xs × Each (WellFormedDeclaration known) xs
+  Declares from fs so_far xs = After from fs so_far × Each (IsDeclaration e) xs × Each WellFormedDeclaration xs
 
   abbrev resolver_scope_at : Resolved → ResolverScope
   resolver_scope_at resolved = at_scopes symbols (block_scopes label resolved outer)
@@ -151,8 +151,7 @@ module _ (e : TypingContext) (known : Known) (letters : Letters) (s : places.Sta
       let p = h.stands in
       let walked = variables_walk from t (bounded t refl) (first ∷ rest) d resolved n types h f in
       let value = default_well_typed e (block_context c label d).checker_scope (resolver_scope_at resolved) p.agree p.outside default well t none in
-      let well_formed = parts.defaults (block_context c label d).checker_scope (resolver_scope_at resolved) p.agree p.outside default well (Some t) none in
-      (walked.0, ((t, walked.1, value), tt), ((refl, well_formed), tt))
+      (walked.0, ((t, walked.1, value), tt), (refl, tt))
 
   -- ---- a condition
 
@@ -210,5 +209,5 @@ module _ (e : TypingContext) (known : Known) (letters : Letters) (s : places.Sta
       let more = declarations_walk parts from xs well.1 (faults.following fs x) (numbered_after so_far x) one.0 two.1 f in (
         more.0,
         each_append (IsDeclaration e) (declaration_of symbols so_far x) (declarations_of symbols (numbered_after so_far x) xs) one.1 more.1,
-        each_append (WellFormedDeclaration known) (declaration_of symbols so_far x) (declarations_of symbols (numbered_after so_far x) xs) one.2 more.2,
+        each_append WellFormedDeclaration (declaration_of symbols so_far x) (declarations_of symbols (numbered_after so_far x) xs) one.2 more.2,
       )

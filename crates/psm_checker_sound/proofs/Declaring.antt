@@ -89,6 +89,7 @@ variable_declared e known letters s c symbols outer label d resolved n m g name 
           functions = a.functions;
           scopes = block_kinds label d d2 resolved made2 c.checker_scope.scopes outer a.scopes (λ k. kinds_once d.variables resolved.variables name x y k same);
           row = a.row;
+          columns = a.columns;
           known_tables = a.known_tables;
           known_functions = a.known_functions;
           slots = (each_once (λ q. HasSlot e.routine.slots q.1) resolved.variables name y a.slots.0 slot, a.slots.1);
@@ -146,7 +147,7 @@ condition_declared e known letters s c symbols outer label d resolved n m g name
     (λ is. looked_in (λ v. AreDistinct (Some y) v j k) resolved.conditions name y (out k) k
     (apart_left (length n.conditions) (length m.conditions) (or_else (named k resolved.conditions) (out k)) y j k (h.below.conditions k) fresh) (λ also p q r. same_names j k name is also)) in record {
       stands = record {
-        agree = record { tables = a.tables; functions = a.functions; scopes = a.scopes; row = a.row; known_tables = a.known_tables; known_functions = a.known_functions; slots = a.slots };
+        agree = record { tables = a.tables; functions = a.functions; scopes = a.scopes; row = a.row; columns = a.columns; known_tables = a.known_tables; known_functions = a.known_functions; slots = a.slots };
         meant = record {
           conditions = λ k. looked (λ u v. IsConditionMeant e u v) d.conditions resolved.conditions name x y (lookup.condition k c.checker_scope.scopes) (out k) h.conditions k (p.meant.conditions k) (λ is. number);
           cursors = p.meant.cursors;
@@ -188,7 +189,7 @@ cursor_declared e known letters s c symbols outer label d resolved n m g name x 
     let moved : (o : Option Cursor) (k : Option ℕ) → IsCursorKnown e known letters s (at_scopes symbols (block_scopes label resolved outer)) o k → IsCursorKnown e known letters s new o k = λ o k.
     known_moved e known letters s s (at_scopes symbols (block_scopes label resolved outer)) (block_scopes label made2 outer) o k (λ i is. refl) in record {
       stands = record {
-        agree = record { tables = a.tables; functions = a.functions; scopes = a.scopes; row = a.row; known_tables = a.known_tables; known_functions = a.known_functions; slots = a.slots };
+        agree = record { tables = a.tables; functions = a.functions; scopes = a.scopes; row = a.row; columns = a.columns; known_tables = a.known_tables; known_functions = a.known_functions; slots = a.slots };
         meant = record {
           conditions = p.meant.conditions;
           cursors = λ k. looked (λ u v. IsCursorMeant e s u (or_zero v)) d.cursors resolved.cursors name x number (lookup.cursor k c.checker_scope.scopes) (lookup.cursor k outer) h.cursors k (p.meant.cursors k) (λ is. meant);

@@ -65,6 +65,7 @@ enter_block e known letters s c symbols outer n h label cursors above =
           functions = a.functions;
           scopes = ap (λ fs. scope.Compound label undeclared ∷ fs) a.scopes;
           row = a.row;
+          columns = a.columns;
           known_tables = a.known_tables;
           known_functions = a.known_functions;
           slots = (tt, a.slots);

@@ -154,6 +154,7 @@ module _ (e : TypingContext) (known : Known) (letters : Letters) (s : places.Sta
           functions = a.functions;
           scopes = ap (λ ks. kinds_of_for ks ∷ map kinds_in c.checker_scope.scopes) (q.kinds ∙ sym same) ∙ ap (λ fs. kinds_of_for (kinds variables) ∷ fs) a.scopes;
           row = a.row;
+          columns = a.columns;
           known_tables = a.known_tables;
           known_functions = a.known_functions;
           slots = (have, a.slots);
@@ -225,4 +226,4 @@ module _ (e : TypingContext) (known : Known) (letters : Letters) (s : places.Sta
   cursor_is = record { letters = item_letters known own.query; query = q.query.well_typed; shape = numbered.shape; items = q.query.may own.insensitive }
 
   pub cursor_well_formed : WellFormedCursor known letters own
-  cursor_well_formed = record { query = q.query.well_formed; rows = q.query.rows; items = numbered.items }
+  cursor_well_formed = record { rows = q.query.rows; items = numbered.items }

@@ -1,5 +1,5 @@
 -- Where there is no first fault, there is none of each.
-use Rattle.std.proofs.Common.{◌≡◌, Bool, true, false, List, [], ◌∷◌, map, Option, None, refl, sym, ◌∙◌}
+use Rattle.std.proofs.Common.{◌≡◌, Bool, true, false, List, [], ◌∷◌, map, Option, None, refl, sym, ◌∙◌, Some, slice_get, subst, suc, zero}
 use Rattle.psm_token.specs.declared.place.Place.{Place}
 use Rattle.psm_rules.specs.declared.fault.Fault.{Fault}
 use Rattle.psm_rules.specs.declared.rule.Rule.{Rule}
@@ -20,6 +20,14 @@ unbroken true rule place none = absurd cc
 unbroken false rule place none = refl
 
 -- ---- each of some
+
+pub each_at : {A : Type 0} (P : A → Type 0) (xs : List A) (i : ℕ) (x : A) → Each P xs → slice_get xs i ≡ Some x → P x
+each_at P [] i x h is = absurd cc
+each_at P (y ∷ xs) zero x h is = subst P (some_inside is) h.0
+  where
+    some_inside : Some y ≡ Some x → y ≡ x
+    some_inside h = cc
+each_at P (y ∷ xs) (suc i) x h is = each_at P xs i x h.1 is
 
 pub each-mapped : {A B : Type 0} (P : B → Type 0) (f : A → B) (xs : List A) → Each (λ x. P (f x)) xs → Each P (map f xs)
 each-mapped P f [] h = tt

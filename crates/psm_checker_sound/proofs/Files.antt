@@ -10,9 +10,7 @@ use Rattle.psm_rules.specs.StatementFaults.{repeated}
 use Rattle.psm_tree.specs.declared.file.FileTree.{FileTree}
 use Rattle.psm_tree.specs.declared.file.Routine.{Routine}
 use Rattle.psm_tree.specs.declared.file.TableTree.{TableTree}
-use Rattle.psm_code.specs.Rules.{is_some}
 use Rattle.psm_resolved.specs.declared.file.ResolvedRoutine.{ResolvedRoutine}
-use Rattle.psm_resolved.specs.declared.file.ResolvedTable.{ResolvedTable}
 use Rattle.psm_resolved.specs.declared.statement.ResolvedCursor.{ResolvedCursor}
 use Rattle.psm_resolve.specs.Blocks.{resolve_statement}
 use Rattle.psm_resolve.specs.Files.{resolved_file, resolve_parameter, resolve_routine, routine_numbered, resolve_table}
@@ -31,14 +29,13 @@ use Rattle.psm_checker_sound.proofs.Apart.{routines-so_far}
 use Rattle.psm_checker_sound.proofs.Blocks.{IsDone, statement-well_formed}
 use Rattle.psm_checker_sound.proofs.Bodies.{FileParts, body-below, body-stands, body_resolver_scope, typing_context_in}
 use Rattle.psm_checker_sound.proofs.Cursors.{as-many, cursors-count, cursors-numbered, each-numbered}
-use Rattle.psm_checker_sound.proofs.Faultless.{each-as, each-both, each-mapped, none-each, none-first}
+use Rattle.psm_checker_sound.proofs.Faultless.{each-both, each-mapped, none-each, none-first}
 use Rattle.psm_checker_sound.proofs.ForeignKeys.{keys-in_turn, keys-well_formed}
 use Rattle.psm_checker_sound.proofs.Growing.{Grows, begins-here, statement-grows}
 use Rattle.psm_checker_sound.proofs.Heads.{head-modes, head-names, head-result, parameter-slots, slots-begin, slots-typed, type_in_slot}
 use Rattle.psm_checker_sound.proofs.NewNames.{AreNew, names-new, new-names}
-use Rattle.psm_checker_sound.proofs.WellFormedParts.{HaveColumns}
 use Rattle.psm_checker_sound.proofs.Routines.{AreDistinct, IsAccepted, routines-accepted, routines-apart}
-use Rattle.psm_checker_sound.proofs.Tables.{table-columns, table-well_formed}
+use Rattle.psm_checker_sound.proofs.Tables.{table-well_formed}
 
 -- ---- a file without a fault
 
@@ -60,13 +57,6 @@ file-accepted f none =
       parts = record { names = one.0; tables = none-each table_fault f.tables two.0; references = three.0; routines = routines-accepted (symbols_of f) [] f.«module».routines four.0 };
       apart = routines-apart (symbols_of f) [] f.«module».routines four.0;
     }
-
-abbrev HasColumn : ResolvedTable → Type 0
-HasColumn t = is_some t.definition.columns ≡ true
-
--- each table has a column
-pub have-columns : (f : FileTree) → FileParts f → (r : Routine) (shapes : List Shape) → HaveColumns (typing_context_in f r shapes)
-have-columns f p r shapes = each-mapped HasColumn resolve_table f.tables (each-as (λ t. table_fault t ≡ None) (λ t. HasColumn (resolve_table t)) table-columns f.tables p.tables)
 
 -- ---- shapes and letters of a routine's cursors, by their numbers
 
@@ -118,7 +108,7 @@ routine-well_formed : (f : FileTree) → FileParts f → (r : Routine) → IsAcc
 routine-well_formed f p r a well =
     let e : TypingContext = typing_context_resolved f r in
     let slots : BeginsWith (map type_in_slot r.parameters) (resolve_body f r).slots = slots-resolved f r well in
-    let done : IsDone e (known_in f r) (resolve_letters f r) body (routine_numbered r).1 (resolve_statement r.body (body_resolver_scope f r) (routine_numbered r).1) = statement-well_formed e (known_in f r) (resolve_letters f r) (have-columns f p r (resolve_shapes f r)) body (body_context (symbols_of f) r) (body_resolver_scope f r) (routine_numbered r).1 r.body
+    let done : IsDone e (known_in f r) (resolve_letters f r) body (routine_numbered r).1 (resolve_statement r.body (body_resolver_scope f r) (routine_numbered r).1) = statement-well_formed e (known_in f r) (resolve_letters f r) body (body_context (symbols_of f) r) (body_resolver_scope f r) (routine_numbered r).1 r.body
     well a.body (body-stands f p r a (resolve_shapes f r) (resolve_letters f r) slots) (body-below r (routine_numbered r).1)
     (record { slots = begins-here _; conditions = begins-here _ }) (are-numbered f r) in
     record {

@@ -117,6 +117,7 @@ rows_agree e q checker_scope resolver_scope a = record {
   functions = a.functions;
   scopes = a.scopes;
   row = ap (λ cs. let r : RowTable (Option SqlType) = record { name = (out-Select q).table.name; alias = spelling (out-Select q).alias; columns = cs } in Some r) (columns_agree e checker_scope resolver_scope a (out-Select q).table.name);
+  columns = a.columns;
   known_tables = a.known_tables;
   known_functions = a.known_functions;
   slots = a.slots;

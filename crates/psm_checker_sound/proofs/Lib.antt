@@ -1,7 +1,5 @@
 pub mod Names
 pub mod Choosing
-pub mod WellFormedParts
-pub mod WellFormedItems
 pub mod Judging
 pub mod Parts
 pub mod Results
@@ -41,7 +39,7 @@ pub mod HandledValues
 pub mod Composing
 pub mod MayHandle
 pub mod ForItems
-pub mod WellFormedForms
+pub mod Tests
 pub mod WellFormedQueries
 pub mod WellFormedSlots
 pub mod WellFormedColumns

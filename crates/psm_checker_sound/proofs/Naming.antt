@@ -50,6 +50,7 @@ use Rattle.psm_checker_sound.proofs.Forms.{argument_judged}
 use Rattle.psm_checker_sound.proofs.Accepted.{Fits}
 use Rattle.psm_checker_sound.proofs.Simples.{mapped_many, same_count, target_slot, targets_slots, there_is}
 use Rattle.psm_checker_sound.proofs.Whole.{expr_accepted, three_none}
+use Rattle.psm_typing.proofs.Inversion.{widened}
 
 -- ---- LEAVE and ITERATE
 
@@ -91,7 +92,7 @@ message_judged e checker_scope resolver_scope a r x well none =
 
 message_well_typed : (e : TypingContext) (checker_scope : CheckerScope) (resolver_scope : ResolverScope) → Agree e checker_scope resolver_scope → resolver_scope.row ≡ None → (x : Option Expr) → IsTrue (may_be as_operand (option_map stands x)) → message_fault checker_scope x ≡ None → IsMessage e (option_map (expr_at resolver_scope) x)
 message_well_typed e checker_scope resolver_scope a r None well none = tt
-message_well_typed e checker_scope resolver_scope a r (Some x) well none = (message_judged e checker_scope resolver_scope a r x well none).0
+message_well_typed e checker_scope resolver_scope a r (Some x) well none = widened (message_judged e checker_scope resolver_scope a r x well none)
 
 pub signal_well_typed : (e : TypingContext) (s : places.StatementScope) (checker_scope : CheckerScope) (resolver_scope : ResolverScope) → Agree e checker_scope resolver_scope → Meant e s checker_scope resolver_scope → resolver_scope.row ≡ None → (x : Signalled) → IsTrue (may_be as_operand (option_map stands x.message)) → signalled_fault checker_scope x ≡ None
     → IsSignal e (signal_of resolver_scope x)

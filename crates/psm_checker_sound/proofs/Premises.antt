@@ -1,8 +1,7 @@
--- What is proved of the parts of statements, at any place in a routine of a file whose tables have columns.
-use Rattle.std.specs.Prelude.{◌≡◌, true, IsTrue, Option, None, option_map}
-use Rattle.psm_value.specs.declared.sqltype.SqlType.{SqlType}
+-- What is proved of the parts of statements, at any place in a routine.
+use Rattle.std.specs.Prelude.{◌≡◌, true, IsTrue, None, false}
 use Rattle.psm_exprcode.specs.declared.op.Letter.TheVariants.{B}
-use Rattle.psm_rules.specs.BlockFaults.{default_fault, test_part}
+use Rattle.psm_rules.specs.BlockFaults.{test_part}
 use Rattle.psm_rules.specs.ExprFaults.{check_expr, first_set, query_fault, check_query}
 use Rattle.psm_rules.specs.Checked.{as_value}
 use Rattle.psm_rules.specs.StatementFaults.{Context, simple_fault}
@@ -19,37 +18,32 @@ use Rattle.psm_exprgen.specs.Queries.{item_letters}
 use Rattle.psm_codegen.specs.Files.{known_of}
 use Rattle.psm_typing.specs.TypingContext.{Each, TypingContext}
 use Rattle.psm_typing.specs.Statements as places
-use Rattle.psm_wellformed.specs.Expressions.{PerhapsWellFormed}
-use Rattle.psm_wellformed.specs.Queries.{WellFormedQuery, has_rows, items_of}
+use Rattle.psm_typing.specs.Expressions.{IsExpr}
+use Rattle.psm_wellformed.specs.Queries.{has_rows, items_of}
 use Rattle.psm_wellformed.specs.Simples.{WellFormedSimple}
-use Rattle.psm_wellformed.specs.Statements.{IsTest, Letters}
+use Rattle.psm_wellformed.specs.Statements.{Letters}
 use Rattle.psm_checker_sound.specs.Agreement.{Agree, AllTypeCheck}
 use Rattle.psm_checker_sound.specs.Places.{IsTyped, StandsAt}
 use Rattle.psm_checker_sound.specs.Simples.{SimpleStands}
 use Rattle.psm_checker_sound.specs.Stands.{select_stands}
-use Rattle.psm_checker_sound.specs.StatementsStand.{DefaultStands, Tested}
-use Rattle.psm_checker_sound.proofs.WellFormedForms.{IsCompared, well_formed-compared, well_formed-defaults, well_formed-tests}
-use Rattle.psm_checker_sound.proofs.WellFormedParts.{HaveColumns}
-use Rattle.psm_checker_sound.proofs.WellFormedQueries.{well_formed-letters, well_formed-queries, well_formed-rows, well_formed-typed}
+use Rattle.psm_checker_sound.specs.StatementsStand.{Tested}
+use Rattle.psm_checker_sound.proofs.Tests.{IsCompared, compared_typed, tests_typed}
+use Rattle.psm_checker_sound.proofs.WellFormedQueries.{well_formed-letters, well_formed-rows, well_formed-typed}
 use Rattle.psm_checker_sound.proofs.WellFormedSimples.{well_formed-simples}
 
 pub record PartsWellFormed (e : TypingContext) (known : Known) (letters : Letters) : Type 0 where
   pub simples : (s : places.StatementScope) (c : Context) (resolver_scope : ResolverScope) → StandsAt e known letters s c resolver_scope → (x : Simple) → SimpleStands x → simple_fault c x ≡ None → WellFormedSimple e known letters s (simple_of resolver_scope x)
-  pub tests : (checker_scope : CheckerScope) (resolver_scope : ResolverScope) → Agree e checker_scope resolver_scope → resolver_scope.row ≡ None → (x : Expr) → Tested x → test_part checker_scope x ≡ None → IsTest e known (expr_at resolver_scope x) B
-  pub defaults : (checker_scope : CheckerScope) (resolver_scope : ResolverScope) → Agree e checker_scope resolver_scope → resolver_scope.row ≡ None → (x : Option Expr) → DefaultStands x → (o : Option SqlType) → default_fault checker_scope o x ≡ None → PerhapsWellFormed known true (option_map (expr_at resolver_scope) x)
-  pub compared : (checker_scope : CheckerScope) (resolver_scope : ResolverScope) → Agree e checker_scope resolver_scope → resolver_scope.row ≡ None → (x : Expr) → Tested x → (as_value (check_expr x checker_scope)).fault ≡ None → IsCompared e known checker_scope resolver_scope x
-  pub queries : (checker_scope : CheckerScope) (resolver_scope : ResolverScope) → Agree e checker_scope resolver_scope → (q : Select) → IsTrue (select_stands q) → query_fault (check_query q checker_scope) ≡ None → WellFormedQuery known (resolve_query q resolver_scope).query
+  pub tests : (checker_scope : CheckerScope) (resolver_scope : ResolverScope) → Agree e checker_scope resolver_scope → resolver_scope.row ≡ None → (x : Expr) → Tested x → test_part checker_scope x ≡ None → IsExpr e false (expr_at resolver_scope x) B
+  pub compared : (checker_scope : CheckerScope) (resolver_scope : ResolverScope) → Agree e checker_scope resolver_scope → resolver_scope.row ≡ None → (x : Expr) → Tested x → (as_value (check_expr x checker_scope)).fault ≡ None → IsCompared e checker_scope resolver_scope x
   pub type_check : (checker_scope : CheckerScope) (resolver_scope : ResolverScope) → Agree e checker_scope resolver_scope → (q : Select) → IsTrue (select_stands q) → query_fault (check_query q checker_scope) ≡ None → AllTypeCheck (resolve_query q resolver_scope).shapes (item_letters known (resolve_query q resolver_scope).query)
   pub typed : (checker_scope : CheckerScope) (resolver_scope : ResolverScope) → Agree e checker_scope resolver_scope → (q : Select) → IsTrue (select_stands q) → query_fault (check_query q checker_scope) ≡ None → Each IsTyped (resolve_query q resolver_scope).shapes
   pub rows : (checker_scope : CheckerScope) (resolver_scope : ResolverScope) → Agree e checker_scope resolver_scope → (q : Select) → IsTrue (select_stands q) → query_fault (check_query q checker_scope) ≡ None → first_set (check_query q checker_scope).picks ≡ None → has_rows (items_of (resolve_query q resolver_scope).query) ≡ true
 
-pub parts_well_formed : (e : TypingContext) (known : Known) (letters : Letters) → HaveColumns e → known ≡ known_of e.file e.routine → PartsWellFormed e known letters
-parts_well_formed e known letters h is = record {
-  simples = well_formed-simples e known h letters;
-  tests = well_formed-tests e known h is;
-  defaults = well_formed-defaults e known h is;
-  compared = well_formed-compared e known h is;
-  queries = well_formed-queries e known h is;
+pub parts_well_formed : (e : TypingContext) (known : Known) (letters : Letters) → known ≡ known_of e.file e.routine → PartsWellFormed e known letters
+parts_well_formed e known letters is = record {
+  simples = well_formed-simples e known letters;
+  tests = tests_typed e;
+  compared = compared_typed e;
   type_check = well_formed-letters e known is;
   typed = well_formed-typed e;
   rows = well_formed-rows e;

@@ -47,23 +47,18 @@ use Rattle.psm_resolve_expr.specs.Exprs as making
 use Rattle.psm_resolve_expr.specs.Exprs.{columns_from, expr_in, optional_in, query_of, set_item, set_of, shape_of_set, shapes_of}
 use Rattle.psm_meaning.specs.Rows as rows
 use Rattle.psm_typing.specs.Expressions as typed_expr
-use Rattle.psm_typing.specs.Queries.{AreItems, AreRowValues, AreSets, IsOperand as IsSetOperand, IsQuery, IsRowTest, IsRowValue, IsSet, letter_of_set}
-use Rattle.psm_typing.specs.TypingContext.{TypingContext, columns_of, letters_of, variables_of}
-use Rattle.psm_checker_sound.specs.Agreement.{AreTables, HaveTypes, letter_in}
+use Rattle.psm_typing.specs.Queries.{AreItems, AreRowValues, AreSets, HasItems, IsOperand as IsSetOperand, IsQuery, IsRowTest, IsRowValue, IsSet, letter_of_set, takes_letter}
+use Rattle.psm_typing.specs.TypingContext.{HasSome, TypingContext, columns_of, letters_of, variables_of}
+use Rattle.psm_checker_sound.specs.Agreement.{AreTables, HaveTypes, letter_in, HaveColumns}
 use Rattle.psm_checker_sound.specs.Stands.{Standing, as_operand}
-use Rattle.psm_code.specs.PlanRules.{is_due}
 use Rattle.psm_code.specs.Rules.{is_some as some}
-use Rattle.psm_exprgen.specs.Queries.{Layer, item_letters}
 use Rattle.psm_exprcode.specs.Kinds.{is_letter}
-use Rattle.psm_wellformed.specs.Expressions as well_formed
-use Rattle.psm_wellformed.specs.Queries.{WellFormedQuery, are_well_formed, has_rows}
+use Rattle.psm_wellformed.specs.Queries.{has_rows}
 use Rattle.psm_wellformed.specs.Queries.{items_of as items_at}
-use Rattle.psm_resolved.specs.declared.expr.ResolvedExpr.TheOpen as layers
-use Rattle.psm_checker_sound.proofs.WellFormedParts.{HaveColumns, known_in, well_formed_as}
-use Rattle.psm_checker_sound.proofs.WellFormedItems.{AreKnown, AreSetsOf, AreValuesOf, IsSetOf, IsValueOf, count_is, each_at, letter_from, query_is, query_letters, query_well_formed, rows_known, set_is_of, sets_known, sets_well_formed, table_in}
-use Rattle.psm_checker_sound.proofs.Judging.{Control, OnRow, column-judged, goes_as_row_type, row_type_at}
+use Rattle.psm_checker_sound.proofs.Judging.{Control, OnRow, column-judged, row_type_at}
 use Rattle.psm_checker_sound.proofs.Parts.{Clean, IsOperand, IsSane, IsValue, Part, as_value-clean, combined-clean, combined-parts, neither, of_family-clean, operand, operand_source, valued}
 use Rattle.psm_checker_sound.proofs.Forms.{argued, resolved_condition, resolved_value, without_none, shape_some, typed_value}
+use Rattle.psm_checker_sound.proofs.Faultless.{each_at}
 
 -- ---- tables by their places
 
@@ -180,7 +175,6 @@ pub record IsSetItem (e : TypingContext) (types : List SqlType) (i : Item) (item
   pub resolved : shape ≡ Value type
   pub sane : IsSane type
   pub set : IsSet (letters_of types) (variables_of e) (rows.set_of item) (letter_in (family_of type.kind))
-  pub known : IsSetOf (letters_of types) (variables_of e) item (letter_in (family_of type.kind))
 
 abbrev pub AreSetItems : TypingContext → List SqlType → List Item → List (ResolvedItem × Shape) → Type 0
 AreSetItems e types [] [] = Unit {0}
@@ -243,11 +237,11 @@ plain_good e types cs alias a f m p well none =
     (refl, (o.type, ap (λ g. g.shape) o.checked, o.value, tt))
 
 rows_counted : (types : List SqlType) (e : TypingContext) → IsSet (letters_of types) (variables_of e) (rows.set_of (set_item coded.Count None)) N
-rows_counted types e = let r = sym (out-roll-ResolvedItem (record { function = coded.Count; operand = None })) in (N, subst (λ i. IsSetOperand (letters_of types) (variables_of e) i.operand N) r refl, subst (λ i. letter_of_set (set_function i.function) N ≡ N) r refl)
+rows_counted types e = let r = sym (out-roll-ResolvedItem (record { function = coded.Count; operand = None })) in (N, subst (λ i. IsSetOperand (letters_of types) (variables_of e) (set_function i.function) i.operand N) r (refl, refl), subst (λ i. letter_of_set (set_function i.function) N ≡ N) r refl)
 
 pub count_good : (e : TypingContext) (types : List SqlType) (cs : Columns) (place : Place) (alias : Option Spelling)
     → PickGood e types cs (record { form = Set; checked = well_typed place (Value integer); alias = alias }) (OfAll (set_item coded.Count None) (Value integer))
-count_good e types cs place alias none = (refl, (record { type = integer; checked = refl; resolved = refl; sane = record { typed = refl; small = omega arith }; set = rows_counted types e; known = count_is (letters_of types) (variables_of e) }, tt))
+count_good e types cs place alias none = (refl, (record { type = integer; checked = refl; resolved = refl; sane = record { typed = refl; small = omega arith }; set = rows_counted types e }, tt))
 
 set_sane : (function : SetFunction) (t : Typed) → IsSane t → IsSane (set_result function t)
 set_sane sets.Count t h = record { typed = refl; small = omega arith }
@@ -268,36 +262,21 @@ value_letter Numbers = refl
 value_letter Texts = refl
 
 row_value_of : (e : TypingContext) (types : List SqlType) (m : Resolved) (t : Typed) → IsValue e (OnRow types) m t → IsRowValue (letters_of types) (variables_of e) m.expr (letter_in (family_of t.kind))
-row_value_of e types m t v = record { value = value_letter (family_of t.kind); letter = goes_as_row_type (letter_in (family_of t.kind)) (row_type_at e types m.expr) v.judged }
+row_value_of e types m t v = record { value = value_letter (family_of t.kind); letter = is_of_row_type (letter_in (family_of t.kind)) (row_type_at e types m.expr) v.judged }
 
-set_is : (e : TypingContext) (types : List SqlType) (function : SetFunction) (m : Resolved) (t : Typed) → IsValue e (OnRow types) m t
+set_is : (e : TypingContext) (types : List SqlType) (function : SetFunction) (m : Resolved) (t : Typed) → IsValue e (OnRow types) m t → takes_letter (set_function (set_of function)) (letter_in (family_of t.kind)) ≡ true
     → IsSet (letters_of types) (variables_of e) (rows.set_of (set_item (set_of function) (Some m.expr))) (letter_in (family_of (set_result function t).kind))
-set_is e types function m t v = let r = sym (out-roll-ResolvedItem (record { function = set_of function; operand = Some m.expr })) in (
+set_is e types function m t v due = let r = sym (out-roll-ResolvedItem (record { function = set_of function; operand = Some m.expr })) in (
   letter_in (family_of t.kind),
-  subst (λ i. IsSetOperand (letters_of types) (variables_of e) i.operand (letter_in (family_of t.kind))) r (row_value_of e types m t v),
+  subst (λ i. IsSetOperand (letters_of types) (variables_of e) (set_function i.function) i.operand (letter_in (family_of t.kind))) r (row_value_of e types m t v, due),
   subst (λ i. letter_of_set (set_function i.function) (letter_in (family_of t.kind)) ≡ letter_in (family_of (set_result function t).kind)) r (set_letter function t),
 )
-
-from_letter : (function : SetFunction) (t : Typed) → letter_from (set_of function) (letter_in (family_of t.kind)) ≡ letter_in (family_of (set_result function t).kind)
-from_letter sets.Count t = refl
-from_letter sets.Sum t = refl
-from_letter sets.Avg t = refl
-from_letter sets.Min t = refl
-from_letter sets.Max t = refl
-
-value_of : (e : TypingContext) (types : List SqlType) (m : Resolved) (t : Typed) → IsValue e (OnRow types) m t → IsValueOf (letters_of types) (variables_of e) m.expr (letter_in (family_of t.kind))
-value_of e types m t v = record { letter = v.judged; value = value_letter (family_of t.kind) }
-
-set_known : (e : TypingContext) (types : List SqlType) (function : SetFunction) (m : Resolved) (t : Typed) → IsValue e (OnRow types) m t → is_due (set_of function) (letter_in (family_of t.kind)) ≡ true
-    → IsSetOf (letters_of types) (variables_of e) (set_item (set_of function) (Some m.expr)) (letter_in (family_of (set_result function t).kind))
-set_known e types function m t v due = subst (IsSetOf (letters_of types) (variables_of e) (set_item (set_of function) (Some m.expr))) (from_letter function t)
-    (set_is_of (letters_of types) (variables_of e) (set_of function) m.expr (letter_in (family_of t.kind)) (value_of e types m t v) due)
 
 -- the argument of a set function as it is found
 record IsSetArgument (e : TypingContext) (types : List SqlType) (function : SetFunction) (f : Checked) (m : Resolved) : Type 0 where
   operand : IsOperand e (OnRow types) f m
   is : shape_of (set_argument function f) ≡ Value operand.type
-  due : is_due (set_of function) (letter_in (family_of operand.type.kind)) ≡ true
+  due : takes_letter (set_function (set_of function)) (letter_in (family_of operand.type.kind)) ≡ true
 
 any_argument : (e : TypingContext) (types : List SqlType) (a : Standing) (f : Checked) (m : Resolved) → Part e (OnRow types) a f m → as_operand a ≡ true → is_shaped (as_value f) ≡ true → (o : IsOperand e (OnRow types) f m) × (shape_of (as_value f) ≡ Value o.type)
 any_argument e types a f m p well shaped = let o = operand e (OnRow types) a f m p well shaped in (o, ap shape_of o.checked)
@@ -307,11 +286,11 @@ number_argument : (e : TypingContext) (types : List SqlType) (a : Standing) (f :
 number_argument e types a f m p well shaped = let g = argued e (OnRow types) Numbers a f m p well shaped in (g.operand, ap shape_of g.is, ap (λ family. is_letter N (letter_in family)) g.of)
 
 set_argued : (e : TypingContext) (types : List SqlType) (function : SetFunction) (a : Standing) (f : Checked) (m : Resolved) → Part e (OnRow types) a f m → as_operand a ≡ true → is_shaped (set_argument function f) ≡ true → IsSetArgument e types function f m
-set_argued e types sets.Count a f m p well shaped = let o = any_argument e types a f m p well shaped in record { operand = o.0; is = o.1; due = value_letter (family_of o.0.type.kind) }
+set_argued e types sets.Count a f m p well shaped = let o = any_argument e types a f m p well shaped in record { operand = o.0; is = o.1; due = refl }
 set_argued e types sets.Sum a f m p well shaped = let o = number_argument e types a f m p well shaped in record { operand = o.0; is = o.1; due = o.2 }
 set_argued e types sets.Avg a f m p well shaped = let o = number_argument e types a f m p well shaped in record { operand = o.0; is = o.1; due = o.2 }
-set_argued e types sets.Min a f m p well shaped = let o = any_argument e types a f m p well shaped in record { operand = o.0; is = o.1; due = value_letter (family_of o.0.type.kind) }
-set_argued e types sets.Max a f m p well shaped = let o = any_argument e types a f m p well shaped in record { operand = o.0; is = o.1; due = value_letter (family_of o.0.type.kind) }
+set_argued e types sets.Min a f m p well shaped = let o = any_argument e types a f m p well shaped in record { operand = o.0; is = o.1; due = refl }
+set_argued e types sets.Max a f m p well shaped = let o = any_argument e types a f m p well shaped in record { operand = o.0; is = o.1; due = refl }
 
 set_argument_clean : (e : TypingContext) (types : List SqlType) (function : SetFunction) (a : Standing) (f : Checked) (m : Resolved) → Part e (OnRow types) a f m → as_operand a ≡ true → Clean (set_argument function f)
 set_argument_clean e types sets.Count a f m p well = as_value-clean f (p (operand_source a well)).clean
@@ -345,8 +324,7 @@ aggregate_good e types cs place function alias a f m p well none =
           checked = ap (λ o. (with_shape value_shape checked o).shape) is;
           resolved = ap (shape_of_set function) g.operand.value.shape;
           sane = set_sane function t g.operand.value.sane;
-          set = set_is e types function m t g.operand.value;
-          known = set_known e types function m t g.operand.value g.due;
+          set = set_is e types function m t g.operand.value g.due;
         },
         tt,
       ),
@@ -396,19 +374,12 @@ values_are e types (i ∷ is) (m ∷ ms) h =
       (subst (IsRowValue (letters_of types) (variables_of e) m.expr) (sym due) (row_value_of e types m h.0 h.2), more.1),
     )
 
-values_known : (e : TypingContext) (types : List SqlType) (is : List Item) (ms : List Resolved) → AreValues e types is ms → AreValuesOf (letters_of types) (variables_of e) (map expr_in ms) (map letter_due (shapes_in ms))
-values_known e types [] [] h = tt
-values_known e types [] (m ∷ ms) h = absurd h
-values_known e types (i ∷ is) [] h = absurd h
-values_known e types (i ∷ is) (m ∷ ms) h =
-    (subst (IsValueOf (letters_of types) (variables_of e) m.expr) (sym (ap letter_due h.2.shape)) (value_of e types m h.0 h.2), values_known e types is ms h.3)
-
 -- some items are made of some
-values_some : (e : TypingContext) (types : List SqlType) (is : List Item) (ms : List Resolved) → AreValues e types is ms → some is ≡ true → some (map expr_in ms) ≡ true
-values_some e types [] [] h k = k
+values_some : (e : TypingContext) (types : List SqlType) (is : List Item) (ms : List Resolved) → AreValues e types is ms → some is ≡ true → HasSome (map expr_in ms)
+values_some e types [] [] h k = absurd cc
 values_some e types [] (m ∷ ms) h k = absurd h
 values_some e types (i ∷ is) [] h k = absurd h
-values_some e types (i ∷ is) (m ∷ ms) h k = refl
+values_some e types (i ∷ is) (m ∷ ms) h k = tt
 
 abbrev set_shapes : List (ResolvedItem × Shape) → List Shape
 set_shapes ss = map (λ p. p.1) ss
@@ -424,12 +395,6 @@ sets_are e types (i ∷ is) (s ∷ ss) h =
       (record { type = h.0.type; checked = h.0.checked; resolved = h.0.resolved; sane = h.0.sane; letter = due }, more.0),
       (subst (IsSet (letters_of types) (variables_of e) (rows.set_of s.0)) (sym due) h.0.set, more.1),
     )
-
-all_sets_known : (e : TypingContext) (types : List SqlType) (is : List Item) (ss : List (ResolvedItem × Shape)) → AreSetItems e types is ss → AreSetsOf (letters_of types) (variables_of e) (map (λ p. p.0) ss) (map letter_due (set_shapes ss))
-all_sets_known e types [] [] h = tt
-all_sets_known e types [] (s ∷ ss) h = absurd h
-all_sets_known e types (i ∷ is) [] h = absurd h
-all_sets_known e types (i ∷ is) (s ∷ ss) h = (subst (IsSetOf (letters_of types) (variables_of e) s.0) (sym (ap letter_due h.0.resolved)) h.0.known, all_sets_known e types is ss h.1)
 
 values_append : (e : TypingContext) (types : List SqlType) (is js : List Item) (ms ns : List Resolved) → AreValues e types is ms → AreValues e types js ns → AreValues e types (is ++ js) (ms ++ ns)
 values_append e types [] js [] ns h k = k
@@ -471,43 +436,27 @@ pub record ItemsResolved (e : TypingContext) (types : List SqlType) (is : List I
   pub letters : List Letter
   pub shapes : ItemsAre is (shapes_of (values_in ms) (sets_in ms)) letters
   pub well_typed : AreItems (letters_of types) (variables_of e) (rows.items_of (out-ResolvedItems (making.items_of (values_in ms) (sets_in ms)))) letters
-  pub known : AreKnown (letters_of types) (variables_of e) (out-ResolvedItems (making.items_of (values_in ms) (sets_in ms))) letters
-  pub well_formed : some is ≡ true → are_well_formed (letters_of types) (variables_of e) (out-ResolvedItems (making.items_of (values_in ms) (sets_in ms))) ≡ true
-
--- what is made of values alone, and of set functions
-record ResolvedWellFormed (columns variables : List Letter) (items : Layer) (ks : List Letter) (given : Bool) : Type 0 where
-  known : AreKnown columns variables items ks
-  well_formed : given ≡ true → are_well_formed columns variables items ≡ true
-
-rows_well_formed : (e : TypingContext) (types : List SqlType) (is : List Item) (values : List Resolved) (ss : List (ResolvedItem × Shape)) → ss ≡ [] → AreValues e types is values
-    → ResolvedWellFormed (letters_of types) (variables_of e) (out-ResolvedItems (making.items_of values ss)) (map letter_due (shapes_in values)) (some is)
-rows_well_formed e types is values ss none h =
-    subst (λ ss. ResolvedWellFormed (letters_of types) (variables_of e) (out-ResolvedItems (making.items_of values ss)) (map letter_due (shapes_in values)) (some is)) (sym none)
-    (subst (λ o. ResolvedWellFormed (letters_of types) (variables_of e) o (map letter_due (shapes_in values)) (some is)) (sym (items.outs-Rows (map expr_in values)))
-    (record { known = rows_known (letters_of types) (variables_of e) (map expr_in values) (map letter_due (shapes_in values)) (values_known e types is values h); well_formed = values_some e types is values h }))
-
-resolved_sets_well_formed : (e : TypingContext) (types : List SqlType) (is : List Item) (values : List Resolved) (s : ResolvedItem × Shape) (ss : List (ResolvedItem × Shape)) → AreSetItems e types is (s ∷ ss)
-    → ResolvedWellFormed (letters_of types) (variables_of e) (out-ResolvedItems (making.items_of values (s ∷ ss))) (map letter_due (set_shapes (s ∷ ss))) (some is)
-resolved_sets_well_formed e types is values s ss h =
-    let v = all_sets_known e types is (s ∷ ss) h in
-    subst (λ o. ResolvedWellFormed (letters_of types) (variables_of e) o (map letter_due (set_shapes (s ∷ ss))) (some is)) (sym (items.outs-Sets (map (λ p. p.0) (s ∷ ss))))
-    (record {
-      known = sets_known (letters_of types) (variables_of e) (map (λ p. p.0) (s ∷ ss)) (map letter_due (set_shapes (s ∷ ss))) v;
-      well_formed = λ given. sets_well_formed (letters_of types) (variables_of e) s.0 (map (λ p. p.0) ss) (map letter_due (set_shapes (s ∷ ss))) v;
-    })
+  pub some_item : some is ≡ true → HasItems (rows.items_of (out-ResolvedItems (making.items_of (values_in ms) (sets_in ms))))
 
 resolved_rows : (e : TypingContext) (types : List SqlType) (is : List Item) (values : List Resolved) (ss : List (ResolvedItem × Shape)) → ss ≡ [] → AreValues e types is values
     → ItemsAre is (shapes_of values ss) (map letter_due (shapes_in values)) × AreItems (letters_of types) (variables_of e) (rows.items_of (out-ResolvedItems (making.items_of values ss))) (map letter_due (shapes_in values))
+    × (some is ≡ true → HasItems (rows.items_of (out-ResolvedItems (making.items_of values ss))))
 resolved_rows e types is values ss none h =
     let v = values_are e types is values h in
-    subst (λ ss. ItemsAre is (shapes_of values ss) (map letter_due (shapes_in values)) × AreItems (letters_of types) (variables_of e) (rows.items_of (out-ResolvedItems (making.items_of values ss))) (map letter_due (shapes_in values))) (sym none)
-    (v.0, subst (λ o. AreItems (letters_of types) (variables_of e) (rows.items_of o) (map letter_due (shapes_in values))) (sym (items.outs-Rows (map expr_in values))) v.1)
+    subst (λ ss. ItemsAre is (shapes_of values ss) (map letter_due (shapes_in values)) × AreItems (letters_of types) (variables_of e) (rows.items_of (out-ResolvedItems (making.items_of values ss))) (map letter_due (shapes_in values))
+    × (some is ≡ true → HasItems (rows.items_of (out-ResolvedItems (making.items_of values ss))))) (sym none) (
+      v.0,
+      subst (λ o. AreItems (letters_of types) (variables_of e) (rows.items_of o) (map letter_due (shapes_in values))) (sym (items.outs-Rows (map expr_in values))) v.1,
+      λ given. subst (λ o. HasItems (rows.items_of o)) (sym (items.outs-Rows (map expr_in values))) (values_some e types is values h given),
+    )
 
 resolved_sets : (e : TypingContext) (types : List SqlType) (is : List Item) (values : List Resolved) (s : ResolvedItem × Shape) (ss : List (ResolvedItem × Shape)) → AreSetItems e types is (s ∷ ss)
     → ItemsAre is (shapes_of values (s ∷ ss)) (map letter_due (set_shapes (s ∷ ss))) × AreItems (letters_of types) (variables_of e) (rows.items_of (out-ResolvedItems (making.items_of values (s ∷ ss)))) (map letter_due (set_shapes (s ∷ ss)))
+    × (some is ≡ true → HasItems (rows.items_of (out-ResolvedItems (making.items_of values (s ∷ ss)))))
 resolved_sets e types is values s ss h =
     let v = sets_are e types is (s ∷ ss) h in
-    (v.0, subst (λ o. AreItems (letters_of types) (variables_of e) (rows.items_of o) (map letter_due (set_shapes (s ∷ ss)))) (sym (items.outs-Sets (map (λ p. p.0) (s ∷ ss)))) v.1)
+    let opened = sym (items.outs-Sets (map (λ p. p.0) (s ∷ ss))) in
+    (v.0, subst (λ o. AreItems (letters_of types) (variables_of e) (rows.items_of o) (map letter_due (set_shapes (s ∷ ss)))) opened v.1, λ given. subst (λ o. HasItems (rows.items_of o)) opened tt)
 
 sets_first : (e : TypingContext) (types : List SqlType) (cs : Columns) (p : PickChecked) (ps : List PickChecked) (m : ShapedPick) (ms : List ShapedPick) → PicksAre e types cs (p ∷ ps) (m ∷ ms) → list_all (λ p. is_set p.form) (p ∷ ps) ≡ true
     → ItemsResolved e types (all_items cs (p ∷ ps)) (m ∷ ms)
@@ -515,16 +464,14 @@ sets_first e types cs p ps (Values resolved) ms h all = absurd (differ (sym (bot
 sets_first e types cs p ps (OfAll item shape) ms h all =
     let given = all_sets e types cs (p ∷ ps) (OfAll item shape ∷ ms) h all in
     let v = resolved_sets e types (all_items cs (p ∷ ps)) (values_in ms) (item, shape) (sets_in ms) given in
-    let q = resolved_sets_well_formed e types (all_items cs (p ∷ ps)) (values_in ms) (item, shape) (sets_in ms) given in
-    record { letters = map letter_due (set_shapes ((item, shape) ∷ sets_in ms)); shapes = v.0; well_typed = v.1; known = q.known; well_formed = q.well_formed }
+    record { letters = map letter_due (set_shapes ((item, shape) ∷ sets_in ms)); shapes = v.0; well_typed = v.1; some_item = v.2 }
 
 items_by : (e : TypingContext) (types : List SqlType) (cs : Columns) (p : PickChecked) (ps : List PickChecked) (m : ShapedPick) (ms : List ShapedPick) (d : Option Place) (b : Bool) → PicksAre e types cs (p ∷ ps) (m ∷ ms)
     → first_set (p ∷ ps) ≡ d → list_all (λ p. is_set p.form) (p ∷ ps) ≡ b → misplaced_set (not b) d ≡ None → ItemsResolved e types (all_items cs (p ∷ ps)) (m ∷ ms)
 items_by e types cs p ps m ms None b h is all none =
     let v = no_sets e types cs (p ∷ ps) (m ∷ ms) h is in
     let w = resolved_rows e types (all_items cs (p ∷ ps)) (values_in (m ∷ ms)) (sets_in (m ∷ ms)) v.1 v.0 in
-    let q = rows_well_formed e types (all_items cs (p ∷ ps)) (values_in (m ∷ ms)) (sets_in (m ∷ ms)) v.1 v.0 in
-    record { letters = map letter_due (shapes_in (values_in (m ∷ ms))); shapes = w.0; well_typed = w.1; known = q.known; well_formed = q.well_formed }
+    record { letters = map letter_due (shapes_in (values_in (m ∷ ms))); shapes = w.0; well_typed = w.1; some_item = w.2 }
 items_by e types cs p ps m ms (Some place) true h is all none = sets_first e types cs p ps m ms h all
 items_by e types cs p ps m ms (Some place) false h is all none = absurd cc
 
@@ -538,26 +485,21 @@ pub record IsQueryResolved (e : TypingContext) (is : List Item) (m : ShapedQuery
   pub letters : List Letter
   pub shapes : ItemsAre is m.shapes letters
   pub well_typed : IsQuery e m.query letters
-  pub known : item_letters (known_in e) m.query ≡ letters
-  pub well_formed : HaveColumns e → WellFormedQuery (known_in e) m.query
 
-pub query_resolved_of : (e : TypingContext) (is : List Item) (table : ℕ) (there : ResolvedTable) (ms : List ShapedPick) (test : Option Resolved) → slice_get e.file.tables table ≡ Some there → ItemsResolved e (kinds_of there.definition.columns) is ms
+pub query_resolved_of : (e : TypingContext) → HaveColumns e → (is : List Item) (table : ℕ) (there : ResolvedTable) (ms : List ShapedPick) (test : Option Resolved) → slice_get e.file.tables table ≡ Some there → ItemsResolved e (kinds_of there.definition.columns) is ms
     → IsRowTest (columns_of there) (variables_of e) (optional_in test) → (some there.definition.columns ≡ true → some is ≡ true) → IsQueryResolved e is (query_of table ms test)
-query_resolved_of e is table there ms test h i t given =
+query_resolved_of e c is table there ms test h i t given =
     let r = sym (out-roll-ResolvedQuery (record { table = table; downward = false; items = making.items_of (values_in ms) (sets_in ms); test = optional_in test })) in
     let resolved : ResolvedQuery = (query_of table ms test).query in
-    let at : slice_get e.file.tables (table_in resolved) ≡ Some there = subst (λ o. slice_get e.file.tables o.table ≡ Some there) r h in
+    let at : slice_get e.file.tables (out-ResolvedQuery resolved).table ≡ Some there = subst (λ o. slice_get e.file.tables o.table ≡ Some there) r h in
     let row_test : IsRowTest (columns_of there) (variables_of e) (out-ResolvedQuery resolved).test = subst (λ o. IsRowTest (columns_of there) (variables_of e) o.test) r t in
-    let known : AreKnown (columns_of there) (variables_of e) (items_at resolved) i.letters = subst (λ o. AreKnown (columns_of there) (variables_of e) (out-ResolvedItems o.items) i.letters) r i.known in
     record {
       letters = i.letters;
       shapes = i.shapes;
-      known = query_letters e resolved there i.letters at known;
-      well_formed = λ c. query_well_formed e resolved there at (query_is e resolved there i.letters at known row_test)
-          (subst (λ o. are_well_formed (columns_of there) (variables_of e) (out-ResolvedItems o.items) ≡ true) r (i.well_formed (given (each_at (λ t. some t.definition.columns ≡ true) e.file.tables table there c h))));
       well_typed = record {
         table = there;
         there = at;
+        some = subst (λ o. HasItems (rows.items_of (out-ResolvedItems o.items))) r (i.some_item (given (each_at (λ t. some t.definition.columns ≡ true) e.file.tables table there c h)));
         items = subst (λ o. AreItems (columns_of there) (variables_of e) (rows.items_of (out-ResolvedItems o.items)) i.letters) r i.well_typed;
         test = row_test;
       };
@@ -586,10 +528,7 @@ exists_part e place b f m h well = record {
   resolved = λ s is.
       let none = without_none place (query_fault f) (Some Condition) s is in
       let good : IsQueryResolved e (h well none.0).0 m = (h well none.0).2 in
-      resolved_condition e Control (Some b) (making.condition (exprs.Exists m.query)) s (some_inside Condition s none.1) refl (
-        typed_expr.exists m.query good.letters (exprs.outs-Exists m.query) good.well_typed,
-        λ c. well_formed_as (exprs.Exists m.query) (layers.Exists m.query) (exprs.outs-Exists m.query) refl refl (well_formed.exists (good.well_formed c)),
-      );
+      resolved_condition e Control (Some b) (making.condition (exprs.Exists m.query)) s (some_inside Condition s none.1) refl (typed_expr.exists m.query good.letters (exprs.outs-Exists m.query) good.well_typed);
 }
   where
     some_inside : (a b : Shape) → Some a ≡ Some b → a ≡ b
@@ -601,25 +540,22 @@ record IsScalar (e : TypingContext) (is : List Item) (m : ShapedQuery) : Type 0 
   checked : faults.only_shape (Some is) ≡ Some (Value type)
   value : IsValue e Control (record { expr = exprs.Scalar m.query; shape = making.only_shape m.shapes }) type
 
-scalar_by : (e : TypingContext) (is : List Item) (shapes : List Shape) (ks : List Letter) (query : ResolvedQuery) → nat_eq (length is) 1 ≡ true → ItemsAre is shapes ks → IsQuery e query ks → (HaveColumns e → WellFormedQuery (known_in e) query) → IsScalar e is (record { query = query; shapes = shapes })
-scalar_by e [] shapes ks query one h well_typed good = absurd cc
-scalar_by e (i ∷ []) (s ∷ []) (k ∷ []) query one h well_typed good = record {
+scalar_by : (e : TypingContext) (is : List Item) (shapes : List Shape) (ks : List Letter) (query : ResolvedQuery) → nat_eq (length is) 1 ≡ true → ItemsAre is shapes ks → IsQuery e query ks → IsScalar e is (record { query = query; shapes = shapes })
+scalar_by e [] shapes ks query one h well_typed = absurd cc
+scalar_by e (i ∷ []) (s ∷ []) (k ∷ []) query one h well_typed = record {
   type = h.0.type;
   checked = h.0.checked;
   value = record {
     shape = h.0.resolved;
     sane = h.0.sane;
-    judged = (
-      typed_expr.scalar query (exprs.outs-Scalar query) (subst (λ k. IsQuery e query (k ∷ [])) h.0.letter well_typed),
-      λ c. well_formed_as (exprs.Scalar query) (layers.Scalar query) (exprs.outs-Scalar query) refl refl (well_formed.scalar (good c)),
-    );
+    judged = typed_expr.scalar query (exprs.outs-Scalar query) (subst (λ k. IsQuery e query (k ∷ [])) h.0.letter well_typed);
   };
 }
-scalar_by e (i ∷ []) [] ks query one h well_typed good = absurd h
-scalar_by e (i ∷ []) (s ∷ ss) [] query one h well_typed good = absurd h
-scalar_by e (i ∷ []) (s ∷ []) (k ∷ l ∷ ks) query one h well_typed good = absurd h.1
-scalar_by e (i ∷ []) (s ∷ t ∷ ss) (k ∷ ks) query one h well_typed good = absurd h.1
-scalar_by e (i ∷ j ∷ is) shapes ks query one h well_typed good = absurd (more_than_one (length is) one)
+scalar_by e (i ∷ []) [] ks query one h well_typed = absurd h
+scalar_by e (i ∷ []) (s ∷ ss) [] query one h well_typed = absurd h
+scalar_by e (i ∷ []) (s ∷ []) (k ∷ l ∷ ks) query one h well_typed = absurd h.1
+scalar_by e (i ∷ []) (s ∷ t ∷ ss) (k ∷ ks) query one h well_typed = absurd h.1
+scalar_by e (i ∷ j ∷ is) shapes ks query one h well_typed = absurd (more_than_one (length is) one)
   where
     more_than_one : (n : ℕ) → nat_eq (suc (suc n)) 1 ≡ true → ⊥
     more_than_one n h = grind (arith, nat_tests, h)
@@ -636,7 +572,7 @@ scalar_of e f m h none =
     let c = counted_by f (faults.may_be 1 (faults.items_of f)) refl none in
     let good = h c.1 in
     let one : nat_eq (length good.0) 1 ≡ true = ap (faults.may_be 1) (sym good.1) ∙ c.0 in
-    (good.0, good.1, scalar_by e good.0 m.shapes good.2.letters m.query one good.2.shapes good.2.well_typed good.2.well_formed)
+    (good.0, good.1, scalar_by e good.0 m.shapes good.2.letters m.query one good.2.shapes good.2.well_typed)
 
 pub scalar_part : (e : TypingContext) (place : Place) (b : Bool) (f : QueryChecked) (m : ShapedQuery) → (b ≡ true → QueryGood e f m)
     → Part e Control (Some b) (faults.without_fault place (faults.counted_fault 1 f) (faults.only_shape (faults.items_of f))) (record { expr = exprs.Scalar m.query; shape = making.only_shape m.shapes })

@@ -76,8 +76,8 @@ source_at e checker_scope resolver_scope a r x well o to is none =
     source_by e Control (stands x) (check_expr x checker_scope) (resolve_expr x resolver_scope) to (expr_accepted x e checker_scope resolver_scope Control a (subst (Fits Control) (sym r) tt)) well (ap (λ o. source_fault o (check_expr x checker_scope)) (sym is) ∙ none)
 
 pub source_for : (e : TypingContext) (checker_scope : CheckerScope) (resolver_scope : ResolverScope) → Agree e checker_scope resolver_scope → resolver_scope.row ≡ None → (x : Expr) → IsTrue (as_source (stands x)) → (o : Option SqlType) (to : SqlType) → o ≡ Some to → source_fault o (check_expr x checker_scope) ≡ None
-    → IsExpr e (expr_at resolver_scope x) (letter_of to)
-source_for e checker_scope resolver_scope a r x well o to is none = (source_at e checker_scope resolver_scope a r x well o to is none).0
+    → IsExpr e true (expr_at resolver_scope x) (letter_of to)
+source_for e checker_scope resolver_scope a r x well o to is none = source_at e checker_scope resolver_scope a r x well o to is none
 
 -- ---- targets
 
@@ -135,7 +135,7 @@ set_well_typed e checker_scope resolver_scope a r t x well none =
     record { type = i.type; there = i.there; source = source_for e checker_scope resolver_scope a r x well (target_type checker_scope.scopes t) i.type i.due parts.1 }
 
 pub return_well_typed : (e : TypingContext) (c : Context) (resolver_scope : ResolverScope) → Agree e c.checker_scope resolver_scope → resolver_scope.row ≡ None → (within : Within) → IsWithin within e.routine.returns → (place : Place) (x : Expr) → IsTrue (as_source (stands x)) → return_fault c within place x ≡ None
-    → (t : SqlType) × (e.routine.returns ≡ Some t) × IsExpr e (expr_at resolver_scope x) (letter_of t)
+    → (t : SqlType) × (e.routine.returns ≡ Some t) × IsExpr e true (expr_at resolver_scope x) (letter_of t)
 return_well_typed e c resolver_scope a r InProcedure i place x well none = absurd cc
 return_well_typed e c resolver_scope a r (InFunction result) i place x well none = (i.0, i.2, source_for e c.checker_scope resolver_scope a r x well result i.0 i.1 none)
 

@@ -56,7 +56,7 @@ abbrev nowhere : TypingContext
 nowhere = record { file = record { tables = []; keys = []; routines = [] }; routine = no_routine; shapes = [] }
 
 check-agree : (name : Spelling) (columns : Columns) → Agree nowhere (alone name columns) (on_columns name columns)
-check-agree name columns = record { tables = refl; functions = refl; scopes = refl; row = refl; known_tables = tt; known_functions = tt; slots = tt }
+check-agree name columns = record { tables = refl; functions = refl; scopes = refl; row = refl; columns = tt; known_tables = tt; known_functions = tt; slots = tt }
 
 check-test : (name : Spelling) (columns : Columns) (types : List SqlType) → HaveTypes columns types → (x : Expr) → Tested x → check_fault (alone name columns) x ≡ None → is_test (letters_of types) [] (expr_at (on_columns name columns) x) ≡ true
 check-test name columns types h x well none =

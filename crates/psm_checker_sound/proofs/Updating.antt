@@ -31,7 +31,7 @@ use Rattle.psm_checker_sound.specs.Meant.{Meant}
 use Rattle.psm_checker_sound.specs.Simples.{AssignmentsStand, WhichStands}
 use Rattle.psm_checker_sound.specs.Stands.{as_source, stands}
 use Rattle.psm_checker_sound.proofs.Names.{IsColumn, columns_placed}
-use Rattle.psm_checker_sound.proofs.Judging.{OnRow, letter_there, value_letter}
+use Rattle.psm_checker_sound.proofs.Judging.{OnRow, letter_there}
 use Rattle.psm_checker_sound.proofs.Parts.{neither}
 use Rattle.psm_checker_sound.proofs.Queries.{named_placed}
 use Rattle.psm_checker_sound.proofs.Simples.{source_by}
@@ -74,7 +74,7 @@ change_well_typed e checker_scope resolver_scope a table k x well column none =
     (ap (λ o. source_fault o (check_expr x.source inner_checker_scope)) (sym due) ∙ none) in (
       letter_of c.type,
       ap (λ cs. slice_get (columns_of k.there) (column_of cs x.column)) k.seen ∙ letter_there kinds (column_of k.columns x.column) c.type c.there,
-      record { value = value_letter c.type; letter = source },
+      source,
     )
 
 changes_well_typed : (e : TypingContext) (checker_scope : CheckerScope) (resolver_scope : ResolverScope) → Agree e checker_scope resolver_scope → (table : Identifier) (k : IsKnownTable e checker_scope resolver_scope table) (xs : List Assignment) → AssignmentsStand xs

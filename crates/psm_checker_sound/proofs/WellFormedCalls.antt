@@ -1,6 +1,6 @@
 -- CALL, SIGNAL and FETCH without a fault are well-formed.
 use Rattle.std.proofs.Common.{◌≡◌, ℕ, Bool, true, false, ◌||◌, List, [], ◌∷◌, length, Option, Some, None, option_map, refl, ap, sym, ◌∙◌, subst}
-use Rattle.std.specs.Prelude.{IfSome, IsTrue, codes, if◌then◌else◌, not, take}
+use Rattle.std.specs.Prelude.{IfSome, codes, if◌then◌else◌, not, take}
 use Rattle.psm_token.specs.declared.place.Place.{Place}
 use Rattle.psm_sqlstate.specs.declared.kind.Kind.TheVariants as of_class
 use Rattle.psm_value.specs.declared.sqltype.SqlType.{SqlType}
@@ -37,7 +37,6 @@ use Rattle.psm_resolved.specs.declared.file.ResolvedParameter.{ResolvedParameter
 use Rattle.psm_resolved.specs.declared.file.ResolvedRoutine.{ResolvedRoutine}
 use Rattle.psm_resolved.specs.declared.statement.ResolvedArgument.{ResolvedArgument}
 use Rattle.psm_resolve_expr.specs.ResolverScope.{ResolverScope}
-use Rattle.psm_declare.specs.Seen.{expr_at}
 use Rattle.psm_resolve.specs.Statements as making
 use Rattle.psm_resolve.specs.Statements.{arguments_of, argument_of, condition_of, declared_as, signal_of, slot_in, slot_of, slots_of, state_or_number, state_or_success, target_in}
 use Rattle.psm_meaning.specs.Calls.{procedure_at}
@@ -48,22 +47,16 @@ use Rattle.psm_exprgen.specs.Queries.{item_letters}
 use Rattle.psm_exprgen.specs.Written.{letters_at, letters_or}
 use Rattle.psm_typing.specs.TypingContext.{Each, TypingContext}
 use Rattle.psm_typing.specs.Statements as places
-use Rattle.psm_wellformed.specs.Expressions as well_formed
-use Rattle.psm_wellformed.specs.Expressions.{PerhapsWellFormed, WellFormed}
 use Rattle.psm_wellformed.specs.Simples.{WellFormedArguments, WellFormedCondition, WellFormedSignal}
 use Rattle.psm_wellformed.specs.Slots.{AreSlots, SlotOf}
 use Rattle.psm_checker_sound.specs.Agreement.{Agree, HasSlot}
 use Rattle.psm_checker_sound.specs.Meant.{AreParameters, HasRoutine}
 use Rattle.psm_checker_sound.specs.Places.{IsCursorKnown, IsGood}
-use Rattle.psm_checker_sound.specs.Simples.{SignalStands, Sourced}
-use Rattle.psm_checker_sound.specs.Stands.{as_operand, may_be, stands}
-use Rattle.psm_checker_sound.proofs.WellFormedParts.{HaveColumns, known_in, widened}
+use Rattle.psm_checker_sound.specs.Simples.{Sourced}
 use Rattle.psm_checker_sound.proofs.Names.{meant_alike, meant_each}
 use Rattle.psm_checker_sound.proofs.Parts.{neither}
 use Rattle.psm_checker_sound.proofs.Forms.{typed_letter}
 use Rattle.psm_checker_sound.proofs.Calling.{passed_by}
-use Rattle.psm_checker_sound.proofs.Naming.{message_judged}
-use Rattle.psm_checker_sound.proofs.Simples.{source_at}
 use Rattle.psm_checker_sound.proofs.WellFormedSlots.{fetched_slots, mixed_same, slot_typed, type_letter}
 
 -- ---- arguments that get a value
@@ -97,44 +90,44 @@ target_slot e checker_scope resolver_scope a r kind t is x h none = absurd cc
 
 -- ---- CALL
 
-argument_by : (e : TypingContext) → HaveColumns e → (known : Known) → known ≡ known_in e → (checker_scope : CheckerScope) (resolver_scope : ResolverScope) → Agree e checker_scope resolver_scope → resolver_scope.row ≡ None → (mode : ParameterMode) (kind : Option SqlType) (r : ResolvedParameter) → kind ≡ Some r.kind → (x : Expr) → Sourced x
+argument_by : (e : TypingContext) → (checker_scope : CheckerScope) (resolver_scope : ResolverScope) → Agree e checker_scope resolver_scope → resolver_scope.row ≡ None → (mode : ParameterMode) (kind : Option SqlType) (r : ResolvedParameter) → kind ≡ Some r.kind → (x : Expr) → Sourced x
     → (if is_passed checker_scope.scopes mode x then source_fault kind (check_expr x checker_scope) else earlier (breaks rule.NotAssignable (check_expr x checker_scope).place) (check_expr x checker_scope).fault) ≡ None
-    → WellFormedArguments e known (argument_of resolver_scope mode x ∷ []) (r ∷ [])
-argument_by e c known is checker_scope resolver_scope a row In kind r k x well none = (subst (λ known. WellFormed known true (expr_at resolver_scope x)) (sym is) ((source_at e checker_scope resolver_scope a row x well kind r.kind k none).1 c), tt)
-argument_by e c known is checker_scope resolver_scope a row Out kind r k x well none =
+    → WellFormedArguments e (argument_of resolver_scope mode x ∷ []) (r ∷ [])
+argument_by e checker_scope resolver_scope a row In kind r k x well none = tt
+argument_by e checker_scope resolver_scope a row Out kind r k x well none =
     let parts = passed_by (is_target checker_scope.scopes x) (check_expr x checker_scope).place (source_fault kind (check_expr x checker_scope)) (check_expr x checker_scope).fault none in
     (target_slot e checker_scope resolver_scope a row kind r.kind k x parts.0 parts.1, tt)
-argument_by e c known is checker_scope resolver_scope a row InOut kind r k x well none =
+argument_by e checker_scope resolver_scope a row InOut kind r k x well none =
     let parts = passed_by (is_target checker_scope.scopes x) (check_expr x checker_scope).place (source_fault kind (check_expr x checker_scope)) (check_expr x checker_scope).fault none in
     (target_slot e checker_scope resolver_scope a row kind r.kind k x parts.0 parts.1, tt)
 
 -- an argument before others
-one_more : (e : TypingContext) (known : Known) (resolver_scope : ResolverScope) (mode : ParameterMode) (x : Expr) (r : ResolvedParameter) (others : List ResolvedArgument) (rs : List ResolvedParameter) → WellFormedArguments e known (argument_of resolver_scope mode x ∷ []) (r ∷ []) → WellFormedArguments e known others rs
-    → WellFormedArguments e known (argument_of resolver_scope mode x ∷ others) (r ∷ rs)
-one_more e known resolver_scope In x r others rs h hs = (h.0, hs)
-one_more e known resolver_scope Out x r others rs h hs = (h.0, hs)
-one_more e known resolver_scope InOut x r others rs h hs = (h.0, hs)
+one_more : (e : TypingContext) (resolver_scope : ResolverScope) (mode : ParameterMode) (x : Expr) (r : ResolvedParameter) (others : List ResolvedArgument) (rs : List ResolvedParameter) → WellFormedArguments e (argument_of resolver_scope mode x ∷ []) (r ∷ []) → WellFormedArguments e others rs
+    → WellFormedArguments e (argument_of resolver_scope mode x ∷ others) (r ∷ rs)
+one_more e resolver_scope In x r others rs h hs = hs
+one_more e resolver_scope Out x r others rs h hs = (h.0, hs)
+one_more e resolver_scope InOut x r others rs h hs = (h.0, hs)
 
-arguments_by : (e : TypingContext) → HaveColumns e → (known : Known) → known ≡ known_in e → (checker_scope : CheckerScope) (resolver_scope : ResolverScope) → Agree e checker_scope resolver_scope → resolver_scope.row ≡ None → (ps : List ParameterScope) (rs : List ResolvedParameter) → AreParameters ps rs → (xs : List Expr) → Each Sourced xs
-    → first_of (arguments_fault checker_scope ps xs) ≡ None → WellFormedArguments e known (arguments_of resolver_scope ps xs) rs
-arguments_by e c known is checker_scope resolver_scope a row [] [] h [] well none = tt
-arguments_by e c known is checker_scope resolver_scope a row [] [] h (x ∷ xs) well none = tt
-arguments_by e c known is checker_scope resolver_scope a row [] (r ∷ rs) h xs well none = absurd h
-arguments_by e c known is checker_scope resolver_scope a row (p ∷ ps) [] h xs well none = absurd h
-arguments_by e c known is checker_scope resolver_scope a row (p ∷ ps) (r ∷ rs) h [] well none = tt
-arguments_by e c known is checker_scope resolver_scope a row (p ∷ ps) (r ∷ rs) h (x ∷ xs) well none =
+arguments_by : (e : TypingContext) → (checker_scope : CheckerScope) (resolver_scope : ResolverScope) → Agree e checker_scope resolver_scope → resolver_scope.row ≡ None → (ps : List ParameterScope) (rs : List ResolvedParameter) → AreParameters ps rs → (xs : List Expr) → Each Sourced xs
+    → first_of (arguments_fault checker_scope ps xs) ≡ None → WellFormedArguments e (arguments_of resolver_scope ps xs) rs
+arguments_by e checker_scope resolver_scope a row [] [] h [] well none = tt
+arguments_by e checker_scope resolver_scope a row [] [] h (x ∷ xs) well none = tt
+arguments_by e checker_scope resolver_scope a row [] (r ∷ rs) h xs well none = absurd h
+arguments_by e checker_scope resolver_scope a row (p ∷ ps) [] h xs well none = absurd h
+arguments_by e checker_scope resolver_scope a row (p ∷ ps) (r ∷ rs) h [] well none = tt
+arguments_by e checker_scope resolver_scope a row (p ∷ ps) (r ∷ rs) h (x ∷ xs) well none =
     let parts = neither (argument_fault checker_scope p x) (first_of (arguments_fault checker_scope ps xs)) (sym (first_of_cons (argument_fault checker_scope p x) (arguments_fault checker_scope ps xs)) ∙ none) in
-    one_more e known resolver_scope p.mode x r (arguments_of resolver_scope ps xs) rs (argument_by e c known is checker_scope resolver_scope a row p.mode p.kind r h.0.1 x well.0 parts.0) (arguments_by e c known is checker_scope resolver_scope a row ps rs h.1 xs well.1 parts.1)
+    one_more e resolver_scope p.mode x r (arguments_of resolver_scope ps xs) rs (argument_by e checker_scope resolver_scope a row p.mode p.kind r h.0.1 x well.0 parts.0) (arguments_by e checker_scope resolver_scope a row ps rs h.1 xs well.1 parts.1)
 
 -- the arguments of a procedure that is there
 routine_same : (r q : ResolvedRoutine) → Some r ≡ Some q → r ≡ q
 routine_same r q h = cc
 
-pub arguments_well_formed : (e : TypingContext) → HaveColumns e → (known : Known) → known ≡ known_in e → (checker_scope : CheckerScope) (resolver_scope : ResolverScope) → Agree e checker_scope resolver_scope → resolver_scope.row ≡ None → (xs : List Expr) (p q : ProcedureScope) → HasRoutine e (length xs) p q → Each Sourced xs
-    → first_of (arguments_fault checker_scope p.parameters xs) ≡ None → (routine : ResolvedRoutine) → procedure_at e.file q.number ≡ Some routine → WellFormedArguments e known (arguments_of resolver_scope q.parameters xs) routine.parameters
-arguments_well_formed e c known is checker_scope resolver_scope a row xs p q m well none routine at =
-    subst (λ r. WellFormedArguments e known (arguments_of resolver_scope q.parameters xs) r.parameters) (routine_same m.routine routine (sym m.there ∙ at))
-    (subst (λ ps. WellFormedArguments e known (arguments_of resolver_scope ps xs) m.routine.parameters) (sym m.same) (arguments_by e c known is checker_scope resolver_scope a row p.parameters m.routine.parameters m.parameters xs well none))
+pub arguments_well_formed : (e : TypingContext) → (checker_scope : CheckerScope) (resolver_scope : ResolverScope) → Agree e checker_scope resolver_scope → resolver_scope.row ≡ None → (xs : List Expr) (p q : ProcedureScope) → HasRoutine e (length xs) p q → Each Sourced xs
+    → first_of (arguments_fault checker_scope p.parameters xs) ≡ None → (routine : ResolvedRoutine) → procedure_at e.file q.number ≡ Some routine → WellFormedArguments e (arguments_of resolver_scope q.parameters xs) routine.parameters
+arguments_well_formed e checker_scope resolver_scope a row xs p q m well none routine at =
+    subst (λ r. WellFormedArguments e (arguments_of resolver_scope q.parameters xs) r.parameters) (routine_same m.routine routine (sym m.there ∙ at))
+    (subst (λ ps. WellFormedArguments e (arguments_of resolver_scope ps xs) m.routine.parameters) (sym m.same) (arguments_by e checker_scope resolver_scope a row p.parameters m.routine.parameters m.parameters xs well none))
 
 -- ---- SIGNAL
 
@@ -168,16 +161,9 @@ condition_well_formed : (checker_scope : CheckerScope) (resolver_scope : Resolve
 condition_well_formed checker_scope resolver_scope good (signals.Name n) none = named_good (lookup.condition n.name resolver_scope.scopes) (good n.name)
 condition_well_formed checker_scope resolver_scope good (signals.State s) none = good_by s.text s.«at» (is_bad_state s.text) refl none
 
-message_well_formed : (e : TypingContext) → HaveColumns e → (known : Known) → known ≡ known_in e → (checker_scope : CheckerScope) (resolver_scope : ResolverScope) → Agree e checker_scope resolver_scope → resolver_scope.row ≡ None → (x : Option Expr) → IsTrue (may_be as_operand (option_map stands x)) → message_fault checker_scope x ≡ None
-    → PerhapsWellFormed known true (option_map (expr_at resolver_scope) x)
-message_well_formed e c known is checker_scope resolver_scope a r None well none = well_formed.nothing
-message_well_formed e c known is checker_scope resolver_scope a r (Some x) well none = well_formed.just (subst (λ known. WellFormed known true (expr_at resolver_scope x)) (sym is) (widened ((message_judged e checker_scope resolver_scope a r x well none).1 c)))
-
-pub signal_well_formed : (e : TypingContext) → HaveColumns e → (known : Known) → known ≡ known_in e → (checker_scope : CheckerScope) (resolver_scope : ResolverScope) → Agree e checker_scope resolver_scope → resolver_scope.row ≡ None → ((n : Spelling) → IsGood (lookup.condition n resolver_scope.scopes)) → (x : Signalled) → SignalStands x → signalled_fault checker_scope x ≡ None
-    → WellFormedSignal known (signal_of resolver_scope x)
-signal_well_formed e c known is checker_scope resolver_scope a r good x well none =
-    let parts = neither (condition_fault checker_scope.scopes x.condition) (message_fault checker_scope x.message) none in
-    (condition_well_formed checker_scope resolver_scope good x.condition parts.0, message_well_formed e c known is checker_scope resolver_scope a r x.message well parts.1)
+pub signal_well_formed : (checker_scope : CheckerScope) (resolver_scope : ResolverScope) → ((n : Spelling) → IsGood (lookup.condition n resolver_scope.scopes)) → (x : Signalled) → signalled_fault checker_scope x ≡ None → WellFormedSignal (signal_of resolver_scope x)
+signal_well_formed checker_scope resolver_scope good x none =
+    condition_well_formed checker_scope resolver_scope good x.condition (neither (condition_fault checker_scope.scopes x.condition) (message_fault checker_scope x.message) none).0
 
 -- ---- FETCH
 

@@ -53,14 +53,12 @@ use Rattle.psm_typing.specs.Expressions.{AreExprs, IsExpr}
 use Rattle.psm_typing.specs.TypingContext.{Each, TypingContext, columns_of, variables_of}
 use Rattle.psm_typing.specs.Statements as places
 use Rattle.psm_typing.specs.Statements.{IsChange, IsWhere}
-use Rattle.psm_wellformed.specs.Expressions.{AllWellFormed}
-use Rattle.psm_wellformed.specs.Queries.{WellFormedQuery}
 use Rattle.psm_wellformed.specs.Simples.{AreColumns, AreSets, MayChange, WellFormedWhere, RowOf}
-use Rattle.psm_checker_sound.specs.Agreement.{Agree}
+use Rattle.psm_checker_sound.specs.Agreement.{Agree, HaveColumns}
 use Rattle.psm_checker_sound.specs.Places.{IsCursorKnown}
 use Rattle.psm_checker_sound.specs.Stands.{select_stands}
-use Rattle.psm_checker_sound.proofs.WellFormedParts.{AllFit, HaveColumns, known_in, more_fit, none_fit}
-use Rattle.psm_checker_sound.proofs.WellFormedItems.{columns_there, condition_is, each_at}
+use Rattle.psm_wellformed.proofs.Queries.{columns_there, known_in, query-letters}
+use Rattle.psm_checker_sound.proofs.Faultless.{each_at}
 use Rattle.psm_checker_sound.proofs.Parts.{neither, true_false}
 use Rattle.psm_checker_sound.proofs.Choices.{all_true}
 use Rattle.psm_checker_sound.proofs.Queries.{IsItem, ItemsAre}
@@ -92,10 +90,6 @@ letters_are : (known : Known) (table : ℕ) (cs : List ℕ) → letters_for (let
 letters_are known table [] = refl
 letters_are known table (c ∷ cs) = ap (λ ls. letter_at (letters_at known.columns table) c ∷ ls) (letters_are known table cs)
 
-record AreFor (e : TypingContext) (xs : List ResolvedExpr) (letters : List Letter) : Type 0 where
-  exprs : AreExprs e xs letters
-  fit : AllFit e true xs
-
 due_many : (letters : List Letter) (cs : List ℕ) (ks : List (Option SqlType)) → AreDue letters cs ks → length cs ≡ length ks
 due_many letters [] [] h = refl
 due_many letters [] (k ∷ ks) h = absurd h
@@ -103,8 +97,8 @@ due_many letters (c ∷ cs) [] h = absurd h
 due_many letters (c ∷ cs) (k ∷ ks) h = ap suc (due_many letters cs ks h.1)
 
 values_for : (e : TypingContext) (checker_scope : CheckerScope) (resolver_scope : ResolverScope) → Agree e checker_scope resolver_scope → resolver_scope.row ≡ None → (letters : List Letter) (cs : List ℕ) (ks : List (Option SqlType)) → AreDue letters cs ks → (xs : List Expr) → AllSource xs → length ks ≡ length xs
-    → first_of (sources_fault ks (map (checked checker_scope) xs)) ≡ None → AreFor e (map (expr_at resolver_scope) xs) (letters_for letters cs)
-values_for e checker_scope resolver_scope a r letters [] [] h [] well many none = record { exprs = typed_expr.none; fit = none_fit e true }
+    → first_of (sources_fault ks (map (checked checker_scope) xs)) ≡ None → AreExprs e true (map (expr_at resolver_scope) xs) (letters_for letters cs)
+values_for e checker_scope resolver_scope a r letters [] [] h [] well many none = typed_expr.none
 values_for e checker_scope resolver_scope a r letters [] [] h (x ∷ xs) well many none = absurd (zero_suc (length xs) many)
 values_for e checker_scope resolver_scope a r letters [] (k ∷ ks) h xs well many none = absurd h
 values_for e checker_scope resolver_scope a r letters (c ∷ cs) [] h xs well many none = absurd h
@@ -112,27 +106,22 @@ values_for e checker_scope resolver_scope a r letters (c ∷ cs) (k ∷ ks) h []
 values_for e checker_scope resolver_scope a r letters (c ∷ cs) (k ∷ ks) h (x ∷ xs) well many none =
     let parts = neither (source_fault k (check_expr x checker_scope)) (first_of (sources_fault ks (map (checked checker_scope) xs))) (sym (first_of_cons (source_fault k (check_expr x checker_scope)) (sources_fault ks (map (checked checker_scope) xs))) ∙ none) in
     let first = source_at e checker_scope resolver_scope a r x well.0 k h.0.0 h.0.1 parts.0 in
-    let more : AreFor e (map (expr_at resolver_scope) xs) (letters_for letters cs) = values_for e checker_scope resolver_scope a r letters cs ks h.1 xs well.1 (one_less (length ks) (length xs) many) parts.1 in record {
-      exprs = typed_expr.more (subst (IsExpr e (expr_at resolver_scope x)) (sym (ap letter_or h.0.2)) first.0) more.exprs;
-      fit = more_fit e true (expr_at resolver_scope x) (map (expr_at resolver_scope) xs) first.1 more.fit;
-    }
+    typed_expr.more (subst (IsExpr e true (expr_at resolver_scope x)) (sym (ap letter_or h.0.2)) first) (values_for e checker_scope resolver_scope a r letters cs ks h.1 xs well.1 (one_less (length ks) (length xs) many) parts.1)
 
 row_for : (e : TypingContext) (checker_scope : CheckerScope) (resolver_scope : ResolverScope) → Agree e checker_scope resolver_scope → resolver_scope.row ≡ None → (letters : List Letter) (cs : List ℕ) (ks : List (Option SqlType)) → AreDue letters cs ks → (row : Values) → AllSource (several row.values)
-    → row_fault checker_scope (Some ks) row ≡ None → AreFor e (row_of resolver_scope row) (letters_for letters cs)
+    → row_fault checker_scope (Some ks) row ≡ None → AreExprs e true (row_of resolver_scope row) (letters_for letters cs)
 row_for e checker_scope resolver_scope a r letters cs ks h row well none =
     let c = counted_values (length ks) (length (map (checked checker_scope) (several row.values))) (checked checker_scope row.values.first).place (first_of (sources_fault ks (map (checked checker_scope) (several row.values))))
     (first_of (map (λ f. f.fault) (map (checked checker_scope) (several row.values)))) (nat_eq (length ks) (length (map (checked checker_scope) (several row.values)))) refl none in
     values_for e checker_scope resolver_scope a r letters cs ks h (several row.values) well (c.0 ∙ mapped_many (checked checker_scope) (several row.values)) c.1
 
-rows_for : (e : TypingContext) → HaveColumns e → (known : Known) → known ≡ known_in e → (checker_scope : CheckerScope) (resolver_scope : ResolverScope) → Agree e checker_scope resolver_scope → resolver_scope.row ≡ None → (table : ℕ) (cs : List ℕ) (ks : List (Option SqlType)) → AreDue (letters_at known.columns table) cs ks
-    → (rows : List Values) → Each (λ row. AllSource (several row.values)) rows → first_of (map (row_fault checker_scope (Some ks)) rows) ≡ None → Each (RowOf e known (letters_of_columns known table cs)) (map (row_of resolver_scope) rows)
-rows_for e c known is checker_scope resolver_scope a r table cs ks h [] well none = tt
-rows_for e c known is checker_scope resolver_scope a r table cs ks h (row ∷ rows) well none =
+rows_for : (e : TypingContext) (known : Known) → known ≡ known_in e → (checker_scope : CheckerScope) (resolver_scope : ResolverScope) → Agree e checker_scope resolver_scope → resolver_scope.row ≡ None → (table : ℕ) (cs : List ℕ) (ks : List (Option SqlType)) → AreDue (letters_at known.columns table) cs ks
+    → (rows : List Values) → Each (λ row. AllSource (several row.values)) rows → first_of (map (row_fault checker_scope (Some ks)) rows) ≡ None → Each (RowOf e (letters_of_columns known table cs)) (map (row_of resolver_scope) rows)
+rows_for e known is checker_scope resolver_scope a r table cs ks h [] well none = tt
+rows_for e known is checker_scope resolver_scope a r table cs ks h (row ∷ rows) well none =
     let parts = neither (row_fault checker_scope (Some ks) row) (first_of (map (row_fault checker_scope (Some ks)) rows)) (sym (first_of_cons (row_fault checker_scope (Some ks) row) (map (row_fault checker_scope (Some ks)) rows)) ∙ none) in
-    let first : AreFor e (row_of resolver_scope row) (letters_for (letters_at known.columns table) cs) = row_for e checker_scope resolver_scope a r (letters_at known.columns table) cs ks h row well.0 parts.0 in (
-      (subst (AreExprs e (row_of resolver_scope row)) (letters_are known table cs) first.exprs, subst (λ known. AllWellFormed known true (row_of resolver_scope row)) (sym is) (first.fit c)),
-      rows_for e c known is checker_scope resolver_scope a r table cs ks h rows well.1 parts.1,
-    )
+    let first = row_for e checker_scope resolver_scope a r (letters_at known.columns table) cs ks h row well.0 parts.0 in
+    (subst (AreExprs e true (row_of resolver_scope row)) (letters_are known table cs) first, rows_for e known is checker_scope resolver_scope a r table cs ks h rows well.1 parts.1)
 
 -- ---- the query of INSERT
 
@@ -181,12 +170,12 @@ pub record IsInserted (e : TypingContext) (known : Known) (checker_scope : Check
 letters_known : (e : TypingContext) (known : Known) → known ≡ known_in e → (checker_scope : CheckerScope) (resolver_scope : ResolverScope) (table : Identifier) (k : IsKnownTable e checker_scope resolver_scope table) → letters_at known.columns (making.table_of resolver_scope table) ≡ columns_of k.there
 letters_known e known is checker_scope resolver_scope table k = ap (λ known. letters_at known.columns (making.table_of resolver_scope table)) is ∙ columns_there e (making.table_of resolver_scope table) k.there k.at
 
-insert_columns : (e : TypingContext) → HaveColumns e → (known : Known) → known ≡ known_in e → (checker_scope : CheckerScope) (resolver_scope : ResolverScope) → Agree e checker_scope resolver_scope → (table : Identifier) (names : Option Names) → table_fault table (table_named checker_scope table.name) ≡ None
+insert_columns : (e : TypingContext) (known : Known) → known ≡ known_in e → (checker_scope : CheckerScope) (resolver_scope : ResolverScope) → Agree e checker_scope resolver_scope → (table : Identifier) (names : Option Names) → table_fault table (table_named checker_scope table.name) ≡ None
     → columns_fault (table_named checker_scope table.name) (listed_columns names) ≡ None → IsInserted e known checker_scope resolver_scope table names
-insert_columns e c known is checker_scope resolver_scope a table names there listed =
+insert_columns e known is checker_scope resolver_scope a table names there listed =
     let k : IsKnownTable e checker_scope resolver_scope table = known_table e checker_scope resolver_scope a table there in
     let none : columns_fault (Some k.columns) (listed_columns names) ≡ None = ap (λ cs. columns_fault cs (listed_columns names)) (sym k.known) ∙ listed in
-    let some : AreSome k.there.definition.columns (inserted k.columns names) = inserted_some k.columns k.there.definition.columns names k.types (table_columns e c (making.table_of resolver_scope table) k.there k.at) none in
+    let some : AreSome k.there.definition.columns (inserted k.columns names) = inserted_some k.columns k.there.definition.columns names k.types (table_columns e a.columns (making.table_of resolver_scope table) k.there k.at) none in
     let due = inserted_due k.columns k.there.definition.columns names k.types none in record {
       columns = subst (λ cs. AreColumns e (making.table_of resolver_scope table) (inserted cs names)) (sym k.seen) (are_columns e (making.table_of resolver_scope table) k.there (inserted k.columns names) k.at some);
       kinds = due.0;
@@ -200,36 +189,35 @@ record InsertChecked (e : TypingContext) (known : Known) (checker_scope : Checke
   columns : IsInserted e known checker_scope resolver_scope table names
   none : insert_source_fault checker_scope (Some columns.kinds) source ≡ None
 
-insert_checked : (e : TypingContext) → HaveColumns e → (known : Known) → known ≡ known_in e → (checker_scope : CheckerScope) (resolver_scope : ResolverScope) → Agree e checker_scope resolver_scope → (table : Identifier) (names : Option Names) (source : InsertSource)
+insert_checked : (e : TypingContext) (known : Known) → known ≡ known_in e → (checker_scope : CheckerScope) (resolver_scope : ResolverScope) → Agree e checker_scope resolver_scope → (table : Identifier) (names : Option Names) (source : InsertSource)
     → insert_fault checker_scope table (table_named checker_scope table.name) names source ≡ None → InsertChecked e known checker_scope resolver_scope table names source
-insert_checked e c known is checker_scope resolver_scope a table names source none =
+insert_checked e known is checker_scope resolver_scope a table names source none =
     let cs : Option Columns = table_named checker_scope table.name in
     let parts = three_none (table_fault table cs) (columns_fault cs (listed_columns names)) (insert_source_fault checker_scope (inserted_types cs names) source) none in
-    let i : IsInserted e known checker_scope resolver_scope table names = insert_columns e c known is checker_scope resolver_scope a table names parts.0 parts.1 in
+    let i : IsInserted e known checker_scope resolver_scope table names = insert_columns e known is checker_scope resolver_scope a table names parts.0 parts.1 in
     record { columns = i; none = ap (λ ks. insert_source_fault checker_scope ks source) (sym i.types) ∙ parts.2 }
 
-pub insert_values : (e : TypingContext) → HaveColumns e → (known : Known) → known ≡ known_in e → (checker_scope : CheckerScope) (resolver_scope : ResolverScope) → Agree e checker_scope resolver_scope → resolver_scope.row ≡ None → (table : Identifier) (names : Option Names) (rows : Several Values)
+pub insert_values : (e : TypingContext) (known : Known) → known ≡ known_in e → (checker_scope : CheckerScope) (resolver_scope : ResolverScope) → Agree e checker_scope resolver_scope → resolver_scope.row ≡ None → (table : Identifier) (names : Option Names) (rows : Several Values)
     → Each (λ row. AllSource (several row.values)) (several rows) → insert_fault checker_scope table (table_named checker_scope table.name) names (sources.Values rows) ≡ None
     → AreColumns e (making.table_of resolver_scope table) (inserted (making.columns_of resolver_scope table) names)
-    × Each (RowOf e known (letters_of_columns known (making.table_of resolver_scope table) (inserted (making.columns_of resolver_scope table) names))) (map (row_of resolver_scope) (several rows))
-insert_values e c known is checker_scope resolver_scope a r table names rows well none =
-    let f : InsertChecked e known checker_scope resolver_scope table names (sources.Values rows) = insert_checked e c known is checker_scope resolver_scope a table names (sources.Values rows) none in
-    (f.columns.columns, rows_for e c known is checker_scope resolver_scope a r (making.table_of resolver_scope table) (inserted (making.columns_of resolver_scope table) names) f.columns.kinds f.columns.due (several rows) well f.none)
+    × Each (RowOf e (letters_of_columns known (making.table_of resolver_scope table) (inserted (making.columns_of resolver_scope table) names))) (map (row_of resolver_scope) (several rows))
+insert_values e known is checker_scope resolver_scope a r table names rows well none =
+    let f : InsertChecked e known checker_scope resolver_scope table names (sources.Values rows) = insert_checked e known is checker_scope resolver_scope a table names (sources.Values rows) none in
+    (f.columns.columns, rows_for e known is checker_scope resolver_scope a r (making.table_of resolver_scope table) (inserted (making.columns_of resolver_scope table) names) f.columns.kinds f.columns.due (several rows) well f.none)
 
-pub insert_query : (e : TypingContext) → HaveColumns e → (known : Known) → known ≡ known_in e → (checker_scope : CheckerScope) (resolver_scope : ResolverScope) → Agree e checker_scope resolver_scope → (table : Identifier) (names : Option Names) (q : Select) → IsTrue (select_stands q)
+pub insert_query : (e : TypingContext) (known : Known) → known ≡ known_in e → (checker_scope : CheckerScope) (resolver_scope : ResolverScope) → Agree e checker_scope resolver_scope → (table : Identifier) (names : Option Names) (q : Select) → IsTrue (select_stands q)
     → insert_fault checker_scope table (table_named checker_scope table.name) names (sources.Query q) ≡ None
-    → AreColumns e (making.table_of resolver_scope table) (inserted (making.columns_of resolver_scope table) names) × WellFormedQuery known (resolve_query q resolver_scope).query
+    → AreColumns e (making.table_of resolver_scope table) (inserted (making.columns_of resolver_scope table) names)
     × (item_letters known (resolve_query q resolver_scope).query ≡ letters_of_columns known (making.table_of resolver_scope table) (inserted (making.columns_of resolver_scope table) names))
-insert_query e c known is checker_scope resolver_scope a table names q well none =
+insert_query e known is checker_scope resolver_scope a table names q well none =
     let cs : List ℕ = inserted (making.columns_of resolver_scope table) names in
-    let f : InsertChecked e known checker_scope resolver_scope table names (sources.Query q) = insert_checked e c known is checker_scope resolver_scope a table names (sources.Query q) none in
+    let f : InsertChecked e known checker_scope resolver_scope table names (sources.Query q) = insert_checked e known is checker_scope resolver_scope a table names (sources.Query q) none in
     let counted = query_counted (check_query q checker_scope) f.columns.kinds (may_be (length f.columns.kinds) (items_of (check_query q checker_scope))) refl f.none in
     let g = query_accepted q e checker_scope resolver_scope a well counted.1 in
     let letters : g.2.letters ≡ letters_for (letters_at known.columns (making.table_of resolver_scope table)) cs =
     query_items_for (letters_at known.columns (making.table_of resolver_scope table)) cs f.columns.kinds f.columns.due (check_query q checker_scope) g.0 (resolve_query q resolver_scope).shapes g.2.letters g.1 g.2.shapes f.none in (
       f.columns.columns,
-      subst (λ known. WellFormedQuery known (resolve_query q resolver_scope).query) (sym is) (g.2.well_formed c),
-      ap (λ known. item_letters known (resolve_query q resolver_scope).query) is ∙ g.2.known ∙ letters ∙ letters_are known (making.table_of resolver_scope table) cs,
+      ap (λ known. item_letters known (resolve_query q resolver_scope).query) is ∙ query-letters e (resolve_query q resolver_scope).query g.2.letters g.2.well_typed ∙ letters ∙ letters_are known (making.table_of resolver_scope table) cs,
     )
 
 -- ---- the rows that are changed
@@ -254,7 +242,7 @@ where_well_formed e known is letters s checker_scope resolver_scope cursors tabl
 where_well_formed e known is letters s checker_scope resolver_scope cursors table t at (Some (wheres.Condition x)) h none =
     let y : ResolvedExpr = expr_at (making.on_table resolver_scope table) x in
     subst (λ known. is_test (letters_at known.columns (making.table_of resolver_scope table)) known.variables y ≡ true) (sym is)
-    (subst (λ columns. is_test columns (variables_of e) y ≡ true) (sym (columns_there e (making.table_of resolver_scope table) t at)) (condition_is (columns_of t) (variables_of e) y h))
+    (subst (λ columns. is_test columns (variables_of e) y ≡ true) (sym (columns_there e (making.table_of resolver_scope table) t at)) h)
 where_well_formed e known is letters s checker_scope resolver_scope cursors table t at (Some (wheres.Current n)) h none =
     known_cursor e known letters s resolver_scope table n (cursor_of checker_scope.scopes n) (lookup.cursor n.name resolver_scope.scopes) (cursors n.name) none
 
@@ -265,7 +253,7 @@ set_columns inside cs [] = refl
 set_columns inside cs (x ∷ xs) = ap (λ ns. column_of cs x.column ∷ ns) (set_columns inside cs xs)
 
 change_is : (e : TypingContext) (t : ResolvedTable) (s : ResolvedSet) → IsChange e t s → is_set (columns_of t) (variables_of e) s ≡ true
-change_is e t s h = subst (λ k. goes_as k (row_type_of (columns_of t) (variables_of e) s.source) ≡ true) (sym (ap letter_or h.1)) h.2.letter
+change_is e t s h = subst (λ k. goes_as k (row_type_of (columns_of t) (variables_of e) s.source) ≡ true) (sym (ap letter_or h.1)) h.2
 
 changes_are : (e : TypingContext) (t : ResolvedTable) (ss : List ResolvedSet) → Each (IsChange e t) ss → list_all (is_set (columns_of t) (variables_of e)) ss ≡ true
 changes_are e t [] h = refl

@@ -1,4 +1,4 @@
--- Accepted queries are well-formed, where each table has a column, and their items have letters of their own.
+-- The items of accepted queries have letters of their own.
 use Rattle.std.proofs.Common.{◌≡◌, true, List, [], ◌∷◌, None, sym, subst}
 use Rattle.std.specs.Prelude.{IsTrue}
 use Rattle.psm_exprcode.specs.declared.op.Letter.{Letter}
@@ -12,16 +12,13 @@ use Rattle.psm_resolve_expr.specs.ResolverScope.{ResolverScope}
 use Rattle.psm_exprgen.specs.declared.known.Known.{Known}
 use Rattle.psm_exprgen.specs.Queries.{item_letters}
 use Rattle.psm_typing.specs.TypingContext.{Each, TypingContext}
-use Rattle.psm_wellformed.specs.Queries.{WellFormedQuery, has_rows, items_of}
+use Rattle.psm_wellformed.specs.Queries.{has_rows, items_of}
 use Rattle.psm_checker_sound.specs.Agreement.{Agree, AllTypeCheck, TypeChecks}
 use Rattle.psm_checker_sound.specs.Places.{IsTyped}
 use Rattle.psm_checker_sound.specs.Stands.{select_stands}
-use Rattle.psm_checker_sound.proofs.WellFormedParts.{HaveColumns, known_in}
+use Rattle.psm_wellformed.proofs.Queries.{known_in, query-letters}
 use Rattle.psm_checker_sound.proofs.Queries.{IsItem, ItemsAre}
 use Rattle.psm_checker_sound.proofs.Whole.{query_accepted}
-
-pub well_formed-queries : (e : TypingContext) (known : Known) → HaveColumns e → known ≡ known_in e → (checker_scope : CheckerScope) (resolver_scope : ResolverScope) → Agree e checker_scope resolver_scope → (q : Select) → IsTrue (select_stands q) → query_fault (check_query q checker_scope) ≡ None → WellFormedQuery known (resolve_query q resolver_scope).query
-well_formed-queries e known c is checker_scope resolver_scope a q well none = subst (λ known. WellFormedQuery known (resolve_query q resolver_scope).query) (sym is) ((query_accepted q e checker_scope resolver_scope a well none).2.well_formed c)
 
 -- ---- the letters of items
 
@@ -51,7 +48,7 @@ pub well_formed-letters : (e : TypingContext) (known : Known) → known ≡ know
     → AllTypeCheck (resolve_query q resolver_scope).shapes (item_letters known (resolve_query q resolver_scope).query)
 well_formed-letters e known is checker_scope resolver_scope a q well none = let g = query_accepted q e checker_scope resolver_scope a well none in
     subst (λ known. AllTypeCheck (resolve_query q resolver_scope).shapes (item_letters known (resolve_query q resolver_scope).query)) (sym is)
-    (subst (AllTypeCheck (resolve_query q resolver_scope).shapes) (sym g.2.known) (items_type_check g.0 (resolve_query q resolver_scope).shapes g.2.letters g.2.shapes))
+    (subst (AllTypeCheck (resolve_query q resolver_scope).shapes) (sym (query-letters e (resolve_query q resolver_scope).query g.2.letters g.2.well_typed)) (items_type_check g.0 (resolve_query q resolver_scope).shapes g.2.letters g.2.shapes))
 
 pub well_formed-typed : (e : TypingContext) (checker_scope : CheckerScope) (resolver_scope : ResolverScope) → Agree e checker_scope resolver_scope → (q : Select) → IsTrue (select_stands q) → query_fault (check_query q checker_scope) ≡ None → Each IsTyped (resolve_query q resolver_scope).shapes
 well_formed-typed e checker_scope resolver_scope a q well none = let g = query_accepted q e checker_scope resolver_scope a well none in items_typed g.0 (resolve_query q resolver_scope).shapes g.2.letters g.2.shapes

@@ -38,7 +38,7 @@ use Rattle.psm_typing.specs.Queries.{IsRowTest}
 use Rattle.psm_typing.specs.TypingContext.{TypingContext, letters_of, variables_of}
 use Rattle.psm_checker_sound.specs.Agreement.{Agree, HaveTypes}
 use Rattle.psm_checker_sound.specs.Stands.{Standing, as_operand, as_source, chain_link_stands, chain_link_stands_layer, may_be, pick_stands, pick_stands_layer, select_stands, select_stands_layer, stands, stands_layer, when_stands, when_stands_layer}
-use Rattle.psm_checker_sound.proofs.Judging.{OnRow, goes_as_row_type, row_type_at}
+use Rattle.psm_checker_sound.proofs.Judging.{OnRow, row_type_at}
 use Rattle.psm_checker_sound.proofs.Parts.{Part, as_condition-clean, neither, operand_source, tested}
 use Rattle.psm_checker_sound.proofs.Forms.{IsChainLink}
 use Rattle.psm_checker_sound.proofs.Choices.{IsWhen}
@@ -121,7 +121,7 @@ abbrev resolver_scope_on : ResolverScope → Identifier → Option Identifier �
 resolver_scope_on resolver_scope table alias columns = resolver_scopes.on_row resolver_scope (record { name = table.name; alias = spelling alias; columns = columns })
 
 agree_on : (e : TypingContext) (checker_scope : CheckerScope) (resolver_scope : ResolverScope) → Agree e checker_scope resolver_scope → (table : Identifier) (alias : Option Identifier) (columns : Columns) → Agree e (seen_on checker_scope table alias columns) (resolver_scope_on resolver_scope table alias columns)
-agree_on e checker_scope resolver_scope a table alias columns = record { tables = a.tables; functions = a.functions; scopes = a.scopes; row = refl; known_tables = a.known_tables; known_functions = a.known_functions; slots = a.slots }
+agree_on e checker_scope resolver_scope a table alias columns = record { tables = a.tables; functions = a.functions; scopes = a.scopes; row = refl; columns = a.columns; known_tables = a.known_tables; known_functions = a.known_functions; slots = a.slots }
 
 -- a query with its parts, where its table is known so
 abbrev checked_with : CheckerScope → Several P → Identifier → Option Identifier → Option E → Option Columns → QueryChecked
@@ -142,7 +142,7 @@ test_good e types checker_scope resolver_scope a f None well none = tt
 test_good e types checker_scope resolver_scope a f (Some x) well none =
     let part : Part e (OnRow types) (stands x.0) (check_expr x.0 checker_scope) (resolve_expr x.0 resolver_scope) = x.1 e checker_scope resolver_scope (OnRow types) a f in
     let shaped = as_condition-clean (check_expr x.0 checker_scope) (part (operand_source (stands x.0) well)).clean none in
-    goes_as_row_type B (row_type_at e types (resolve_expr x.0 resolver_scope).expr) (tested e (OnRow types) (stands x.0) (check_expr x.0 checker_scope) (resolve_expr x.0 resolver_scope) part well shaped)
+    is_of_row_type B (row_type_at e types (resolve_expr x.0 resolver_scope).expr) (tested e (OnRow types) (stands x.0) (check_expr x.0 checker_scope) (resolve_expr x.0 resolver_scope) part well shaped)
 
 query_with : (e : TypingContext) (checker_scope : CheckerScope) (resolver_scope : ResolverScope) → Agree e checker_scope resolver_scope → (ps : Several P) (table : Identifier) (alias : Option Identifier) (test : Option E)
     → list_all (λ well. well) (map pick_stands (map (λ e. e.0) (ps.first ∷ ps.rest))) ≡ true → may_be as_operand (option_map stands (option_map (λ e. e.0) test)) ≡ true
@@ -169,7 +169,7 @@ query_with e checker_scope resolver_scope a ps table alias test well true_test (
     let from : h.place ≡ p.0 = omega (arith, h.from) in (
       all_items p.1 f.picks,
       all_items_of p.1 f.picks others.0,
-      query_resolved_of e (all_items p.1 f.picks) p.0 h.table (all_at inner_resolver_scope (map resolve_pick (map (λ e. e.0) (ps.first ∷ ps.rest)))) (any_at inner_resolver_scope (option_map resolve_expr (option_map (λ e. e.0) test)))
+      query_resolved_of e a.columns (all_items p.1 f.picks) p.0 h.table (all_at inner_resolver_scope (map resolve_pick (map (λ e. e.0) (ps.first ∷ ps.rest)))) (any_at inner_resolver_scope (option_map resolve_expr (option_map (λ e. e.0) test)))
           (subst (λ i. slice_get e.file.tables i ≡ Some h.table) from h.there) items (test_good e types inner_checker_scope inner_resolver_scope inner h.types test true_test others.2)
           (λ given. items_some p.1 (check_pick ps.first.0 inner_checker_scope) (seen inner_checker_scope (map check_pick (map (λ e. e.0) ps.rest))) (types_some p.1 h.table.definition.columns h.types given)),
       resolve_rows e types p.1 p.0 f.picks (all_at inner_resolver_scope (map resolve_pick (map (λ e. e.0) (ps.first ∷ ps.rest)))) (any_at inner_resolver_scope (option_map resolve_expr (option_map (λ e. e.0) test))) picks parts.0,

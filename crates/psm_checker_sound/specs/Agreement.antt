@@ -1,5 +1,5 @@
 -- What is seen where a file is checked, what is seen where its names are resolved, and the typing context that then stands: they agree.
-use Rattle.std.specs.Prelude.{◌≡◌, IsTrue, List, [], ◌∷◌, filter, map, Option, Some, None}
+use Rattle.std.specs.Prelude.{◌≡◌, IsTrue, true, List, [], ◌∷◌, filter, map, Option, Some, None}
 use Rattle.psm_value.specs.declared.sqltype.SqlType.{SqlType}
 use Rattle.psm_exprcode.specs.declared.op.Letter.{Letter}
 use Rattle.psm_exprcode.specs.declared.op.Letter.TheVariants.{N, T, B}
@@ -20,6 +20,7 @@ use Rattle.psm_resolve_expr.specs.ResolverScope.{ResolverScope}
 use Rattle.psm_resolved.specs.declared.file.ResolvedRoutine.{ResolvedRoutine}
 use Rattle.psm_resolved.specs.declared.file.ResolvedTable.{ResolvedTable}
 use Rattle.psm_table.specs.Definition.{kinds_of}
+use Rattle.psm_code.specs.Rules.{is_some}
 use Rattle.psm_meaning.specs.Calls.{returns}
 use Rattle.psm_typing.specs.TypingContext.{Each, TypingContext, taken_by}
 use Rattle.std.specs.Prelude.{slice_get}
@@ -97,11 +98,16 @@ AreFunctions (s ∷ ss) (result ∷ results) (r ∷ rs) = IsFunction s result r 
 
 -- ---- agreement
 
+-- each table has a column, so that all columns of a table are some
+abbrev pub HaveColumns : TypingContext → Type 0
+HaveColumns e = Each (λ t. is_some t.definition.columns ≡ true) e.file.tables
+
 pub record Agree (e : TypingContext) (checker_scope : CheckerScope) (resolver_scope : ResolverScope) : Type 0 where
   pub tables : checker_scope.symbols.tables ≡ resolver_scope.symbols.tables
   pub functions : checker_scope.symbols.functions ≡ resolver_scope.symbols.functions
   pub scopes : map kinds_in checker_scope.scopes ≡ map kinds_in resolver_scope.scopes
   pub row : checker_scope.row ≡ resolver_scope.row
+  pub columns : HaveColumns e
   pub known_tables : AreTables resolver_scope.symbols.tables e.file.tables
   pub known_functions : AreFunctions resolver_scope.symbols.functions.signatures resolver_scope.symbols.functions.results (filter (λ r. returns r.returns) e.file.routines)
   pub slots : Each (HaveSlots e.routine.slots) resolver_scope.scopes

@@ -38,16 +38,13 @@ use Rattle.psm_codegen.specs.Simples.{CallArguments, Declares, Default, Deletes,
 use Rattle.psm_codegen.specs.Simples as written
 use Rattle.psm_codegen.proofs.Growing.{Grown}
 use Rattle.psm_codegen.proofs.There.{there_at}
-use Rattle.psm_wellformed.specs.Expressions.{PerhapsWellFormed}
-use Rattle.psm_wellformed.specs.Simples.{AreSets, WellFormedArguments, WellFormedSimple, WellFormedWhere, RowOf}
-use Rattle.psm_wellformed.specs.Statements.{WellFormedDeclaration}
+use Rattle.psm_wellformed.specs.Simples.{AreSets, WellFormedSimple, WellFormedWhere, RowOf}
 use Rattle.psm_typing.specs.TypingContext.{Each, TypingContext}
 use Rattle.psm_typing.specs.Statements.{AreArguments, IsDeclaration, IsDefault, IsMessage, IsSimple, StatementScope}
 use Rattle.psm_typing.proofs.Answers.{each-append}
 use Rattle.psm_codegen_wellformed.proofs.Asked.{Clear, arguments-clear, asked-clear, writes-clear}
 use Rattle.psm_codegen_wellformed.proofs.Faultless.{Faultless}
 use Rattle.psm_codegen_wellformed.proofs.PlansWellFormed.{IsHere, delete-faultless, delete_all-faultless, delete_at-faultless, insert-faultless, insert_query-faultless, update-faultless, update_at-faultless}
-use Rattle.psm_codegen_wellformed.proofs.WellFormedParts.{of_just}
 use Rattle.psm_codegen_wellformed.proofs.QueriesWellFormed.{Holds}
 use Rattle.psm_codegen_wellformed.proofs.TypedOperands.{exprs-well_typed}
 
@@ -115,34 +112,34 @@ module _ {e : TypingContext} {known : Known} {code : RawCode} {r : RawRoutine} (
   module _ {context resume : ℕ} where
     -- ---- declarations
 
-    default-clear : (k : Letter) {j : Letter} {d : Option ResolvedExpr} {w v : Written} → Default known context resume j d w v → IsDefault e d k → PerhapsWellFormed known true d → Clear code r w → Clear code r v
-    default-clear k written.no_default t p c = c
-    default-clear k (written.default a) t p c = writes-clear holds a (k, t) (of_just p) c
+    default-clear : (k : Letter) {j : Letter} {d : Option ResolvedExpr} {w v : Written} → Default known context resume j d w v → IsDefault e d k → Clear code r w → Clear code r v
+    default-clear k written.no_default t c = c
+    default-clear k (written.default a) t c = writes-clear holds a (true, k, t) c
 
-    pub declares-clear : {ds : List ResolvedDeclaration} {w v : Written} → Declares known context resume ds w v → Each (IsDeclaration e) ds → Each (WellFormedDeclaration known) ds → Clear code r w → Clear code r v
-    declares-clear written.no_declaration t p c = c
-    declares-clear (written.declaration {x = x} {u = u} a rest) t p c =
-        declares-clear rest t.1 p.1 (clear-as code r u (queries-copied context resume x.slots u) (default-clear _ a t.0.2 p.0.1 c))
+    pub declares-clear : {ds : List ResolvedDeclaration} {w v : Written} → Declares known context resume ds w v → Each (IsDeclaration e) ds → Clear code r w → Clear code r v
+    declares-clear written.no_declaration t c = c
+    declares-clear (written.declaration {x = x} {u = u} a rest) t c =
+        declares-clear rest t.1 (clear-as code r u (queries-copied context resume x.slots u) (default-clear _ a t.0.2 c))
 
     -- ---- parts of simple statements
 
-    call-clear : {letters : List Letter} {n : ℕ} {args : List ResolvedArgument} (ps : List ResolvedParameter) {w v : Written} → CallArguments known context resume letters n args w v → AreArguments e args ps → WellFormedArguments e known args ps
+    call-clear : {letters : List Letter} {n : ℕ} {args : List ResolvedArgument} (ps : List ResolvedParameter) {w v : Written} → CallArguments known context resume letters n args w v → AreArguments e args ps
         → Clear code r w → Clear code r v
-    call-clear ps written.no_argument t p c = c
-    call-clear [] (written.in_argument a rest) t p c = absurd t
-    call-clear (x ∷ ps) (written.in_argument a rest) t p c = call-clear ps rest t.1 p.1 (writes-clear holds a (_, t.0.1) p.0 c)
-    call-clear [] (written.out_argument rest) t p c = absurd t
-    call-clear (x ∷ ps) (written.out_argument rest) t p c = call-clear ps rest t.1 p.1 c
-    call-clear [] (written.inout_argument rest) t p c = absurd t
-    call-clear (x ∷ ps) (written.inout_argument rest) t p c = call-clear ps rest t.1 p.1 c
+    call-clear ps written.no_argument t c = c
+    call-clear [] (written.in_argument a rest) t c = absurd t
+    call-clear (x ∷ ps) (written.in_argument a rest) t c = call-clear ps rest t.1 (writes-clear holds a (_, _, t.0.1) c)
+    call-clear [] (written.out_argument rest) t c = absurd t
+    call-clear (x ∷ ps) (written.out_argument rest) t c = call-clear ps rest t.1 c
+    call-clear [] (written.inout_argument rest) t c = absurd t
+    call-clear (x ∷ ps) (written.inout_argument rest) t c = call-clear ps rest t.1 c
 
-    signals-clear : {without with_message : Instruction} {m : Option ResolvedExpr} {w v : Written} → Signals known context resume without with_message m w v → IsMessage e m → PerhapsWellFormed known true m → Clear code r w → Clear code r v
-    signals-clear written.no_message t p c = c
-    signals-clear (written.message a) t p c = writes-clear holds a (T, t) (of_just p) c
+    signals-clear : {without with_message : Instruction} {m : Option ResolvedExpr} {w v : Written} → Signals known context resume without with_message m w v → IsMessage e m → Clear code r w → Clear code r v
+    signals-clear written.no_message t c = c
+    signals-clear (written.message a) t c = writes-clear holds a (true, T, t) c
 
-    rows-clear : (ks : List Letter) {letters : List Letter} {rows : List (List ResolvedExpr)} {w v : Written} → WritesRows known context resume letters rows w v → Each (RowOf e known ks) rows → Clear code r w → Clear code r v
+    rows-clear : (ks : List Letter) {letters : List Letter} {rows : List (List ResolvedExpr)} {w v : Written} → WritesRows known context resume letters rows w v → Each (RowOf e ks) rows → Clear code r w → Clear code r v
     rows-clear ks written.no_row p c = c
-    rows-clear ks (written.row a rest) p c = rows-clear ks rest p.1 (arguments-clear holds a (exprs-well_typed p.0.0) p.0.1 c)
+    rows-clear ks (written.row a rest) p c = rows-clear ks rest p.1 (arguments-clear holds a (exprs-well_typed p.0) c)
 
   -- ---- plans
 
@@ -168,31 +165,31 @@ module _ {e : TypingContext} {known : Known} {code : RawCode} {r : RawRoutine} (
 
   pub simple-fine : (letters : List (List Letter)) (s : StatementScope) → Each (IsHere known r) s.cursors → {context resume : ℕ} {enclosing : List EnclosingBlock} {x : ResolvedSimple} {p q : FunctionBuilder} → WritesSimple known context resume enclosing x p q
       → IsSimple e s x → WellFormedSimple e known letters s x → Inside q r → Fine code r p → Fine code r q
-  simple-fine letters s each (written.set a) t y k f = (writes-clear holds a (_, t.source) y f.0, f.1, f.2)
+  simple-fine letters s each (written.set a) t y k f = (writes-clear holds a (_, _, t.source) f.0, f.1, f.2)
   simple-fine letters s each {context = context} {resume = resume} (written.call {procedure = procedure} {args = args} {p = p} {w = w} a) t y k f =
       let n = procedure_number known procedure in
       let after = puts context resume (instruction.Call n) (more_operands p w) (letters_at known.gives n) w in
-      (clear-as code r w (queries-stored context resume (λ slot. instruction.Store slot) (slots_given args) after) (call-clear t.0.parameters a t.2 (y.1 t.0 t.1) f.0), f.1, f.2)
-  simple-fine letters s each (written.return a) t y k f = (writes-clear holds a (_, t.2) y f.0, f.1, f.2)
+      (clear-as code r w (queries-stored context resume (λ slot. instruction.Store slot) (slots_given args) after) (call-clear t.0.parameters a t.2 f.0), f.1, f.2)
+  simple-fine letters s each (written.return a) t y k f = (writes-clear holds a (_, _, t.2) f.0, f.1, f.2)
   simple-fine letters s each {context = context} {enclosing = enclosing} (written.leave {level = level} {p = p}) t y k f = (clear-as code r p.code (queries-leaves enclosing level context p.code) f.0, f.1, f.2)
   simple-fine letters s each {context = context} {enclosing = enclosing} (written.iterate {level = level} {p = p}) t y k f = (clear-as code r p.code (queries-iterates enclosing level context p.code) f.0, f.1, f.2)
-  simple-fine letters s each (written.signal m) t y k f = (signals-clear m t.1 y.1 f.0, f.1, f.2)
+  simple-fine letters s each (written.signal m) t y k f = (signals-clear m t.1 f.0, f.1, f.2)
   simple-fine letters s each written.resignal t y k f = f
-  simple-fine letters s each (written.resignal_condition m) t y k f = (signals-clear m t.1 y.1 f.0, f.1, f.2)
+  simple-fine letters s each (written.resignal_condition m) t y k f = (signals-clear m t.1 f.0, f.1, f.2)
   simple-fine letters s each {context = context} {resume = resume} (written.diagnostics_of_statement {area = area} {is = is} {p = p}) t y k f = (clear-as code r p.code (queries-statement context resume area is p.code) f.0, f.1, f.2)
   simple-fine letters s each {context = context} {resume = resume} (written.diagnostics_of_condition {area = area} {number = number} {is = is} {p = p}) t y k f =
       (clear-as code r p.code (queries-condition context resume area is (applied context resume (number_op number) 0 N p.code)) f.0, f.1, f.2)
   simple-fine letters s each {context = context} {resume = resume} (written.select_into {query = query} {slots = slots} {p = p} {code = made} m) t y k f =
       let asked = with_query made (cleared context p) in
       let row = puts context resume (instruction.Row (length p.code.queries)) 0 (item_letters known query) asked in
-      (clear-as code r asked (queries-stored context resume (λ slot. instruction.FetchStore slot) slots row) (asked-clear holds (cleared context p) f.0 m y.0 t.1), f.1, f.2)
+      (clear-as code r asked (queries-stored context resume (λ slot. instruction.FetchStore slot) slots row) (asked-clear holds (cleared context p) f.0 m t.1), f.1, f.2)
   simple-fine letters s each (written.insert {table = table} {columns = columns} {rows = rows} {p = p} w) t y k f =
       (rows-clear _ w y.2 f.0, f.1, with-plan (plans.Insert table columns (length rows)) p.plans f.2 (insert-faultless holds table t.0 t.1 columns (length rows) y.1))
   simple-fine letters s each {context = context} (written.insert_query {table = table} {columns = columns} {p = p} {code = made} m) t y k f =
       let number = length p.code.queries in (
-        asked-clear holds (cleared context p) f.0 m y.2 t.2.1,
+        asked-clear holds (cleared context p) f.0 m t.2.1,
         f.1,
-        with-plan (plans.InsertQuery table columns number) p.plans f.2 (insert_query-faultless holds table t.0 t.1 columns number y.1 m (there_at p.code.queries k.asked) y.3),
+        with-plan (plans.InsertQuery table columns number) p.plans f.2 (insert_query-faultless holds table t.0 t.1 columns number y.1 m (there_at p.code.queries k.asked) y.2),
       )
   simple-fine letters s each (written.update {table = table} {sets = sets} {rows = x} {p = p} {plan = plan} u) t y k f = (f.0, f.1, with-plan plan p.plans f.2 (updates-faultless s table t.0 sets x plan t.1 each u y.1 y.2))
   simple-fine letters s each (written.delete {table = table} {rows = x} {p = p} {plan = plan} d) t y k f = (f.0, f.1, with-plan plan p.plans f.2 (deletes-faultless s table t.0 x plan t.1 each d y.1))

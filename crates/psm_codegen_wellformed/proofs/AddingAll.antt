@@ -92,7 +92,7 @@ module _ {e : TypingContext} {known : Known} {code : RawCode} {r : RawRoutine} (
       let c = cursor_of x (length p.code.queries) in
       let here : Inside (with_cursor known x made p) r = inside-earlier {but = no_context} (grown-cursors others) i in
       let mine : cursor_fault r c ≡ None = cursor-faultless holds c m well_formed.0.rows (there_at p.code.queries here.asked) in
-      cursors-fine others is.1 well_formed.1 i (asked-clear holds p.code f.0 m well_formed.0.query is.0.query, each-append (λ y. cursor_fault r y ≡ None) p.cursors (c ∷ []) f.1 (mine, tt), f.2)
+      cursors-fine others is.1 well_formed.1 i (asked-clear holds p.code f.0 m is.0.query, each-append (λ y. cursor_fault r y ≡ None) p.cursors (c ∷ []) f.1 (mine, tt), f.2)
 
   passed-fine : (context start : ℕ) (hs : List ResolvedHandler) (p : FunctionBuilder) → Fine code r p → Fine code r (passed context start hs p)
   passed-fine context start [] p f = f
@@ -115,17 +115,17 @@ module _ {e : TypingContext} {known : Known} {code : RawCode} {r : RawRoutine} (
         let others = counts-split (length started.cursors) (cursors_in_handlers o.handlers) (cursors_in o.statements) (length c.cursors) mine.1 (length b.cursors) (counted-handlers handlers) in
         let own = cursors-here (length started.cursors) cursors i_a mine.0 in
         let seen = each-append (IsHere known r) o.cursors s.cursors own each in
-        let first = cursors-fine cursors (declared-in well_formed n) parts.cursors i_a (declares-clear holds declarations parts.declared parts.well_formed f.0, f.1, f.2) in
+        let first = cursors-fine cursors (declared-in well_formed n) parts.cursors i_a (declares-clear holds declarations parts.declared f.0, f.1, f.2) in
         let actions = handlers-fine seen handlers parts.actions i_b others.0 (passed-fine k (at b) o.handlers entered first) in
         all-fine seen statements parts.statements i others.1 actions
     statement-fine {x = x} each (written.loop {p = p} {c = c} level ss n all) well_formed i count f = all-fine each all (of_loop (parted well_formed n)) i (counts-as (length p.cursors) (length c.cursors) (cursors-out x n) count) f
     statement-fine {x = x} each (written.while {p = p} {c = c} level test ss n t all) well_formed i count f =
         let parts = of_while (parted well_formed n) in
-        all-fine each all parts.1 i (counts-as (length p.cursors) (length c.cursors) (cursors-out x n) count) (writes-clear holds t (B, parts.0.0) parts.0.1 f.0, f.1, f.2)
+        all-fine each all parts.1 i (counts-as (length p.cursors) (length c.cursors) (cursors-out x n) count) (writes-clear holds t (false, B, parts.0) f.0, f.1, f.2)
     statement-fine {x = x} each (written.repeat {p = p} {c = c} level ss until n all t) well_formed i count f =
         let parts = of_repeat (parted well_formed n) in
         let body = all-fine each all parts.0 (record { asked = begins-before (grows-writes t).queries i.asked; declared = i.declared }) (counts-as (length p.cursors) (length c.cursors) (cursors-out x n) count) f in
-        (writes-clear holds t (B, parts.1.0) parts.1.1 body.0, body.1, body.2)
+        (writes-clear holds t (false, B, parts.1) body.0, body.1, body.2)
     statement-fine {x = x} each (written.if_ {p = p} {b = b} {c = c} branches otherwise n bs all) well_formed i count f =
         let split = counts-split (length p.cursors) (cursors_in_branches branches) (cursors_in otherwise) (length c.cursors) (counts-as (length p.cursors) (length c.cursors) (cursors-out x n) count) (length b.cursors) (counted-branches bs) in
         let parts = of_if (parted well_formed n) in
@@ -138,7 +138,7 @@ module _ {e : TypingContext} {known : Known} {code : RawCode} {r : RawRoutine} (
         let split = counts-split (length p.cursors) (cursors_in_branches branches) (cursors_in otherwise) (length c.cursors) (counts-as (length p.cursors) (length c.cursors) (cursors-out x n) count) (length b.cursors) (counted-comparisons bs) in
         let parts = of_compared (parted well_formed n) in
         let i_b : Inside b r = inside-earlier (grown-else y) i in
-        else-fine each y parts.otherwise i split.1 (comparisons-fine each bs parts.branches i_b split.0 (writes-clear holds t (parts.letter, parts.operand.0) parts.operand.1 f.0, f.1, f.2))
+        else-fine each y parts.otherwise i split.1 (comparisons-fine each bs parts.branches i_b split.0 (writes-clear holds t (false, parts.letter, parts.operand) f.0, f.1, f.2))
     statement-fine {s = s} {context = context} {x = x} each (written.for_ {p = p} {a = a} {c = c} level head ss n cursors all) well_formed i count f =
         let k = next_context a in
         let exit = suc (at c) in
@@ -170,7 +170,7 @@ module _ {e : TypingContext} {known : Known} {code : RawCode} {r : RawRoutine} (
         let split = counts-split (length p.cursors) (cursors_of_branch x) (cursors_in_branches xs) (length c.cursors) count (length b.cursors) (omega (arith, ap length (branch_cursors-out x), counted-all all)) in
         let parts = of_branch well_formed in
         let i_b : Inside b r = inside-earlier (grown-branches bs) i in
-        let body = all-fine each all parts.1 i_b (counts-as (length p.cursors) (length b.cursors) (branch_cursors-out x) split.0) (writes-clear holds t (k, parts.0.0) parts.0.1 f.0, f.1, f.2) in
+        let body = all-fine each all parts.1 i_b (counts-as (length p.cursors) (length b.cursors) (branch_cursors-out x) split.0) (writes-clear holds t (false, k, parts.0) f.0, f.1, f.2) in
         branches-fine each bs parts.2 i split.1 body
 
     comparisons-fine : {s : StatementScope} {context out : ℕ} {enclosing : List EnclosingBlock} {k : Letter} {bs : List ResolvedBranch} {p q : FunctionBuilder} → Each (IsHere known r) s.cursors → WritesComparisons known context enclosing out bs p q
@@ -180,7 +180,7 @@ module _ {e : TypingContext} {known : Known} {code : RawCode} {r : RawRoutine} (
         let split = counts-split (length p.cursors) (cursors_of_branch x) (cursors_in_branches xs) (length c.cursors) count (length b.cursors) (omega (arith, ap length (branch_cursors-out x), counted-all all)) in
         let parts = of_branch well_formed in
         let i_b : Inside b r = inside-earlier (grown-comparisons bs) i in
-        let body = all-fine each all parts.1 i_b (counts-as (length p.cursors) (length b.cursors) (branch_cursors-out x) split.0) (writes-clear holds t (k, parts.0.0) parts.0.1 f.0, f.1, f.2) in
+        let body = all-fine each all parts.1 i_b (counts-as (length p.cursors) (length b.cursors) (branch_cursors-out x) split.0) (writes-clear holds t (false, k, parts.0) f.0, f.1, f.2) in
         comparisons-fine each bs parts.2 i split.1 body
 
     else-fine : {s : StatementScope} {context : ℕ} {enclosing : List EnclosingBlock} {xs : List ResolvedStatement} {p q : FunctionBuilder} → Each (IsHere known r) s.cursors → WritesElse known context enclosing xs p q → AreWellFormed e known letters s xs

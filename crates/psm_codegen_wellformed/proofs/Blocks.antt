@@ -127,7 +127,7 @@ module _ {e : TypingContext} {known : Known} {code : RawCode} {r : RawRoutine} (
       → WritesHandlers known (next_context a) (out-ResolvedBlock block).handlers
       (passed (next_context a) (at b) (out-ResolvedBlock block).handlers (block_entered context (out-ResolvedBlock block).atomic (at c) (map (λ x. x.number) (out-ResolvedBlock block).cursors) a)) b
       → WritesStatements known (next_context a) (Block level (next_context a) context (at c) ∷ enclosing) (out-ResolvedBlock block).statements b c
-      → Each (IsDeclaration e) (out-ResolvedBlock block).declarations → Each (WellFormedDeclaration known) (out-ResolvedBlock block).declarations
+      → Each (IsDeclaration e) (out-ResolvedBlock block).declarations → Each WellFormedDeclaration (out-ResolvedBlock block).declarations
       → GoodActions code r (passed (next_context a) (at b) (out-ResolvedBlock block).handlers (block_entered context (out-ResolvedBlock block).atomic (at c) (map (λ x. x.number) (out-ResolvedBlock block).cursors) a)) b
       → Good code r (next_context a) (Block level (next_context a) context (at c) ∷ enclosing) b c → Good code r context enclosing p (with_plain (next_context a) (instruction.Exit (next_context a)) c)
   compound-good {context} {enclosing} level block p a b c w q declares cursors handlers statements typed well_formed actions list =
@@ -145,7 +145,7 @@ module _ {e : TypingContext} {known : Known} {code : RawCode} {r : RawRoutine} (
       let grown_p : Grown no_context entered (passed inner (at b) hs entered) = grown-passed inner (at b) hs entered in
       let grown_e : Grown no_context a entered = grown-entered context atomic (at c) numbers a in
       let grown_c : Grown no_context (with_code w p) a = grown-cursors cursors in
-      let declared : w.stack ≡ [] = declares-stack keeps declares typed well_formed ∙ q in
+      let declared : w.stack ≡ [] = declares-stack keeps declares typed ∙ q in
       let none : a.code.stack ≡ [] = cursors-stack cursors ∙ declared in
       let same : at a ≡ here w = cursors-here cursors in
       let enter_starts : Kept entered r → Follows r (here w) context w.stack = λ k. follows-as (line-starts context None (instruction.Enter inner) a.code k.code.lines) same (cursors-stack cursors) in

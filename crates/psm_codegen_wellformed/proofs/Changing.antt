@@ -69,7 +69,7 @@ module _ {e : TypingContext} {known : Known} {code : RawCode} {r : RawRoutine} {
 
   -- INSERT of values, where the columns are of the letters that are known
   pub insert-well_formed : (table : ℕ) (columns : List ℕ) (rows : List (List ResolvedExpr)) (p : FunctionBuilder) (w : Written) → WritesRows known context resume (letters_of_columns known table columns) rows (cleared context p) w
-      → slice_get r.plans (length p.plans) ≡ Some (plans.Insert table columns (length rows)) → letters_in columns (table_letters code table) ≡ Some (letters_of_columns known table columns) → Each (RowOf e known (letters_of_columns known table columns)) rows
+      → slice_get r.plans (length p.plans) ≡ Some (plans.Insert table columns (length rows)) → letters_in columns (table_letters code table) ≡ Some (letters_of_columns known table columns) → Each (RowOf e (letters_of_columns known table columns)) rows
       → e.routine.returns ≡ None → p.code.stack ≡ [] → WellFormedLines code r context resume p.code (takes context resume (instruction.Data (length p.plans)) (more_operands p w) w) []
   insert-well_formed table columns rows p w a at letters values none q =
       let ls = letters_of_columns known table columns in

@@ -1,5 +1,5 @@
 -- The lines of CASE with an operand are well-formed.
-use Rattle.std.proofs.Common.{arith, ◌≡◌, ◌≤◌, ℕ, suc, true, List, [], ◌∷◌, drop, Some, ap, refl, sym, ◌∙◌}
+use Rattle.std.proofs.Common.{arith, ◌≡◌, ◌≤◌, ℕ, suc, true, List, [], ◌∷◌, drop, Some, ap, refl, sym, ◌∙◌, false}
 use Rattle.std.specs.Prelude.{codes}
 use Rattle.psm_exprcode.specs.declared.op.Letter.{Letter}
 use Rattle.psm_exprcode.specs.declared.op.Letter.TheVariants.{N, B}
@@ -24,7 +24,6 @@ use Rattle.psm_codegen.proofs.Placing.{Kept, kept-earlier}
 use Rattle.psm_typing.specs.TypingContext.{TypingContext}
 use Rattle.psm_codegen_wellformed.specs.Frame.{Follows, Free, WellFormedLines}
 use Rattle.psm_codegen_wellformed.specs.Kept.{Keeps}
-use Rattle.psm_wellformed.specs.Statements.{IsTest}
 use Rattle.psm_codegen_wellformed.proofs.Asking.{drop-does}
 use Rattle.psm_codegen_wellformed.proofs.Forms.{made}
 use Rattle.psm_codegen_wellformed.proofs.Frees.{free-as}
@@ -35,6 +34,7 @@ use Rattle.psm_codegen_wellformed.proofs.WellFormedSequences.{duplicate-well_for
 use Rattle.psm_codegen_wellformed.proofs.Stacks.{last-is, typed-put, writes-stack}
 use Rattle.psm_codegen_wellformed.proofs.Starts.{writes-starts}
 use Rattle.psm_codegen_wellformed.proofs.Statements.{Good}
+use Rattle.psm_typing.specs.Expressions.{IsExpr}
 
 -- what is written for comparisons leaves the operand, and goes to the line out without it
 pub record GoodComparisons (code : RawCode) (r : RawRoutine) (context : ℕ) (enclosing : List EnclosingBlock) (out : ℕ) (k : Letter) (p q : FunctionBuilder) : Type 0 where
@@ -50,18 +50,18 @@ pub put-again : (context out : ℕ) (k : Letter) (p b : FunctionBuilder) → p.c
 put-again context out k p b q h = ap (λ l. l ∷ b.code.stack) (last-is p.code k [] q) ∙ ap (λ s. k ∷ s) h
 
 module _ {e : TypingContext} {known : Known} {code : RawCode} {r : RawRoutine} (keeps : Keeps e known code r) where
-  pub operand-stack : {context resume : ℕ} {j k : Letter} {x : ResolvedExpr} {w v : Written} → Writes known context resume j x w v → IsTest e known x k → w.stack ≡ [] → v.stack ≡ k ∷ []
-  operand-stack {j = j} {k = k} a t q = typed-put j k t.1 (writes-stack keeps a t.0 t.1) ∙ ap (λ s. k ∷ s) q
+  pub operand-stack : {context resume : ℕ} {j k : Letter} {x : ResolvedExpr} {w v : Written} → Writes known context resume j x w v → IsExpr e false x k → w.stack ≡ [] → v.stack ≡ k ∷ []
+  operand-stack {j = j} {k = k} a t q = typed-put j k t (writes-stack keeps a t) ∙ ap (λ s. k ∷ s) q
 
-  pub compared-stack : {context out : ℕ} {x : ResolvedExpr} (k : Letter) (p : FunctionBuilder) (w : Written) → Writes known context out (last_letter p.code) x (applied context out op.Duplicate 0 (last_letter p.code) p.code) w → IsTest e known x k
+  pub compared-stack : {context out : ℕ} {x : ResolvedExpr} (k : Letter) (p : FunctionBuilder) (w : Written) → Writes known context out (last_letter p.code) x (applied context out op.Duplicate 0 (last_letter p.code) p.code) w → IsExpr e false x k
       → p.code.stack ≡ k ∷ [] → w.stack ≡ k ∷ k ∷ k ∷ []
-  compared-stack k p w a t q = typed-put (last_letter p.code) k t.1 (writes-stack keeps a t.0 t.1) ∙ ap (λ l. k ∷ l ∷ p.code.stack) (last-is p.code k [] q) ∙ ap (λ s. k ∷ k ∷ s) q
+  compared-stack k p w a t q = typed-put (last_letter p.code) k t (writes-stack keeps a t) ∙ ap (λ l. k ∷ l ∷ p.code.stack) (last-is p.code k [] q) ∙ ap (λ s. k ∷ k ∷ s) q
 
   drop-well_formed : {context resume : ℕ} (k : Letter) (s : List Letter) (w : Written) → is_value k ≡ true → w.stack ≡ k ∷ s → WellFormedLines code r context resume w (taken context resume op.Drop w) s
   drop-well_formed k s w v q = puts-well_formed (instruction.Operation op.Drop) (codes "DROP") (k ∷ []) [] s 1 w (drop-does k v) (calm-operation op.Drop) refl refl q
 
   pub comparison-good : {context out : ℕ} {enclosing : List EnclosingBlock} {k : Letter} {x : ResolvedExpr} → is_value k ≡ true → (p b c : FunctionBuilder) (w : Written) → p.code.stack ≡ k ∷ []
-      → Writes known context out (last_letter p.code) x (applied context out op.Duplicate 0 (last_letter p.code) p.code) w → IsTest e known x k
+      → Writes known context out (last_letter p.code) x (applied context out op.Duplicate 0 (last_letter p.code) p.code) w → IsExpr e false x k
       → Grown no_context (with_code (taken context out op.Drop (unless_true context out (suc (at b)) (applied context out op.Equal 2 B w))) p) b
       → Good code r context enclosing (with_code (taken context out op.Drop (unless_true context out (suc (at b)) (applied context out op.Equal 2 B w))) p) b
       → Grown no_context (with_code (applied context out (op.Jump out) 0 (last_letter p.code) b.code) b) c
@@ -99,7 +99,7 @@ module _ {e : TypingContext} {known : Known} {code : RawCode} {r : RawRoutine} (
             let at_drop : Follows r (here jump) context jump.stack = line-starts context (Some out) (instruction.Operation op.Drop) jump begins_d.lines in
             let equals : Makes code r op.Equal (k ∷ k ∷ []) B = made op.Equal k (k ∷ k ∷ []) B refl refl refl v refl in
             let compare : WellFormedLines code r context out w equal (B ∷ k ∷ []) = puts-well_formed (instruction.Operation op.Equal) equals.name (k ∷ k ∷ []) (B ∷ []) (k ∷ []) 2 w equals.does (calm-operation op.Equal) refl refl three in
-            let value = well_formed-then (duplicate-well_formed k [] p.code v q) (well_formed-then (operand-part keeps a t.0 t.1) compare) in
+            let value = well_formed-then (duplicate-well_formed k [] p.code v q) (well_formed-then (operand-part keeps a t) compare) in
             let drops = drop-well_formed k [] jump v rested in
             free-join (value.free first there ends begins_e (omega (arith, n2, n3, longer, n1, later, h)) at_jump)
             (free-join (free-as (test-free first there ends to (k ∷ []) equal begins_j.lines tested (omega (arith, n2, n3, longer)) (omega (arith, n2, n3, longer, n1, later, h)) (follows-as at_drop n2 rested) others) refl (sym n2))
@@ -110,7 +110,7 @@ module _ {e : TypingContext} {known : Known} {code : RawCode} {r : RawRoutine} (
       }
 
   -- the operand, the comparisons, and ELSE after a DROP
-  pub comparing-good : {context : ℕ} {enclosing : List EnclosingBlock} {k : Letter} {x : ResolvedExpr} → is_value k ≡ true → (p b c : FunctionBuilder) (w : Written) → p.code.stack ≡ [] → Writes known context (at c) N x p.code w → IsTest e known x k
+  pub comparing-good : {context : ℕ} {enclosing : List EnclosingBlock} {k : Letter} {x : ResolvedExpr} → is_value k ≡ true → (p b c : FunctionBuilder) (w : Written) → p.code.stack ≡ [] → Writes known context (at c) N x p.code w → IsExpr e false x k
       → Grown no_context (with_code w p) b → GoodComparisons code r context enclosing (at c) k (with_code w p) b → Grown no_context (with_code (taken context (at c) op.Drop b.code) b) c
       → Good code r context enclosing (with_code (taken context (at c) op.Drop b.code) b) c → Good code r context enclosing p c
   comparing-good {context} {enclosing} {k} v p b c w q a t grown g grown_rest rest =
@@ -128,7 +128,7 @@ module _ {e : TypingContext} {known : Known} {code : RawCode} {r : RawRoutine} (
         free = λ first there kept f enclosing_all.
             let second = kept-earlier grown_rest kept in
             let inside = kept-earlier last second in
-            let value = operand-part keeps a t.0 t.1 in
+            let value = operand-part keeps a t in
             let drops = drop-well_formed k [] b.code v g.stack in
             free-join (value.free first there f (kept-earlier grown inside).code (omega (arith, longer, n, later)) (follows-as (g.starts inside (fall_through second)) refl (sym operand)))
             (free-join (g.free first there inside (fall_through second) f (omega (arith, n, later)) (enclosing-lower r (at c) (at b) context enclosing (omega (arith, n, later)) enclosing_all))

@@ -22,6 +22,7 @@ use Rattle.psm_codegen_wellformed.proofs.PartsKept.{parts-kept}
 use Rattle.psm_codegen_wellformed.proofs.QueryLetters.{Knows, columns-made, queries-keep}
 use Rattle.psm_codegen_wellformed.proofs.QueriesWellFormed.{Holds}
 use Rattle.psm_codegen_wellformed.specs.Kept.{QueriesKeep}
+use Rattle.psm_wellformed.proofs.Queries.{query-known}
 
 -- ---- a routine
 
@@ -46,6 +47,7 @@ parts-fine file code routine r made well_formed w =
     let holds : Holds e (known_of file routine) code r = record {
       knows = knows-written file code routine r made w well_formed.begin;
       tables = λ n t at. let u = table-made file.tables code.tables n t made.tables at in record { table = u.0; there = u.1; same = u.2 };
+      asks = query-known e;
     } in
     let many : routine.cursors ≡ length w.parts.cursors = omega (arith, counts-to 0 (cursors_of routine.body) routine.cursors well_formed.cursors, counted w.body) in
     statement-fine holds well_formed.letters tt w.body well_formed.well_formed (record { asked = (parts-kept w).code.queries; declared = (parts-kept w).cursors }) (subst (λ n. CountsUp 0 (cursors_of routine.body) n) many well_formed.cursors) (tt, tt, tt)

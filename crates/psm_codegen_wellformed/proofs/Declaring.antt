@@ -1,5 +1,5 @@
 -- Declarations leave no operand, and their first line states none.
-use Rattle.std.proofs.Common.{◌≡◌, ℕ, true, List, [], ◌∷◌, drop, Option, Some, ap, refl, ◌∙◌}
+use Rattle.std.proofs.Common.{◌≡◌, ℕ, List, [], ◌∷◌, drop, Option, Some, ap, refl, ◌∙◌}
 use Rattle.psm_exprcode.specs.declared.op.Letter.{Letter}
 use Rattle.psm_exprcode.specs.declared.op.Op.TheVariants as op
 use Rattle.psm_exprcode.specs.Kinds.{letter_of}
@@ -19,9 +19,6 @@ use Rattle.psm_typing.specs.TypingContext.{Each, TypingContext}
 use Rattle.psm_typing.specs.Statements.{IsDeclaration, IsDefault}
 use Rattle.psm_codegen_wellformed.specs.Frame.{Follows}
 use Rattle.psm_codegen_wellformed.specs.Kept.{Keeps}
-use Rattle.psm_wellformed.specs.Expressions.{PerhapsWellFormed}
-use Rattle.psm_wellformed.specs.Statements.{WellFormedDeclaration}
-use Rattle.psm_codegen_wellformed.proofs.WellFormedParts.{of_just}
 use Rattle.psm_codegen_wellformed.proofs.Putting.{line-starts}
 use Rattle.psm_codegen_wellformed.proofs.Stacks.{writes-stack}
 use Rattle.psm_codegen_wellformed.proofs.Starts.{writes-starts}
@@ -50,10 +47,10 @@ module _ {known : Known} {context resume : ℕ} {r : RawRoutine} where
       default-starts a (begins-earlier (grows-copied context resume x.slots u) before) (copied-starts context resume x.slots u before)
 
 module _ {e : TypingContext} {known : Known} {code : RawCode} {r : RawRoutine} {context resume : ℕ} (keeps : Keeps e known code r) where
-  default-stack : {k : Letter} (j : Letter) {d : Option ResolvedExpr} {w v : Written} → Default known context resume k d w v → IsDefault e d j → PerhapsWellFormed known true d → drop 1 v.stack ≡ w.stack
-  default-stack j written.no_default t p = refl
-  default-stack j (written.default a) t p = ap (drop 1) (writes-stack keeps a t (of_just p))
+  default-stack : {k : Letter} (j : Letter) {d : Option ResolvedExpr} {w v : Written} → Default known context resume k d w v → IsDefault e d j → drop 1 v.stack ≡ w.stack
+  default-stack j written.no_default t = refl
+  default-stack j (written.default a) t = ap (drop 1) (writes-stack keeps a t)
 
-  pub declares-stack : {xs : List ResolvedDeclaration} {w v : Written} → Declares known context resume xs w v → Each (IsDeclaration e) xs → Each (WellFormedDeclaration known) xs → v.stack ≡ w.stack
-  declares-stack written.no_declaration t p = refl
-  declares-stack (written.declaration {x = x} {u = u} a rest) t p = declares-stack rest t.1 p.1 ∙ copied-stack context resume x.slots u ∙ default-stack (letter_of t.0.0) a t.0.2 p.0.1
+  pub declares-stack : {xs : List ResolvedDeclaration} {w v : Written} → Declares known context resume xs w v → Each (IsDeclaration e) xs → v.stack ≡ w.stack
+  declares-stack written.no_declaration t = refl
+  declares-stack (written.declaration {x = x} {u = u} a rest) t = declares-stack rest t.1 ∙ copied-stack context resume x.slots u ∙ default-stack (letter_of t.0.0) a t.0.2

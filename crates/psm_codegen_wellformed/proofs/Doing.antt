@@ -77,22 +77,22 @@ goes h a = record { stack = a.stack h; starts = λ k f. a.starts h k.code; free 
 module _ {e : TypingContext} {known : Known} {code : RawCode} {r : RawRoutine} {context resume : ℕ} (keeps : Keeps e known code r) (is : KeepsRoutine e known r) (procedures : KeepsProcedures e known code) (letters : List (List Letter)) where
   pub simple-good : {enclosing : List EnclosingBlock} {x : ResolvedSimple} {p q : FunctionBuilder} (s : StatementScope) → WritesSimple known context resume enclosing x p q → IsSimple e s x → WellFormedSimple e known letters s x → TypeChecks e known code r p x → Named enclosing s → Kept q r → p.code.stack ≡ []
       → GoodSimple code r context resume enclosing p q
-  simple-good {p = p} block_scope (written.set {slot = slot} {e = x} {w = w} a) t o u n k h = stays h (set-well_formed keeps is slot x p w a t o h)
+  simple-good {p = p} block_scope (written.set {slot = slot} {e = x} {w = w} a) t o u n k h = stays h (set-well_formed keeps is slot x p w a t h)
   simple-good {p = p} block_scope (written.call {procedure = procedure} {args = args} {w = w} a) t o u n k h =
       stays h (call-statement keeps is (procedure_number known procedure) args t.0.parameters p w a (procedures procedure t.0 t.1) o.0 t.2 (o.1 t.0 t.1) h)
-  simple-good {p = p} block_scope (written.return {e = x} {w = w} a) t o u n k h = stays h (return-well_formed keeps is x t.0 p.code w a t.1 t.2 o h)
+  simple-good {p = p} block_scope (written.return {e = x} {w = w} a) t o u n k h = stays h (return-well_formed keeps is x t.0 p.code w a t.1 t.2 h)
   simple-good {enclosing} {p = p} {q = q} block_scope (written.leave {level = level}) t o u n k h = goes h (leaves-well_formed {bound = at q} enclosing level context p.code (ap (is_among level) n.leaves ∙ among-is level block_scope.leaves t))
   simple-good {enclosing} {p = p} {q = q} block_scope (written.iterate {level = level}) t o u n k h = goes h (iterates-well_formed {bound = at q} enclosing level context p.code (ap (is_among level) n.iterates ∙ among-is level block_scope.iterates t))
-  simple-good {p = p} block_scope (written.signal {s = s} {w = w} a) t o u n k h = stays h (signal-well_formed keeps is (condition_number s.condition p.declared) s.message p w a (condition-there r s.condition p.declared k.declared u) t.1 o.1 h)
+  simple-good {p = p} block_scope (written.signal {s = s} {w = w} a) t o u n k h = stays h (signal-well_formed keeps is (condition_number s.condition p.declared) s.message p w a (condition-there r s.condition p.declared k.declared u) t.1 h)
   simple-good {p = p} block_scope written.resignal t o u n k h = stays h (resignal-well_formed keeps is p h)
   simple-good {p = p} block_scope (written.resignal_condition {s = s} {w = w} a) t o u n k h =
-      stays h (resignal_condition-well_formed keeps is (condition_number s.condition p.declared) s.message p w a (condition-there r s.condition p.declared k.declared u) t.1 o.1 h)
+      stays h (resignal_condition-well_formed keeps is (condition_number s.condition p.declared) s.message p w a (condition-there r s.condition p.declared k.declared u) t.1 h)
   simple-good {p = p} block_scope (written.diagnostics_of_statement {area = area} {is = items}) t o u n k h = stays h (statement_diagnostics-well_formed keeps is area items p.code o.1 h)
   simple-good {p = p} block_scope (written.diagnostics_of_condition {area = area} {number = number} {is = items}) t o u n k h = stays h (condition_diagnostics-well_formed keeps is area number items p.code o.0 o.1 o.2 h)
   simple-good {p = p} block_scope (written.select_into {query = query} {slots = slots} {code = made} m) t o u n k h =
       let asked = puts context resume (instruction.Row (length p.code.queries)) 0 (item_letters known query) (with_query made (cleared context p)) in
       let begins : BeginsWith (p.code.queries ++ made ∷ []) r.queries = begins-before (grows-retrieved context resume slots asked).queries k.code.queries in
-      stays h (select_into-well_formed keeps is query made slots p m o.0.is (there_at p.code.queries begins) o.1 h)
+      stays h (select_into-well_formed keeps is query made slots p m (there_at p.code.queries begins) o h)
   simple-good {p = p} block_scope (written.insert {table = table} {columns = columns} {rows = rows} {w = w} a) t o u n k h = stays h (insert-well_formed keeps is table columns rows p w a (there_at p.plans k.plans) u o.2 o.0 h)
   simple-good {p = p} block_scope (written.insert_query {code = made} m) t o u n k h = stays h (changed_query-well_formed keeps is made _ p (there_at p.plans k.plans) refl o.0 h)
   simple-good {p = p} block_scope (written.update {plan = plan} d) t o u n k h = stays h (changed-well_formed keeps is plan p (there_at p.plans k.plans) (updates-none code d) o.0 h)

@@ -42,10 +42,9 @@ use Rattle.psm_typing.specs.Expressions as well_typed
 use Rattle.psm_typing.specs.TypingContext.{TypingContext}
 use Rattle.psm_typing.specs.TypingContext as typing_contexts
 use Rattle.psm_codegen_wellformed.specs.Kept.{Keeps}
-use Rattle.psm_wellformed.specs.Expressions.{AllWellFormed, allows, is_within, takes_null}
-use Rattle.psm_codegen_wellformed.proofs.WellFormedParts.{letter_put, letters_put, put-value, puts-typed}
+use Rattle.psm_codegen_wellformed.proofs.WellFormedParts.{is_typed, letter_put, letters_put, put-value, puts-typed}
 use Rattle.psm_codegen_wellformed.proofs.Putting.{AllMake, AllStay, Makes}
-use Rattle.psm_wellformed.proofs.Typing.{IsLayer, are-same}
+use Rattle.psm_typing.proofs.Inversion.{IsLayer, are-same}
 
 -- ---- letters, the last one first
 
@@ -145,11 +144,12 @@ negating-stays true o h = (h, (refl, tt))
 -- the operands have these letters, and the operations take those that are put for them
 pub record Form (e : TypingContext) (known : Known) (code : RawCode) (r : RawRoutine) (layer : Layer) (k : Letter) : Type 0 where
   pub letters : List Letter
-  pub operands : AreExprs e (operands_of layer) letters
+  pub null : Bool
+  pub operands : AreExprs e null (operands_of layer) letters
   pub makes : AllMake code r (reverse (letters_put N (operands_of layer) letters)) (operations_of layer) k
   pub stays : AllStay (operations_of layer)
   pub some : is_some (operations_of layer) ≡ true
-  pub typed : allows false layer ≡ true
+  pub typed : is_typed layer ≡ true
   pub letter : (v : Written) (s : List Letter) → v.stack ≡ reverse (letters_put N (operands_of layer) letters) ++ s → straight_letter known layer v ≡ k
 
 pub there-mapped : (k : Letter) (o : Option SqlType) → option_map letter_of o ≡ Some k → there o ≡ true
@@ -160,12 +160,13 @@ module _ {e : TypingContext} {known : Known} {code : RawCode} {r : RawRoutine} (
   as-letter : {layer : Layer} {k j : Letter} → k ≡ j → Form e known code r layer j → Form e known code r layer k
   as-letter {layer} q f = subst (Form e known code r layer) (sym q) f
 
-  typed-form : (layer : Layer) (k : Letter) (ks : List Letter) → AreExprs e (operands_of layer) ks → AllWellFormed known false (operands_of layer) → AllMake code r (reverse ks) (operations_of layer) k → AllStay (operations_of layer)
-      → is_some (operations_of layer) ≡ true → allows false layer ≡ true → ((v : Written) (s : List Letter) → v.stack ≡ reverse ks ++ s → straight_letter known layer v ≡ k) → Form e known code r layer k
-  typed-form layer k ks all p m stays some typed l =
-      let same : letters_put N (operands_of layer) ks ≡ ks = puts-typed N (operands_of layer) ks all p in
+  typed-form : (layer : Layer) (k : Letter) (ks : List Letter) → AreExprs e false (operands_of layer) ks → AllMake code r (reverse ks) (operations_of layer) k → AllStay (operations_of layer)
+      → is_some (operations_of layer) ≡ true → is_typed layer ≡ true → ((v : Written) (s : List Letter) → v.stack ≡ reverse ks ++ s → straight_letter known layer v ≡ k) → Form e known code r layer k
+  typed-form layer k ks all m stays some typed l =
+      let same : letters_put N (operands_of layer) ks ≡ ks = puts-typed N (operands_of layer) ks all in
       record {
         letters = ks;
+        null = false;
         operands = all;
         makes = subst (λ js. AllMake code r (reverse js) (operations_of layer) k) (sym same) m;
         stays = stays;
@@ -179,61 +180,62 @@ module _ {e : TypingContext} {known : Known} {code : RawCode} {r : RawRoutine} (
       let letter : option_map letter_of (slice_get (slots_of r) slot) ≡ Some k = sym (slice_get-map letter_of (slots_of r) slot) ∙ ap (λ vs. slice_get vs slot) (keeps.variables ∙ keeps.slots) ∙ h in
       made (op.Variable slot) N [] k (there-mapped k (slice_get (slots_of r) slot) letter) refl refl refl (ap (option_map (λ l. operations.plain (effect (op.Variable slot) N B).mnemonic [] (l ∷ []))) letter)
 
-  one : {x : ResolvedExpr} {k : Letter} → well_typed.IsExpr e x k → AreExprs e (x ∷ []) (k ∷ [])
+  one : {b : Bool} {x : ResolvedExpr} {k : Letter} → well_typed.IsExpr e b x k → AreExprs e b (x ∷ []) (k ∷ [])
   one a = well_typed.more a well_typed.none
 
-  two : {x y : ResolvedExpr} {k j : Letter} → well_typed.IsExpr e x k → well_typed.IsExpr e y j → AreExprs e (x ∷ y ∷ []) (k ∷ j ∷ [])
+  two : {b : Bool} {x y : ResolvedExpr} {k j : Letter} → well_typed.IsExpr e b x k → well_typed.IsExpr e b y j → AreExprs e b (x ∷ y ∷ []) (k ∷ j ∷ [])
   two a b = well_typed.more a (one b)
 
-  three : {x y z : ResolvedExpr} {k j i : Letter} → well_typed.IsExpr e x k → well_typed.IsExpr e y j → well_typed.IsExpr e z i → AreExprs e (x ∷ y ∷ z ∷ []) (k ∷ j ∷ i ∷ [])
+  three : {b : Bool} {x y z : ResolvedExpr} {k j i : Letter} → well_typed.IsExpr e b x k → well_typed.IsExpr e b y j → well_typed.IsExpr e b z i → AreExprs e b (x ∷ y ∷ z ∷ []) (k ∷ j ∷ i ∷ [])
   three a b c = well_typed.more a (two b c)
 
-  pub form : (layer : Layer) (k : Letter) → is_straight layer ≡ true → is_within layer ≡ true → AllWellFormed known (takes_null layer) (operands_of layer) → IsLayer e layer k → Form e known code r layer k
-  form layers.Null k h w p t = absurd (false≢true h)
-  form (layers.Number n) k h w p t = as-letter t (typed-form (layers.Number n) N [] well_typed.none p (made (op.Constant N (data_of.Num n)) N [] N refl refl refl refl refl, tt) (refl, tt) refl refl (λ v s q. refl))
-  form (layers.Text x) k h w p t = as-letter t (typed-form (layers.Text x) T [] well_typed.none p (made (op.Constant T (data_of.Text x)) N [] T refl refl refl refl refl, tt) (refl, tt) refl refl (λ v s q. refl))
-  form (layers.Column i) k h w p t = absurd (false≢true h)
-  form (layers.Variable slot) k h w p t = typed-form (layers.Variable slot) k [] well_typed.none p (variable-made slot k t, tt) (refl, tt) refl refl (λ v s q. ap letter_or (ap (λ vs. slice_get vs slot) keeps.slots ∙ t))
-  form (layers.LogicalOperator j operands) k h w p t = absurd (false≢true h)
-  form (layers.Not condition) k h w p t = as-letter t.0 (typed-form (layers.Not condition) B (B ∷ []) (one t.1) p (made op.Not N (B ∷ []) B refl refl refl refl refl, tt) (refl, tt) refl refl (λ v s q. refl))
-  form (layers.Compare c left right) k h w p t = as-letter t.1 (typed-form (layers.Compare c left right) B (t.0 ∷ t.0 ∷ []) (two t.3 t.4) p (compared-made c t.0 t.2, tt) (compared-stays c) refl refl (λ v s q. refl))
-  form (layers.IsNull negated value) k h w p t =
-      as-letter t.1 (typed-form (layers.IsNull negated value) B (t.0 ∷ []) (one t.3) p (negating-made negated op.IsNull (t.0 ∷ []) (made op.IsNull t.0 (t.0 ∷ []) B refl refl refl t.2 refl)) (negating-stays negated op.IsNull refl) refl refl (λ v s q. refl))
-  form (layers.Between negated value low high) k h w p t =
+  pub form : (layer : Layer) (null : Bool) (k : Letter) → is_straight layer ≡ true → IsLayer e null layer k → Form e known code r layer k
+  form layers.Null null k h t = absurd (false≢true h)
+  form (layers.Number n) null k h t = as-letter t (typed-form (layers.Number n) N [] well_typed.none (made (op.Constant N (data_of.Num n)) N [] N refl refl refl refl refl, tt) (refl, tt) refl refl (λ v s q. refl))
+  form (layers.Text x) null k h t = as-letter t (typed-form (layers.Text x) T [] well_typed.none (made (op.Constant T (data_of.Text x)) N [] T refl refl refl refl refl, tt) (refl, tt) refl refl (λ v s q. refl))
+  form (layers.Column i) null k h t = absurd (false≢true h)
+  form (layers.Variable slot) null k h t = typed-form (layers.Variable slot) k [] well_typed.none (variable-made slot k t, tt) (refl, tt) refl refl (λ v s q. ap letter_or (ap (λ vs. slice_get vs slot) keeps.slots ∙ t))
+  form (layers.LogicalOperator j operands) null k h t = absurd (false≢true h)
+  form (layers.Not condition) null k h t = as-letter t.0 (typed-form (layers.Not condition) B (B ∷ []) (one t.1) (made op.Not N (B ∷ []) B refl refl refl refl refl, tt) (refl, tt) refl refl (λ v s q. refl))
+  form (layers.Compare c left right) null k h t = as-letter t.1 (typed-form (layers.Compare c left right) B (t.0 ∷ t.0 ∷ []) (two t.3 t.4) (compared-made c t.0 t.2, tt) (compared-stays c) refl refl (λ v s q. refl))
+  form (layers.IsNull negated value) null k h t =
+      as-letter t.1 (typed-form (layers.IsNull negated value) B (t.0 ∷ []) (one t.3) (negating-made negated op.IsNull (t.0 ∷ []) (made op.IsNull t.0 (t.0 ∷ []) B refl refl refl t.2 refl)) (negating-stays negated op.IsNull refl) refl refl (λ v s q. refl))
+  form (layers.Between negated value low high) null k h t =
       let ks = t.0 ∷ t.0 ∷ t.0 ∷ [] in
-      as-letter t.1 (typed-form (layers.Between negated value low high) B ks (three t.3 t.4 t.5) p (negating-made negated op.Between ks (made op.Between t.0 ks B refl refl refl t.2 refl)) (negating-stays negated op.Between refl) refl refl (λ v s q. refl))
-  form (layers.In negated value list) k h w p t =
+      as-letter t.1 (typed-form (layers.Between negated value low high) B ks (three t.3 t.4 t.5) (negating-made negated op.Between ks (made op.Between t.0 ks B refl refl refl t.2 refl)) (negating-stays negated op.Between refl) refl refl (λ v s q. refl))
+  form (layers.In negated value list) null k h t =
       let n = length (listed list) in
-      as-letter t.1 (typed-form (layers.In negated value list) B (t.0 ∷ replicate n t.0) (well_typed.more t.3 (are-same t.4)) p
+      as-letter t.1 (typed-form (layers.In negated value list) B (t.0 ∷ replicate n t.0) (well_typed.more t.3 (are-same t.4))
       (subst (λ js. AllMake code r js (op.In n ∷ negating negated) B) (sym (turned-list n t.0)) (negating-made negated (op.In n) (replicate n t.0 ++ t.0 ∷ []) (made (op.In n) t.0 (replicate n t.0 ++ t.0 ∷ []) B refl refl refl t.2 refl)))
       (negating-stays negated (op.In n) refl) refl refl (λ v s q. refl))
-  form (layers.Like negated value pattern None) k h w p t =
-      as-letter t.0 (typed-form (layers.Like negated value pattern None) B (T ∷ T ∷ []) (two t.1 t.2) p (negating-made negated op.Like (T ∷ T ∷ []) (made op.Like N (T ∷ T ∷ []) B refl refl refl refl refl)) (negating-stays negated op.Like refl) refl refl (λ v s q. refl))
-  form (layers.Like negated value pattern (Some escape)) k h w p t =
-      as-letter t.0 (typed-form (layers.Like negated value pattern (Some escape)) B (T ∷ T ∷ T ∷ []) (three t.1 t.2 t.3) p (negating-made negated op.LikeEscape (T ∷ T ∷ T ∷ []) (made op.LikeEscape N (T ∷ T ∷ T ∷ []) B refl refl refl refl refl))
+  form (layers.Like negated value pattern None) null k h t =
+      as-letter t.0 (typed-form (layers.Like negated value pattern None) B (T ∷ T ∷ []) (two t.1 t.2) (negating-made negated op.Like (T ∷ T ∷ []) (made op.Like N (T ∷ T ∷ []) B refl refl refl refl refl)) (negating-stays negated op.Like refl) refl refl (λ v s q. refl))
+  form (layers.Like negated value pattern (Some escape)) null k h t =
+      as-letter t.0 (typed-form (layers.Like negated value pattern (Some escape)) B (T ∷ T ∷ T ∷ []) (three t.1 t.2 t.3) (negating-made negated op.LikeEscape (T ∷ T ∷ T ∷ []) (made op.LikeEscape N (T ∷ T ∷ T ∷ []) B refl refl refl refl refl))
       (negating-stays negated op.LikeEscape refl) refl refl (λ v s q. refl))
-  form (layers.OperatorChain first chain_links) k h w p t = absurd (false≢true h)
-  form (layers.Negated x) k h w p t = as-letter t.0 (typed-form (layers.Negated x) N (N ∷ []) (one t.1) p (made op.Negate N (N ∷ []) N refl refl refl refl refl, tt) (refl, tt) refl refl (λ v s q. refl))
-  form (layers.Call function arguments) k h w p t = absurd (false≢true h)
-  form (layers.Scalar query) k h w p t = absurd (false≢true h)
-  form (layers.Exists query) k h w p t = absurd (false≢true h)
-  form (layers.Case operand whens otherwise scale) k h w p t = absurd (false≢true h)
-  form (layers.Coalesce values scale) k h w p t = absurd (false≢true h)
-  form (layers.Cast source to) k h w p t = as-letter t.1 (record {
+  form (layers.OperatorChain first chain_links) null k h t = absurd (false≢true h)
+  form (layers.Negated x) null k h t = as-letter t.0 (typed-form (layers.Negated x) N (N ∷ []) (one t.1) (made op.Negate N (N ∷ []) N refl refl refl refl refl, tt) (refl, tt) refl refl (λ v s q. refl))
+  form (layers.Call function arguments) null k h t = absurd (false≢true h)
+  form (layers.Scalar query) null k h t = absurd (false≢true h)
+  form (layers.Exists query) null k h t = absurd (false≢true h)
+  form (layers.Case operand whens otherwise scale) null k h t = absurd (false≢true h)
+  form (layers.Coalesce values scale) null k h t = absurd (false≢true h)
+  form (layers.Cast source to) null k h t = as-letter t.1 (record {
     letters = t.0 ∷ [];
+    null = true;
     operands = one t.3;
-    makes = (made (op.Cast to) (letter_put N source t.0) (letter_put N source t.0 ∷ []) (letter_of to) w refl refl (put-value N source t.0 refl t.2) refl, tt);
+    makes = (made (op.Cast to) (letter_put N source t.0) (letter_put N source t.0 ∷ []) (letter_of to) t.4 refl refl (put-value N source t.0 refl t.2) refl, tt);
     stays = (refl, tt);
     some = refl;
     typed = refl;
     letter = λ v s q. refl;
   })
-  form (layers.NullIf left right) k h w p t =
-      typed-form (layers.NullIf left right) k (k ∷ k ∷ []) (two t.1 t.2) p (made op.NullIf k (k ∷ k ∷ []) k refl refl refl t.0 refl, tt) (refl, tt) refl refl (λ v s q. ap (λ z. letter_or (slice_get z 1)) q)
-  form (layers.Function f argument) k h w p t = as-letter t.0 (typed-form (layers.Function f argument) (function_of f) (T ∷ []) (one t.1) p (function-made f, tt) (function-stays f) refl refl (λ v s q. refl))
-  form (layers.Position part whole) k h w p t = as-letter t.0 (typed-form (layers.Position part whole) N (T ∷ T ∷ []) (two t.1 t.2) p (made op.Position N (T ∷ T ∷ []) N refl refl refl refl refl, tt) (refl, tt) refl refl (λ v s q. refl))
-  form (layers.Substring text from None) k h w p t =
-      as-letter t.0 (typed-form (layers.Substring text from None) T (T ∷ N ∷ []) (two t.1 t.2) p (made op.SubstringFrom N (N ∷ T ∷ []) T refl refl refl refl refl, tt) (refl, tt) refl refl (λ v s q. refl))
-  form (layers.Substring text from (Some long)) k h w p t =
-      as-letter t.0 (typed-form (layers.Substring text from (Some long)) T (T ∷ N ∷ N ∷ []) (three t.1 t.2 t.3) p (made op.SubstringFromFor N (N ∷ N ∷ T ∷ []) T refl refl refl refl refl, tt) (refl, tt) refl refl (λ v s q. refl))
-  form (layers.Trim side text) k h w p t = as-letter t.0 (typed-form (layers.Trim side text) T (T ∷ []) (one t.1) p (made (op.Trim side) N (T ∷ []) T refl refl refl refl refl, tt) (refl, tt) refl refl (λ v s q. refl))
+  form (layers.NullIf left right) null k h t =
+      typed-form (layers.NullIf left right) k (k ∷ k ∷ []) (two t.1 t.2) (made op.NullIf k (k ∷ k ∷ []) k refl refl refl t.0 refl, tt) (refl, tt) refl refl (λ v s q. ap (λ z. letter_or (slice_get z 1)) q)
+  form (layers.Function f argument) null k h t = as-letter t.0 (typed-form (layers.Function f argument) (function_of f) (T ∷ []) (one t.1) (function-made f, tt) (function-stays f) refl refl (λ v s q. refl))
+  form (layers.Position part whole) null k h t = as-letter t.0 (typed-form (layers.Position part whole) N (T ∷ T ∷ []) (two t.1 t.2) (made op.Position N (T ∷ T ∷ []) N refl refl refl refl refl, tt) (refl, tt) refl refl (λ v s q. refl))
+  form (layers.Substring text from None) null k h t =
+      as-letter t.0 (typed-form (layers.Substring text from None) T (T ∷ N ∷ []) (two t.1 t.2) (made op.SubstringFrom N (N ∷ T ∷ []) T refl refl refl refl refl, tt) (refl, tt) refl refl (λ v s q. refl))
+  form (layers.Substring text from (Some long)) null k h t =
+      as-letter t.0 (typed-form (layers.Substring text from (Some long)) T (T ∷ N ∷ N ∷ []) (three t.1 t.2 t.3) (made op.SubstringFromFor N (N ∷ N ∷ T ∷ []) T refl refl refl refl refl, tt) (refl, tt) refl refl (λ v s q. refl))
+  form (layers.Trim side text) null k h t = as-letter t.0 (typed-form (layers.Trim side text) T (T ∷ []) (one t.1) (made (op.Trim side) N (T ∷ []) T refl refl refl refl refl, tt) (refl, tt) refl refl (λ v s q. refl))

@@ -1,30 +1,20 @@
 -- Code that is written for a file keeps the letters of its variables and functions, and what is known of its queries is what they are of.
-use Rattle.std.proofs.Common.{◌≡◌, ◌++◌, ℕ, zero, suc, true, List, [], ◌∷◌, map, drop, length, Option, Some, None, option_map, if◌then◌else◌, ap, ap₂, refl, sym, subst, ◌∙◌}
+use Rattle.std.proofs.Common.{◌≡◌, ◌++◌, ℕ, zero, suc, true, List, [], ◌∷◌, map, drop, length, Some, option_map, if◌then◌else◌, ap, ap₂, refl, subst, ◌∙◌}
 use Rattle.std.specs.Prelude.{filter, not, slice_get}
 use Rattle.std.specs.List.{list_all}
 use Rattle.std.proofs.lemmas.Bool.{false≢true}
 use Rattle.std.proofs.lemmas.Option.{slice_get-map}
 use Rattle.psm_num.proofs.Literals.{and_first, and_second}
 use Rattle.psm_value.specs.declared.sqltype.SqlType.{SqlType}
-use Rattle.psm_exprcode.specs.declared.aggregate.SetFunction.{SetFunction}
 use Rattle.psm_exprcode.specs.declared.aggregate.SetFunction.TheVariants as functions
 use Rattle.psm_exprcode.specs.declared.op.Letter.{Letter}
-use Rattle.psm_exprcode.specs.Kinds.{letter_of, some_value}
-use Rattle.psm_exprcode.proofs.Stripping.{is_letter-same}
-use Rattle.psm_tablecode.specs.Codes.{set_function}
-use Rattle.psm_resolved.specs.declared.expr.ResolvedExpr.{ResolvedExpr}
-use Rattle.psm_resolved.specs.declared.expr.ResolvedExpr.TheOpen as layers
-use Rattle.psm_resolved.specs.declared.expr.ResolvedItem.{ResolvedItem, out-ResolvedItem}
-use Rattle.psm_resolved.specs.declared.expr.ResolvedItems.{out-ResolvedItems}
-use Rattle.psm_resolved.specs.declared.expr.ResolvedQuery.{ResolvedQuery, out-ResolvedQuery}
+use Rattle.psm_exprcode.specs.Kinds.{letter_of}
 use Rattle.psm_resolved.specs.declared.file.ParameterMode.{ParameterMode}
 use Rattle.psm_resolved.specs.declared.file.ParameterMode.TheVariants as modes
 use Rattle.psm_resolved.specs.declared.file.ResolvedFile.{ResolvedFile}
 use Rattle.psm_resolved.specs.declared.file.ResolvedParameter.{ResolvedParameter}
 use Rattle.psm_resolved.specs.declared.file.ResolvedRoutine.{ResolvedRoutine}
-use Rattle.psm_resolved.specs.RowType.{RowType, Wrong, Untyped, Of, goes_as, is_of, row_type_of}
 use Rattle.psm_meaning.specs.Calls.{returns}
-use Rattle.psm_meaning.specs.Rows.{items_of, set_of}
 use Rattle.psm_code.specs.declared.code.RawCode.{RawCode}
 use Rattle.psm_code.specs.declared.code.RawRoutine.{RawRoutine}
 use Rattle.psm_code.specs.Instructions.{parameter_letters}
@@ -32,14 +22,11 @@ use Rattle.psm_code.specs.Parts.{slots_of}
 use Rattle.psm_simulation.specs.Expressions.{wants}
 use Rattle.psm_simulation.specs.Simulation.{parameter_of}
 use Rattle.psm_exprgen.specs.Exprs.{function_number}
-use Rattle.psm_exprgen.specs.Queries.{Layer, are_items, column_letters, is_query, is_test_perhaps, is_value_of, is_value_perhaps, item_letters, letter_of_set, letter_of_row_type, letters_of_layer}
-use Rattle.psm_exprgen.specs.Written.{letters_at, letters_or}
+use Rattle.psm_exprgen.specs.Written.{letters_or}
 use Rattle.psm_codegen.specs.Files.{FileWritten, RoutineWritten, RoutinesWritten, gives_back, known_of, letter_of_result, letters_of}
 use Rattle.psm_resolved.specs.Written.{letter_or}
 use Rattle.psm_codegen.proofs.Numbers.{known_functions}
-use Rattle.psm_typing.specs.Queries.{AreItems, AreRowValues, AreSets, IsOperand, IsQuery}
-use Rattle.psm_typing.specs.Queries as well_typed
-use Rattle.psm_typing.specs.TypingContext.{Begin, TypingContext, columns_of, taken_by, with_taken}
+use Rattle.psm_typing.specs.TypingContext.{Begin, TypingContext, taken_by, with_taken}
 use Rattle.psm_typing.specs.TypingContext as typing_contexts
 use Rattle.psm_codegen_wellformed.specs.Kept.{FunctionTakes, Keeps, KeepsFunction, QueriesKeep}
 
@@ -97,57 +84,6 @@ function-kept file of routine code n t w takes at h =
       takes = ap letters_or (slice_get-map (letters_of wants) file.routines n ∙ ap (option_map (letters_of wants)) at) ∙ taken-letters routine.parameters;
       result = ap letter_or (slice_get-map (λ r. letter_of_result r.returns) file.routines n ∙ ap (option_map (λ r. letter_of_result r.returns)) at) ∙ ap letter_of_result h;
     }
-
--- ---- queries
-
-value-letter : (s : RowType) (k : Letter) → some_value (λ j. is_of j s) ≡ true → goes_as k s ≡ true → letter_of_row_type s ≡ k
-value-letter Wrong k v h = absurd (false≢true v)
-value-letter Untyped k v h = absurd (false≢true v)
-value-letter (Of j) k v h = sym (is_letter-same k j h)
-
-module _ (columns variables : List Letter) where
-  values-letters : (es : List ResolvedExpr) (ks : List Letter) → list_all (is_value_of columns variables) es ≡ true → AreRowValues columns variables es ks → map (λ e. letter_of_row_type (row_type_of columns variables e)) es ≡ ks
-  values-letters [] [] v h = refl
-  values-letters [] (k ∷ ks) v h = absurd h
-  values-letters (e ∷ es) [] v h = absurd h
-  values-letters (e ∷ es) (k ∷ ks) v h =
-      let rest = list_all (is_value_of columns variables) es in
-      ap₂ (λ i is. i ∷ is) (value-letter (row_type_of columns variables e) k (and_first (is_value_of columns variables e) rest v) h.0.letter) (values-letters es ks (and_second (is_value_of columns variables e) rest v) h.1)
-
-  set-letter : (f : SetFunction) (operand : Option ResolvedExpr) (j k : Letter) → is_value_perhaps columns variables operand ≡ true → IsOperand columns variables operand j → well_typed.letter_of_set (set_function f) j ≡ k
-      → letter_of_set columns variables f operand ≡ k
-  set-letter functions.Count operand j k v h q = q
-  set-letter functions.Sum operand j k v h q = q
-  set-letter functions.Min None j k v h q = sym h ∙ q
-  set-letter functions.Min (Some e) j k v h q = value-letter (row_type_of columns variables e) j v h.letter ∙ q
-  set-letter functions.Max None j k v h q = sym h ∙ q
-  set-letter functions.Max (Some e) j k v h q = value-letter (row_type_of columns variables e) j v h.letter ∙ q
-  set-letter functions.Avg operand j k v h q = q
-
-  sets-letters : (is : List ResolvedItem) (ks : List Letter) → list_all (λ i. is_value_perhaps columns variables (out-ResolvedItem i).operand) is ≡ true → AreSets columns variables (map set_of is) ks
-      → letters_of_layer columns variables (layers.Sets is) ≡ ks
-  sets-letters [] [] v h = refl
-  sets-letters [] (k ∷ ks) v h = absurd h
-  sets-letters (i ∷ is) [] v h = absurd h
-  sets-letters (i ∷ is) (k ∷ ks) v h =
-      let item = out-ResolvedItem i in
-      let rest = list_all (λ x. is_value_perhaps columns variables (out-ResolvedItem x).operand) is in
-      let one = is_value_perhaps columns variables item.operand in
-      ap₂ (λ j js. j ∷ js) (set-letter item.function item.operand h.0.0 k (and_first one rest v) h.0.1 h.0.2) (sets-letters is ks (and_second one rest v) h.1)
-
-  items-letters : (items : Layer) (ks : List Letter) → are_items columns variables items ≡ true → AreItems columns variables (items_of items) ks → letters_of_layer columns variables items ≡ ks
-  items-letters (layers.Rows es) ks v h = values-letters es ks v h
-  items-letters (layers.Sets is) ks v h = sets-letters is ks v h
-
-pub query-letters : (e : TypingContext) (query : ResolvedQuery) (ks : List Letter) → is_query (known_of e.file e.routine) query ≡ true → IsQuery e query ks → item_letters (known_of e.file e.routine) query ≡ ks
-query-letters e query ks v h =
-    let known = known_of e.file e.routine in
-    let table = (out-ResolvedQuery query).table in
-    let items : Layer = out-ResolvedItems (out-ResolvedQuery query).items in
-    let columns = letters_at known.columns table in
-    let same : columns ≡ columns_of h.table = ap letters_or (slice_get-map column_letters e.file.tables table ∙ ap (option_map column_letters) h.there) in
-    let right : are_items columns known.variables items ≡ true = and_first (are_items columns known.variables items) (is_test_perhaps columns known.variables (out-ResolvedQuery query).test) v in
-    ap (λ cs. letters_of_layer cs known.variables items) same ∙ items-letters (columns_of h.table) known.variables items ks (ap (λ cs. are_items cs known.variables items) (sym same) ∙ right) h.items
 
 -- ---- a routine
 

@@ -19,7 +19,6 @@ use Rattle.psm_code.specs.Parts.{gives, giving, takes, taking}
 use Rattle.psm_simulation.specs.Expressions.{wants}
 use Rattle.psm_simulation.specs.Scheme.{slots_given}
 use Rattle.psm_simulation.specs.Simulation.{mode_of, parameter_of}
-use Rattle.psm_exprgen.specs.declared.known.Known.{Known}
 use Rattle.psm_codegen.specs.Files.{FileWritten, RoutineWritten, gives_back, is_function, known_of, letters_of}
 use Rattle.psm_meaning.specs.Calls.{procedure_at, returns}
 use Rattle.psm_exprgen.specs.Written.{letters_or}
@@ -82,15 +81,15 @@ none-back : (e : TypingContext) (slots : List ℕ) (m : ParameterMode) (p : Reso
     → AreSlots e slots (map (λ x. letter_of x.kind) (if gives_back m then p ∷ others else others))
 none-back e slots m p others g h = subst (λ b. AreSlots e slots (map (λ x. letter_of x.kind) (if b then p ∷ others else others))) (sym g) h
 
-pub slots-back : (e : TypingContext) (known : Known) (args : List ResolvedArgument) (ps : List ResolvedParameter) → AreArguments e args ps → WellFormedArguments e known args ps → AreSlots e (slots_given args) (letters_given ps)
-slots-back e known [] [] t p = tt
-slots-back e known [] (q ∷ ps) t p = absurd t
-slots-back e known (arguments.In x ∷ others) [] t p = absurd t
-slots-back e known (arguments.Out slot ∷ others) [] t p = absurd t
-slots-back e known (arguments.InOut slot ∷ others) [] t p = absurd t
-slots-back e known (arguments.In x ∷ others) (q ∷ ps) t p = none-back e (slots_given others) q.mode q (filter (λ y. gives_back y.mode) ps) (ap gives_back t.0.0) (slots-back e known others ps t.1 p.1)
-slots-back e known (arguments.Out slot ∷ others) (q ∷ ps) t p = back-one e slot (slots_given others) q.mode q (filter (λ y. gives_back y.mode) ps) (ap gives_back t.0.0) (p.0, slots-back e known others ps t.1 p.1)
-slots-back e known (arguments.InOut slot ∷ others) (q ∷ ps) t p = back-one e slot (slots_given others) q.mode q (filter (λ y. gives_back y.mode) ps) (ap gives_back t.0.0) (p.0, slots-back e known others ps t.1 p.1)
+pub slots-back : (e : TypingContext) (args : List ResolvedArgument) (ps : List ResolvedParameter) → AreArguments e args ps → WellFormedArguments e args ps → AreSlots e (slots_given args) (letters_given ps)
+slots-back e [] [] t p = tt
+slots-back e [] (q ∷ ps) t p = absurd t
+slots-back e (arguments.In x ∷ others) [] t p = absurd t
+slots-back e (arguments.Out slot ∷ others) [] t p = absurd t
+slots-back e (arguments.InOut slot ∷ others) [] t p = absurd t
+slots-back e (arguments.In x ∷ others) (q ∷ ps) t p = none-back e (slots_given others) q.mode q (filter (λ y. gives_back y.mode) ps) (ap gives_back t.0.0) (slots-back e others ps t.1 p)
+slots-back e (arguments.Out slot ∷ others) (q ∷ ps) t p = back-one e slot (slots_given others) q.mode q (filter (λ y. gives_back y.mode) ps) (ap gives_back t.0.0) (p.0, slots-back e others ps t.1 p.1)
+slots-back e (arguments.InOut slot ∷ others) (q ∷ ps) t p = back-one e slot (slots_given others) q.mode q (filter (λ y. gives_back y.mode) ps) (ap gives_back t.0.0) (p.0, slots-back e others ps t.1 p.1)
 
 -- ---- the procedures of a file
 

@@ -129,6 +129,7 @@ pub record IsTable (code : RawCode) (n : ℕ) (t : ResolvedTable) : Type 0 where
 pub record Holds (e : TypingContext) (known : Known) (code : RawCode) (r : RawRoutine) : Type 0 where
   pub knows : Knows known code r
   pub tables : (n : ℕ) (t : ResolvedTable) → slice_get e.file.tables n ≡ Some t → IsTable code n t
+  pub asks : (query : ResolvedQuery) (ks : List Letter) → IsQuery e query ks → WellFormedQuery known query
 
 -- ---- queries and cursors
 
@@ -137,8 +138,9 @@ module _ {e : TypingContext} {known : Known} {code : RawCode} {r : RawRoutine} (
   pub as-known : (P : List Letter → List Letter → Type 0) (n : ℕ) → P (letters_at known.columns n) known.variables → P (columns_at code n) (variables_of r)
   as-known P n h = subst (λ vs. P (columns_at code n) vs) (sym holds.knows.variables) (subst (λ cs. P cs known.variables) (sym (holds.knows.columns n)) h)
 
-  pub query-faultless : {query : ResolvedQuery} {made : Query} {ks : List Letter} → QueryMade known query made → WellFormedQuery known query → IsQuery e query ks → Faultless (query_faults code r made)
-  query-faultless {query} {made} m p is =
+  pub query-faultless : {query : ResolvedQuery} {made : Query} {ks : List Letter} → QueryMade known query made → IsQuery e query ks → Faultless (query_faults code r made)
+  query-faultless {query} {made} {ks} m is =
+      let p : WellFormedQuery known query = holds.asks query ks is in
       let table = (out-ResolvedQuery query).table in
       let layer : Layer = items_of query in
       let at : ℕ → Bool = is_there code.tables in

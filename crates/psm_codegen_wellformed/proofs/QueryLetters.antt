@@ -98,4 +98,4 @@ made-letters {known} {code} {r} {query} {made} k m =
     ∙ ap₂ (λ cs vs. letters_of_layer cs vs layer) (k.columns made.table ∙ ap (letters_at known.columns) m.table) k.variables
 
 pub queries-keep : {known : Known} {code : RawCode} {r : RawRoutine} → Knows known code r → QueriesKeep known code r
-queries-keep k = λ query made n is m there. made-letters k m
+queries-keep k = λ query made n m there. made-letters k m

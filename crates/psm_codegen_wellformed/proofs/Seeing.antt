@@ -103,7 +103,7 @@ module _ (code : RawCode) (r : RawRoutine) (letters : Letters) where
           tree = well_formed.0.items;
           parts = ap (slice_get q.letters) (n.0 ∙ sym even) ∙ begins-there (length p.letters) items (lettered-cursors others).more letters_there;
           there = ap there at;
-          coded = ap (λ o. of_cursor (query_letters code r) (option_map (λ y. y.query) o)) at ∙ ap (option_map (letters_of_query code r)) query ∙ ap Some (keep x.query made (length p.code.queries) well_formed.0.query.is m query);
+          coded = ap (λ o. of_cursor (query_letters code r) (option_map (λ y. y.query) o)) at ∙ ap (option_map (letters_of_query code r)) query ∙ ap Some (keep x.query made (length p.code.queries) m query);
         },
         declared-letters to keep others k well_formed.1 (subst (λ i. CountsUp i (numbers_of xs) to) (sym longer) n.1) (more ∙ ap suc even ∙ sym longer),
       )

@@ -39,12 +39,10 @@ use Rattle.psm_typing.specs.Statements.{AreArguments, IsDeclaration, IsDefault, 
 use Rattle.psm_codegen_wellformed.specs.Frame.{WellFormedLines}
 use Rattle.psm_wellformed.specs.Slots.{EachOf, SlotOf}
 use Rattle.psm_codegen_wellformed.specs.Kept.{Keeps}
-use Rattle.psm_wellformed.specs.Expressions.{PerhapsWellFormed}
 use Rattle.psm_wellformed.specs.Simples.{ConditionSlots, NumberOf, WellFormedArguments, RowOf, StatementSlots}
 use Rattle.psm_wellformed.specs.Statements.{WellFormedDeclaration}
 use Rattle.psm_codegen_wellformed.proofs.Forms.{made, null-made, turned, variable-made}
 use Rattle.psm_codegen_wellformed.proofs.Lines.{Does}
-use Rattle.psm_codegen_wellformed.proofs.WellFormedParts.{of_just}
 use Rattle.psm_codegen_wellformed.proofs.Putting.{Calm, Makes, calm-operation}
 use Rattle.psm_codegen_wellformed.proofs.WellFormedSequences.{Alone, alone-well_formed, arguments-part, duplicate-well_formed, puts-well_formed, well_formed-none, well_formed-then, source-part}
 use Rattle.psm_codegen_wellformed.proofs.Slots.{copied-well_formed, store-well_formed, type-value}
@@ -79,26 +77,26 @@ module _ {e : TypingContext} {known : Known} {code : RawCode} {r : RawRoutine} {
 
   -- ---- declarations
 
-  pub default-well_formed : {k : Letter} {d : Option ResolvedExpr} {w v : Written} → Default known context resume k d w v → IsDefault e d k → PerhapsWellFormed known true d → is_value k ≡ true → WellFormedLines code r context resume w v (k ∷ w.stack)
-  default-well_formed {k = k} {w = w} written.no_default t p i =
+  pub default-well_formed : {k : Letter} {d : Option ResolvedExpr} {w v : Written} → Default known context resume k d w v → IsDefault e d k → is_value k ≡ true → WellFormedLines code r context resume w v (k ∷ w.stack)
+  default-well_formed {k = k} {w = w} written.no_default t i =
       let m : Makes code r (op.Constant k data_of.Null) [] k = null-made k i in
       puts-well_formed (instruction.Operation (op.Constant k data_of.Null)) m.name [] (k ∷ []) w.stack 0 w m.does (calm-operation (op.Constant k data_of.Null)) refl refl refl
-  default-well_formed (written.default a) t p i = source-part keeps a t (of_just p)
+  default-well_formed (written.default a) t i = source-part keeps a t
 
-  pub declares-well_formed : {xs : List ResolvedDeclaration} {w v : Written} → Declares known context resume xs w v → Each (IsDeclaration e) xs → Each (WellFormedDeclaration known) xs → WellFormedLines code r context resume w v w.stack
+  pub declares-well_formed : {xs : List ResolvedDeclaration} {w v : Written} → Declares known context resume xs w v → Each (IsDeclaration e) xs → Each WellFormedDeclaration xs → WellFormedLines code r context resume w v w.stack
   declares-well_formed written.no_declaration t p = well_formed-none refl
   declares-well_formed {w = w} (written.declaration {x = x} {u = u} a rest) t p =
       let d = t.0 in
       let k = letter_of d.0 in
       let slots = each-of e x.slots d.0 d.1 in
-      let one : WellFormedLines code r context resume w u (k ∷ w.stack) = default-well_formed (subst (λ l. Default known context resume l x.default w u) (slots-letter keeps x.slots k p.0.0 slots) a) d.2 p.0.1 (type-value d.0) in
+      let one : WellFormedLines code r context resume w u (k ∷ w.stack) = default-well_formed (subst (λ l. Default known context resume l x.default w u) (slots-letter keeps x.slots k p.0 slots) a) d.2 (type-value d.0) in
       let two = copied-well_formed keeps x.slots k w.stack u (type-value d.0) slots one.stack in
       well_formed-then one (well_formed-then two (well_formed-as (declares-well_formed rest t.1 p.1) two.stack))
 
   -- ---- CALL
 
   pub call-well_formed : {letters : List Letter} {n : ℕ} {args : List ResolvedArgument} {w v : Written} → CallArguments known context resume letters n args w v → (ps : List ResolvedParameter) → drop n letters ≡ letters_of (taken_by ps) → AreArguments e args ps
-      → WellFormedArguments e known args ps → WellFormedLines code r context resume w v (reverse (letters_of (taken_by ps)) ++ w.stack)
+      → WellFormedArguments e args ps → WellFormedLines code r context resume w v (reverse (letters_of (taken_by ps)) ++ w.stack)
   call-well_formed written.no_argument [] l t p = well_formed-none refl
   call-well_formed written.no_argument (q ∷ ps) l t p = absurd t
   call-well_formed (written.in_argument a rest) [] l t p = absurd t
@@ -106,8 +104,8 @@ module _ {e : TypingContext} {known : Known} {code : RawCode} {r : RawRoutine} {
       let k = letter_of q.kind in
       let ks = letters_of (taken_by ps) in
       let all : letters_of (taken_by (q ∷ ps)) ≡ k ∷ ks = ap (λ m. letters_of (with_taken m q.kind (taken_by ps))) t.0.0 in
-      let one : WellFormedLines code r context resume w u (k ∷ w.stack) = source-part keeps (subst (λ j. Writes known context resume j x w u) (letter-first letters n k ks (l ∙ all)) a) t.0.1 p.0 in
-      well_formed-as (well_formed-then one (call-well_formed rest ps (letter-rest letters n k ks (l ∙ all)) t.1 p.1)) (ap (λ z. reverse ks ++ z) one.stack ∙ sym (turned k ks w.stack) ∙ ap (λ js. reverse js ++ w.stack) (sym all))
+      let one : WellFormedLines code r context resume w u (k ∷ w.stack) = source-part keeps (subst (λ j. Writes known context resume j x w u) (letter-first letters n k ks (l ∙ all)) a) t.0.1 in
+      well_formed-as (well_formed-then one (call-well_formed rest ps (letter-rest letters n k ks (l ∙ all)) t.1 p)) (ap (λ z. reverse ks ++ z) one.stack ∙ sym (turned k ks w.stack) ∙ ap (λ js. reverse js ++ w.stack) (sym all))
   call-well_formed (written.out_argument rest) [] l t p = absurd t
   call-well_formed {w = w} (written.out_argument rest) (q ∷ ps) l t p =
       let all : letters_of (taken_by (q ∷ ps)) ≡ letters_of (taken_by ps) = ap (λ m. letters_of (with_taken m q.kind (taken_by ps))) t.0.0 in
@@ -122,11 +120,11 @@ module _ {e : TypingContext} {known : Known} {code : RawCode} {r : RawRoutine} {
 
   -- ---- conditions
 
-  pub signals-well_formed : {without with_message : Instruction} {m : Option ResolvedExpr} {w v : Written} (name more : List ℕ) → Signals known context resume without with_message m w v → IsMessage e m → PerhapsWellFormed known true m → w.stack ≡ []
+  pub signals-well_formed : {without with_message : Instruction} {m : Option ResolvedExpr} {w v : Written} (name more : List ℕ) → Signals known context resume without with_message m w v → IsMessage e m → w.stack ≡ []
       → Does code r without (plain name [] []) → Alone r without → Does code r with_message (plain more (T ∷ []) []) → Calm r with_message → jump_of with_message ≡ None → WellFormedLines code r context resume w v []
-  signals-well_formed {without = without} {w = w} name more written.no_message t p q d alone g calm stays = alone-well_formed without name [] w d alone q
-  signals-well_formed {with_message = with_message} {w = w} name more (written.message {v = v} a) t p q d alone g calm stays =
-      let one : WellFormedLines code r context resume w v (T ∷ w.stack) = source-part keeps a t (of_just p) in
+  signals-well_formed {without = without} {w = w} name more written.no_message t q d alone g calm stays = alone-well_formed without name [] w d alone q
+  signals-well_formed {with_message = with_message} {w = w} name more (written.message {v = v} a) t q d alone g calm stays =
+      let one : WellFormedLines code r context resume w v (T ∷ w.stack) = source-part keeps a t in
       well_formed-then one (puts-well_formed with_message more (T ∷ []) [] [] 1 v g calm stays refl (one.stack ∙ ap (λ z. T ∷ z) q))
 
   -- ---- GET DIAGNOSTICS
@@ -171,10 +169,10 @@ module _ {e : TypingContext} {known : Known} {code : RawCode} {r : RawRoutine} {
 
   -- ---- INSERT
 
-  pub rows-well_formed : {letters : List Letter} {rows : List (List ResolvedExpr)} {w v : Written} → WritesRows known context resume letters rows w v → Each (RowOf e known letters) rows
+  pub rows-well_formed : {letters : List Letter} {rows : List (List ResolvedExpr)} {w v : Written} → WritesRows known context resume letters rows w v → Each (RowOf e letters) rows
       → WellFormedLines code r context resume w v (reverse (flat_map (λ xs. xs) (replicate (length rows) letters)) ++ w.stack)
   rows-well_formed written.no_row h = well_formed-none refl
   rows-well_formed {letters = letters} {w = w} (written.row {rows = rows} a rest) h =
       let others = flat_map (λ xs. xs) (replicate (length rows) letters) in
-      let one = arguments-part keeps a letters refl h.0.0 h.0.1 in
+      let one = arguments-part keeps a letters refl h.0 in
       well_formed-as (well_formed-then one (rows-well_formed rest h.1)) (ap (λ z. reverse others ++ z) one.stack ∙ sym (append_assoc (reverse others) (reverse letters) w.stack) ∙ ap (λ z. z ++ w.stack) (sym (reverse-append letters others)))

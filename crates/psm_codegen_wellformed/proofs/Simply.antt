@@ -24,7 +24,7 @@ use Rattle.psm_meaning.specs.Calls.{returns}
 use Rattle.psm_simulation.specs.Scheme.{slots_given}
 use Rattle.psm_exprgen.specs.declared.known.Known.{Known}
 use Rattle.psm_exprgen.specs.Exprs.{Writes}
-use Rattle.psm_exprgen.specs.Queries.{QueryMade, is_query, item_letters}
+use Rattle.psm_exprgen.specs.Queries.{QueryMade, item_letters}
 use Rattle.psm_exprgen.specs.Written.{Written, applied, letter_at, letters_at, puts, takes, with_query}
 use Rattle.psm_codegen.specs.Files.{letter_of_result}
 use Rattle.psm_codegen.specs.FunctionBuilder.{FunctionBuilder}
@@ -35,7 +35,6 @@ use Rattle.psm_typing.specs.Statements.{AreArguments, IsFor, IsMessage}
 use Rattle.psm_codegen_wellformed.specs.Frame.{WellFormedLines}
 use Rattle.psm_wellformed.specs.Slots.{AreSlots, SlotOf}
 use Rattle.psm_codegen_wellformed.specs.Kept.{Keeps, KeepsProcedure, KeepsRoutine, letters_given}
-use Rattle.psm_wellformed.specs.Expressions.{PerhapsWellFormed, WellFormed}
 use Rattle.psm_wellformed.specs.Simples.{ConditionSlots, NumberOf, WellFormedArguments, StatementSlots}
 use Rattle.psm_codegen_wellformed.proofs.Lines.{Does}
 use Rattle.psm_codegen_wellformed.proofs.Procedures.{slots-back}
@@ -44,31 +43,31 @@ use Rattle.psm_codegen_wellformed.proofs.Simples.{call-well_formed, condition_it
 use Rattle.psm_codegen_wellformed.proofs.Slots.{retrieved-well_formed, store-well_formed, stored-well_formed}
 
 module _ {e : TypingContext} {known : Known} {code : RawCode} {r : RawRoutine} {context resume : ℕ} (keeps : Keeps e known code r) (is : KeepsRoutine e known r) where
-  pub set-well_formed : (slot : ℕ) (x : ResolvedExpr) (p : FunctionBuilder) (w : Written) → Writes known context resume (letter_at known.variables slot) x (cleared context p) w → IsFor e slot x → WellFormed known true x → p.code.stack ≡ []
+  pub set-well_formed : (slot : ℕ) (x : ResolvedExpr) (p : FunctionBuilder) (w : Written) → Writes known context resume (letter_at known.variables slot) x (cleared context p) w → IsFor e slot x → p.code.stack ≡ []
       → WellFormedLines code r context resume p.code (takes context resume (instruction.Store slot) 1 w) []
-  set-well_formed slot x p w a t o q =
+  set-well_formed slot x p w a t q =
       let k = letter_of t.type in
       let here : SlotOf e slot k = slot-of e slot t.type t.there in
       let zero = clear-well_formed p.code q in
       let one : WellFormedLines code r context resume (cleared context p) w (k ∷ p.code.stack) =
-      source-part keeps (subst (λ l. Writes known context resume l x (cleared context p) w) (variable-letter keeps slot k here) a) t.source o in
+      source-part keeps (subst (λ l. Writes known context resume l x (cleared context p) w) (variable-letter keeps slot k here) a) t.source in
       well_formed-then zero (well_formed-then one (store-well_formed keeps slot k [] w here (one.stack ∙ ap (λ s. k ∷ s) q)))
 
   -- RETURN stands in a function
-  pub return-well_formed : (x : ResolvedExpr) (t : SqlType) (w v : Written) → Writes known context resume known.result x w v → e.routine.returns ≡ Some t → IsExpr e x (letter_of t) → WellFormed known true x → w.stack ≡ []
+  pub return-well_formed : (x : ResolvedExpr) (t : SqlType) (w v : Written) → Writes known context resume known.result x w v → e.routine.returns ≡ Some t → IsExpr e true x (letter_of t) → w.stack ≡ []
       → WellFormedLines code r context resume w (takes context resume instruction.ReturnValue 1 v) []
-  return-well_formed x t w v a h s o q =
+  return-well_formed x t w v a h s q =
       let k = letter_of t in
       let known_result : known.result ≡ k = is.result ∙ ap letter_of_result h in
       let type : r.returns ≡ Some t = is.returns ∙ h in
-      let one : WellFormedLines code r context resume w v (k ∷ w.stack) = source-part keeps (subst (λ l. Writes known context resume l x w v) known_result a) s o in
+      let one : WellFormedLines code r context resume w v (k ∷ w.stack) = source-part keeps (subst (λ l. Writes known context resume l x w v) known_result a) s in
       well_formed-then one (last-well_formed instruction.ReturnValue (codes "RETV") k [] v
       (record { names = refl; place = is.kind ∙ ap returns h; fits = refl; value = N; other = B; is_value = refl; effect = ap (option_map (λ u. last (codes "RETV") (letter_of u ∷ []))) type })
       (record { stands = refl; right = λ l. refl; following = λ l. refl }) refl refl (one.stack ∙ ap (λ z. k ∷ z) q))
 
   -- CALL stands in a procedure
   pub call-statement : (n : ℕ) (args : List ResolvedArgument) (ps : List ResolvedParameter) (p : FunctionBuilder) (w : Written) → CallArguments known context resume (letters_at known.takes n) 0 args (cleared context p) w
-      → KeepsProcedure known code n (letters_of (taken_by ps)) (letters_given ps) → e.routine.returns ≡ None → AreArguments e args ps → WellFormedArguments e known args ps → p.code.stack ≡ []
+      → KeepsProcedure known code n (letters_of (taken_by ps)) (letters_given ps) → e.routine.returns ≡ None → AreArguments e args ps → WellFormedArguments e args ps → p.code.stack ≡ []
       → WellFormedLines code r context resume p.code (stored context resume (λ slot. instruction.Store slot) (slots_given args) (puts context resume (instruction.Call n) (more_operands p w) (letters_at known.gives n) w)) []
   call-statement n args ps p w a kept none t o q =
       let ks = letters_of (taken_by ps) in
@@ -90,19 +89,19 @@ module _ {e : TypingContext} {known : Known} {code : RawCode} {r : RawRoutine} {
       let called = puts context resume (instruction.Call n) (more_operands p w) (letters_at known.gives n) w in
       let two : WellFormedLines code r context resume w called (js ++ []) = subst (λ ls. WellFormedLines code r context resume w (puts context resume (instruction.Call n) (more_operands p w) ls w) (js ++ [])) (sym kept.gives)
       (puts-well_formed (instruction.Call n) (codes "CALL") (reverse ks) js [] (more_operands p w) w does (record { stands = refl; right = λ l. refl; following = λ l. refl }) refl (omega (arith, many, below)) all) in
-      well_formed-then zero (well_formed-then one (well_formed-then two (stored-well_formed keeps (slots_given args) js [] called (slots-back e known args ps t o) two.stack)))
+      well_formed-then zero (well_formed-then one (well_formed-then two (stored-well_formed keeps (slots_given args) js [] called (slots-back e args ps t o) two.stack)))
 
   -- ---- conditions, whose number is there
 
-  pub signal-well_formed : (n : ℕ) (m : Option ResolvedExpr) (p : FunctionBuilder) (w : Written) → Signals known context resume (instruction.Signal n) (instruction.SignalMessage n) m (cleared context p) w → is_there r.handlers.declared n ≡ true → IsMessage e m → PerhapsWellFormed known true m
+  pub signal-well_formed : (n : ℕ) (m : Option ResolvedExpr) (p : FunctionBuilder) (w : Written) → Signals known context resume (instruction.Signal n) (instruction.SignalMessage n) m (cleared context p) w → is_there r.handlers.declared n ≡ true → IsMessage e m
       → p.code.stack ≡ [] → WellFormedLines code r context resume p.code w []
-  signal-well_formed n m p w a h t o q = well_formed-then (clear-well_formed p.code q) (signals-well_formed keeps (codes "SIG") (codes "SIGM") a t o q
+  signal-well_formed n m p w a h t q = well_formed-then (clear-well_formed p.code q) (signals-well_formed keeps (codes "SIG") (codes "SIGM") a t q
       (record { names = h; place = refl; fits = refl; value = N; other = B; is_value = refl; effect = refl }) (record { right = λ l. refl; following = λ l. refl; stays = refl })
       (record { names = h; place = refl; fits = refl; value = N; other = B; is_value = refl; effect = refl }) (record { stands = refl; right = λ l. refl; following = λ l. refl }) refl)
 
   pub resignal_condition-well_formed : (n : ℕ) (m : Option ResolvedExpr) (p : FunctionBuilder) (w : Written) → Signals known context resume (instruction.ResignalCondition n) (instruction.ResignalMessage n) m (cleared context p) w → is_there r.handlers.declared n ≡ true
-      → IsMessage e m → PerhapsWellFormed known true m → p.code.stack ≡ [] → WellFormedLines code r context resume p.code w []
-  resignal_condition-well_formed n m p w a h t o q = well_formed-then (clear-well_formed p.code q) (signals-well_formed keeps (codes "RESIGC") (codes "RESIGM") a t o q
+      → IsMessage e m → p.code.stack ≡ [] → WellFormedLines code r context resume p.code w []
+  resignal_condition-well_formed n m p w a h t q = well_formed-then (clear-well_formed p.code q) (signals-well_formed keeps (codes "RESIGC") (codes "RESIGM") a t q
       (record { names = h; place = refl; fits = refl; value = N; other = B; is_value = refl; effect = refl }) (record { right = λ l. refl; following = λ l. refl; stays = refl })
       (record { names = h; place = refl; fits = refl; value = N; other = B; is_value = refl; effect = refl }) (record { stands = refl; right = λ l. refl; following = λ l. refl }) refl)
 
@@ -123,9 +122,9 @@ module _ {e : TypingContext} {known : Known} {code : RawCode} {r : RawRoutine} {
 
   -- ---- SELECT INTO, where the routine has the query at its number
 
-  pub select_into-well_formed : (query : ResolvedQuery) (made : Query) (slots : List ℕ) (p : FunctionBuilder) → QueryMade known query made → is_query known query ≡ true → slice_get r.queries (length p.code.queries) ≡ Some made → AreSlots e slots (item_letters known query) → p.code.stack ≡ []
+  pub select_into-well_formed : (query : ResolvedQuery) (made : Query) (slots : List ℕ) (p : FunctionBuilder) → QueryMade known query made → slice_get r.queries (length p.code.queries) ≡ Some made → AreSlots e slots (item_letters known query) → p.code.stack ≡ []
       → WellFormedLines code r context resume p.code (retrieved context resume slots (puts context resume (instruction.Row (length p.code.queries)) 0 (item_letters known query) (with_query made (cleared context p)))) []
-  select_into-well_formed query made slots p m v at h q =
+  select_into-well_formed query made slots p m at h q =
       let n = length p.code.queries in
       let ks = item_letters known query in
       let asked = puts context resume (instruction.Row n) 0 ks (with_query made (cleared context p)) in
@@ -136,7 +135,7 @@ module _ {e : TypingContext} {known : Known} {code : RawCode} {r : RawRoutine} {
         value = N;
         other = B;
         is_value = refl;
-        effect = ap (λ o. putting (codes "ROW") (option_map (letters_of_query code r) o)) at ∙ ap (λ ls. putting (codes "ROW") (Some ls)) (keeps.queries query made n v m at);
+        effect = ap (λ o. putting (codes "ROW") (option_map (letters_of_query code r) o)) at ∙ ap (λ ls. putting (codes "ROW") (Some ls)) (keeps.queries query made n m at);
       } in
       let one : WellFormedLines code r context resume (with_query made (cleared context p)) asked (ks ++ []) = puts-well_formed (instruction.Row n) (codes "ROW") [] ks [] 0 (with_query made (cleared context p)) does
       (record { stands = refl; right = λ l. refl; following = λ l. refl }) refl refl q in

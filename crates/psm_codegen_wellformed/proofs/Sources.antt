@@ -13,17 +13,16 @@ use Rattle.psm_typing.specs.Expressions.{IsExpr}
 use Rattle.psm_typing.specs.TypingContext.{TypingContext}
 use Rattle.psm_codegen_wellformed.specs.Frame.{Ends, Follows, Free}
 use Rattle.psm_codegen_wellformed.specs.Kept.{Keeps}
-use Rattle.psm_wellformed.specs.Expressions.{WellFormed}
 use Rattle.psm_codegen_wellformed.proofs.Frees.{null-typed, null-wanted, writes-free}
 use Rattle.psm_codegen_wellformed.proofs.Stacks.{typed-put, wanted-put, writes-stack}
 use Rattle.psm_codegen_wellformed.proofs.Starts.{writes-starts}
 
 pub source-well_formed : (e : TypingContext) (known : Known) (code : RawCode) (r : RawRoutine) (context resume : ℕ) → Keeps e known code r → Follows r 0 0 [] → context_there r context ≡ true → Ends r resume context → (k : Letter) (x : ResolvedExpr) (w v : Written)
-    → IsExpr e x k → WellFormed known true x → Writes known context resume k x w v → Begins v r → here v ≤ resume → Follows r (here v) context v.stack → (v.stack ≡ k ∷ w.stack) × Follows r (here w) context w.stack × Free code r (here w) (here v)
-source-well_formed e known code r context resume keeps first there ends k x w v t p a b h f =
-    (wanted-put k x k refl (writes-stack keeps a t p), writes-starts a b f, writes-free keeps first there ends a t p (null-wanted k refl t) b h f)
+    → IsExpr e true x k → Writes known context resume k x w v → Begins v r → here v ≤ resume → Follows r (here v) context v.stack → (v.stack ≡ k ∷ w.stack) × Follows r (here w) context w.stack × Free code r (here w) (here v)
+source-well_formed e known code r context resume keeps first there ends k x w v t a b h f =
+    (wanted-put k x k refl (writes-stack keeps a t), writes-starts a b f, writes-free keeps first there ends a t (null-wanted k refl t) b h f)
 
 pub operand-well_formed : (e : TypingContext) (known : Known) (code : RawCode) (r : RawRoutine) (context resume : ℕ) → Keeps e known code r → Follows r 0 0 [] → context_there r context ≡ true → Ends r resume context → (k j : Letter) (x : ResolvedExpr) (w v : Written)
-    → IsExpr e x k → WellFormed known false x → Writes known context resume j x w v → Begins v r → here v ≤ resume → Follows r (here v) context v.stack → (v.stack ≡ k ∷ w.stack) × Follows r (here w) context w.stack × Free code r (here w) (here v)
-operand-well_formed e known code r context resume keeps first there ends k j x w v t p a b h f =
-    (typed-put j k p (writes-stack keeps a t p), writes-starts a b f, writes-free keeps first there ends a t p (λ q. absurd (null-typed p q)) b h f)
+    → IsExpr e false x k → Writes known context resume j x w v → Begins v r → here v ≤ resume → Follows r (here v) context v.stack → (v.stack ≡ k ∷ w.stack) × Follows r (here w) context w.stack × Free code r (here w) (here v)
+operand-well_formed e known code r context resume keeps first there ends k j x w v t a b h f =
+    (typed-put j k t (writes-stack keeps a t), writes-starts a b f, writes-free keeps first there ends a t (λ q. absurd (null-typed t q)) b h f)

@@ -1,5 +1,5 @@
 -- The lines that are written for statements are well-formed.
-use Rattle.std.proofs.Common.{arith, ◌≡◌, ◌≤◌, ◌<◌, ℕ, suc, true, List, [], ◌∷◌, drop, length, Some, None, ap, refl, sym, ◌∙◌}
+use Rattle.std.proofs.Common.{arith, ◌≡◌, ◌≤◌, ◌<◌, ℕ, suc, true, List, [], ◌∷◌, drop, length, Some, None, ap, refl, sym, ◌∙◌, false}
 use Rattle.std.specs.Prelude.{codes}
 use Rattle.std.proofs.lemmas.List.{reverse-reverse}
 use Rattle.psm_exprcode.specs.declared.op.Letter.TheVariants.{N, B}
@@ -28,7 +28,6 @@ use Rattle.psm_codegen.proofs.There.{line_of, there_at}
 use Rattle.psm_typing.specs.TypingContext.{TypingContext}
 use Rattle.psm_codegen_wellformed.specs.Frame.{Ends, Follows, Free}
 use Rattle.psm_codegen_wellformed.specs.Kept.{Keeps}
-use Rattle.psm_wellformed.specs.Statements.{IsTest}
 use Rattle.psm_codegen_wellformed.proofs.Frees.{free-as, null-typed, writes-free}
 use Rattle.psm_codegen_wellformed.proofs.Leavings.{EnclosingBlockWellFormed, enclosing-lower}
 use Rattle.psm_codegen_wellformed.proofs.Lines.{free-join, free-none, free-one, goes-fall_through, line-well_formed, never-fall_through, no-jump, resumes-following}
@@ -36,6 +35,7 @@ use Rattle.psm_codegen_wellformed.proofs.Plains.{Reaches, goes-free, jumps-to, n
 use Rattle.psm_codegen_wellformed.proofs.Putting.{calm-operation, follows-as, grows-after, line-starts, written-free}
 use Rattle.psm_codegen_wellformed.proofs.Stacks.{typed-put, writes-stack}
 use Rattle.psm_codegen_wellformed.proofs.Starts.{writes-starts}
+use Rattle.psm_typing.specs.Expressions.{IsExpr}
 
 -- What is written from p to q leaves no operand. In a routine that has it, before a line of its context, its first line states none, and
 -- its lines are well-formed.
@@ -72,16 +72,16 @@ branches-then {code} {r} {context} {enclosing} {p} {b} {c} grown g h =
     }
 
 module _ {e : TypingContext} {known : Known} {code : RawCode} {r : RawRoutine} (keeps : Keeps e known code r) where
-  pub test-stack : {context resume : ℕ} {x : ResolvedExpr} {w v : Written} → Writes known context resume B x w v → IsTest e known x B → w.stack ≡ [] → v.stack ≡ B ∷ []
-  test-stack a t q = typed-put B B t.1 (writes-stack keeps a t.0 t.1) ∙ ap (λ s. B ∷ s) q
+  pub test-stack : {context resume : ℕ} {x : ResolvedExpr} {w v : Written} → Writes known context resume B x w v → IsExpr e false x B → w.stack ≡ [] → v.stack ≡ B ∷ []
+  test-stack a t q = typed-put B B t (writes-stack keeps a t) ∙ ap (λ s. B ∷ s) q
 
   -- a test, and the jump after it to a line that is reached
-  tests-free : {context resume bound : ℕ} {x : ResolvedExpr} {w v : Written} (p : ℕ) → Follows r 0 0 [] → context_there r context ≡ true → Ends r resume context → Writes known context resume B x w v → IsTest e known x B → w.stack ≡ []
+  tests-free : {context resume bound : ℕ} {x : ResolvedExpr} {w v : Written} (p : ℕ) → Follows r 0 0 [] → context_there r context ≡ true → Ends r resume context → Writes known context resume B x w v → IsExpr e false x B → w.stack ≡ []
       → Begins (unless_true context resume p v) r → here v < resume → here v < bound → Follows r (suc (here v)) context [] → Reaches r bound context p → Free code r (here w) (suc (here v))
   tests-free {context} {resume} {bound} {x} {w} {v} p first there ends a t q b h g f to =
       let i = instruction.Operation (op.JumpUnlessTrue p) in
       let starts : Follows r (here v) context v.stack = line-starts context (Some resume) i v b.lines in
-      free-join (writes-free keeps first there ends a t.0 t.1 (λ n. absurd (null-typed t.1 n)) (begins-earlier (grows-taken context resume (op.JumpUnlessTrue p) {w = v}) b) (omega (arith, h)) starts)
+      free-join (writes-free keeps first there ends a t (λ n. absurd (null-typed t n)) (begins-earlier (grows-taken context resume (op.JumpUnlessTrue p) {w = v}) b) (omega (arith, h)) starts)
       (written-free first there ends i (effect (op.JumpUnlessTrue p) N B) [] v b.lines (record { names = refl; place = refl; fits = refl; value = N; other = B; is_value = refl; effect = refl }) (calm-operation (op.JumpUnlessTrue p)) (test-stack a t q) h
       (goes-fall_through i f) (jumps-to i refl g to))
 
@@ -125,7 +125,7 @@ module _ {e : TypingContext} {known : Known} {code : RawCode} {r : RawRoutine} (
             (free-as (goes-free first there (at p) c.code k.code.lines list.stack (omega arith) (reaches-turn {bound = suc (at c)} context p.code turn q)) refl (sym next)));
       }
 
-  pub while-good : {context : ℕ} {enclosing : List EnclosingBlock} {level : ℕ} {x : ResolvedExpr} (p c : FunctionBuilder) (w : Written) → p.code.stack ≡ [] → Writes known context (suc (at c)) B x (with_plain context instruction.Turn p).code w → IsTest e known x B
+  pub while-good : {context : ℕ} {enclosing : List EnclosingBlock} {level : ℕ} {x : ResolvedExpr} (p c : FunctionBuilder) (w : Written) → p.code.stack ≡ [] → Writes known context (suc (at c)) B x (with_plain context instruction.Turn p).code w → IsExpr e false x B
       → Grown no_context (with_code (unless_true context (suc (at c)) (suc (at c)) w) p) c
       → Good code r context (Loop level (suc (at c)) (at p) ∷ enclosing) (with_code (unless_true context (suc (at c)) (suc (at c)) w) p) c → Good code r context enclosing p (jumped context (at p) c)
   while-good {context} {enclosing} {level} p c w q test t grown list =
@@ -155,7 +155,7 @@ module _ {e : TypingContext} {known : Known} {code : RawCode} {r : RawRoutine} (
       }
 
   pub repeat-good : {context : ℕ} {enclosing : List EnclosingBlock} {level : ℕ} {x : ResolvedExpr} (p c : FunctionBuilder) (w : Written) → p.code.stack ≡ [] → Grown no_context (with_plain context instruction.Turn p) c
-      → Good code r context (Loop level (suc (length w.lines)) (at c) ∷ enclosing) (with_plain context instruction.Turn p) c → Writes known context (suc (length w.lines)) B x c.code w → IsTest e known x B
+      → Good code r context (Loop level (suc (length w.lines)) (at c) ∷ enclosing) (with_plain context instruction.Turn p) c → Writes known context (suc (length w.lines)) B x c.code w → IsExpr e false x B
       → Good code r context enclosing p (with_code (unless_true context (suc (length w.lines)) (at p) w) c)
   repeat-good {context} {enclosing} {level} p c w q grown list test t =
       let end = suc (here w) in
@@ -179,7 +179,7 @@ module _ {e : TypingContext} {known : Known} {code : RawCode} {r : RawRoutine} (
       }
 
   -- a branch whose list is written after its test, and that goes to the end after it
-  pub branch-good : {context out : ℕ} {enclosing : List EnclosingBlock} {x : ResolvedExpr} (p b c : FunctionBuilder) (w : Written) → p.code.stack ≡ [] → Writes known context out B x p.code w → IsTest e known x B → Grown no_context (with_code (unless_true context out (suc (at b)) w) p) b
+  pub branch-good : {context out : ℕ} {enclosing : List EnclosingBlock} {x : ResolvedExpr} (p b c : FunctionBuilder) (w : Written) → p.code.stack ≡ [] → Writes known context out B x p.code w → IsExpr e false x B → Grown no_context (with_code (unless_true context out (suc (at b)) w) p) b
       → Good code r context enclosing (with_code (unless_true context out (suc (at b)) w) p) b → Grown no_context (jumped context out b) c → GoodTo code r context enclosing out (jumped context out b) c → GoodTo code r context enclosing out p c
   branch-good {context} {out} {enclosing} p b c w q test t grown list grown_rest rest =
       let jump = instruction.Operation (op.Jump out) in

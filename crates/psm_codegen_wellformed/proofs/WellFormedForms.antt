@@ -1,5 +1,5 @@
 -- What a well-formed statement has, form by form.
-use Rattle.std.proofs.Common.{◌≡◌, ℕ, List, ◌∷◌, ◌++◌, ◌∙◌, Some, None, sym, subst, IsTrue}
+use Rattle.std.proofs.Common.{◌≡◌, ℕ, List, ◌∷◌, ◌++◌, ◌∙◌, Some, None, sym, subst, IsTrue, false}
 use Rattle.psm_exprcode.specs.declared.op.Letter.{Letter}
 use Rattle.psm_exprcode.specs.declared.op.Letter.TheVariants.{B}
 use Rattle.psm_exprcode.specs.Kinds.{is_value}
@@ -19,12 +19,13 @@ use Rattle.psm_typing.specs.TypingContext.{Each, TypingContext}
 use Rattle.psm_typing.specs.Statements.{IsDeclaration, IsSimple, StatementScope, in_action, inside, looping, over_rows}
 use Rattle.psm_wellformed.specs.Simples.{WellFormedSimple}
 use Rattle.psm_wellformed.specs.Slots.{AreSlots}
-use Rattle.psm_wellformed.specs.Statements.{AreActions, AreBranches, AreWellFormed, IsWellFormed, IsTest, Letters, WellFormedCursor, WellFormedDeclaration}
+use Rattle.psm_wellformed.specs.Statements.{AreActions, AreBranches, AreWellFormed, IsWellFormed, Letters, WellFormedCursor, WellFormedDeclaration}
 use Rattle.psm_wellformed.specs.Statements as of
+use Rattle.psm_typing.specs.Expressions.{IsExpr}
 
 pub record BlockWellFormed (e : TypingContext) (known : Known) (letters : Letters) (s : StatementScope) (level : ℕ) (block : ResolvedBlock) : Type 0 where
   pub declared : Each (IsDeclaration e) (out-ResolvedBlock block).declarations
-  pub well_formed : Each (WellFormedDeclaration known) (out-ResolvedBlock block).declarations
+  pub well_formed : Each WellFormedDeclaration (out-ResolvedBlock block).declarations
   pub cursors : Each (WellFormedCursor known letters) (out-ResolvedBlock block).cursors
   pub actions : AreActions e known letters level ((out-ResolvedBlock block).cursors ++ s.cursors) (out-ResolvedBlock block).handlers
   pub statements : AreWellFormed e known letters (inside level (out-ResolvedBlock block).cursors s) (out-ResolvedBlock block).statements
@@ -37,7 +38,7 @@ pub record ForWellFormed (e : TypingContext) (known : Known) (letters : Letters)
 pub record ComparedWellFormed (e : TypingContext) (known : Known) (letters : Letters) (s : StatementScope) (x : ResolvedExpr) (bs : List ResolvedBranch) (ss : List ResolvedStatement) : Type 0 where
   pub letter : Letter
   pub value : IsTrue (is_value letter)
-  pub operand : IsTest e known x letter
+  pub operand : IsExpr e false x letter
   pub branches : AreBranches e known letters s bs letter
   pub otherwise : AreWellFormed e known letters s ss
 
@@ -46,8 +47,8 @@ pub data Parted (e : TypingContext) (known : Known) (letters : Letters) (s : Sta
   simple : {y : ResolvedSimple} → IsSimple e s y → WellFormedSimple e known letters s y → Parted e known letters s (layers.Simple y)
   compound : {level : ℕ} {block : ResolvedBlock} → BlockWellFormed e known letters s level block → Parted e known letters s (layers.Compound level block)
   loop : {level : ℕ} {xs : List ResolvedStatement} → AreWellFormed e known letters (looping level s) xs → Parted e known letters s (layers.Loop level xs)
-  while : {level : ℕ} {test : ResolvedExpr} {xs : List ResolvedStatement} → IsTest e known test B → AreWellFormed e known letters (looping level s) xs → Parted e known letters s (layers.While level test xs)
-  repeat : {level : ℕ} {xs : List ResolvedStatement} {until : ResolvedExpr} → AreWellFormed e known letters (looping level s) xs → IsTest e known until B → Parted e known letters s (layers.Repeat level xs until)
+  while : {level : ℕ} {test : ResolvedExpr} {xs : List ResolvedStatement} → IsExpr e false test B → AreWellFormed e known letters (looping level s) xs → Parted e known letters s (layers.While level test xs)
+  repeat : {level : ℕ} {xs : List ResolvedStatement} {until : ResolvedExpr} → AreWellFormed e known letters (looping level s) xs → IsExpr e false until B → Parted e known letters s (layers.Repeat level xs until)
   for_each : {level : ℕ} {head : ResolvedFor} {xs : List ResolvedStatement} → ForWellFormed e known letters s level head xs → Parted e known letters s (layers.For level head xs)
   if_ : {bs : List ResolvedBranch} {ss : List ResolvedStatement} → AreBranches e known letters s bs B → AreWellFormed e known letters s ss → Parted e known letters s (layers.If bs ss)
   searched : {bs : List ResolvedBranch} {ss : List ResolvedStatement} → AreBranches e known letters s bs B → AreWellFormed e known letters s ss → Parted e known letters s (layers.Case None bs ss)
@@ -78,10 +79,10 @@ module _ {e : TypingContext} {known : Known} {letters : Letters} {s : StatementS
   pub of_loop : {level : ℕ} {xs : List ResolvedStatement} → Parted e known letters s (layers.Loop level xs) → AreWellFormed e known letters (looping level s) xs
   of_loop (loop a) = a
 
-  pub of_while : {level : ℕ} {test : ResolvedExpr} {xs : List ResolvedStatement} → Parted e known letters s (layers.While level test xs) → IsTest e known test B × AreWellFormed e known letters (looping level s) xs
+  pub of_while : {level : ℕ} {test : ResolvedExpr} {xs : List ResolvedStatement} → Parted e known letters s (layers.While level test xs) → IsExpr e false test B × AreWellFormed e known letters (looping level s) xs
   of_while (while a b) = (a, b)
 
-  pub of_repeat : {level : ℕ} {xs : List ResolvedStatement} {until : ResolvedExpr} → Parted e known letters s (layers.Repeat level xs until) → AreWellFormed e known letters (looping level s) xs × IsTest e known until B
+  pub of_repeat : {level : ℕ} {xs : List ResolvedStatement} {until : ResolvedExpr} → Parted e known letters s (layers.Repeat level xs until) → AreWellFormed e known letters (looping level s) xs × IsExpr e false until B
   of_repeat (repeat a b) = (a, b)
 
   pub of_for : {level : ℕ} {head : ResolvedFor} {xs : List ResolvedStatement} → Parted e known letters s (layers.For level head xs) → ForWellFormed e known letters s level head xs
@@ -100,7 +101,7 @@ module _ {e : TypingContext} {known : Known} {letters : Letters} {s : StatementS
   of_more (of.more a b) = (a, b)
 
   pub of_branch : {k : Letter} {b : ResolvedBranch} {bs : List ResolvedBranch} → AreBranches e known letters s (b ∷ bs) k
-      → IsTest e known (out-ResolvedBranch b).test k × AreWellFormed e known letters s (out-ResolvedBranch b).statements × AreBranches e known letters s bs k
+      → IsExpr e false (out-ResolvedBranch b).test k × AreWellFormed e known letters s (out-ResolvedBranch b).statements × AreBranches e known letters s bs k
   of_branch (of.and_branch a b c) = (a, b, c)
 
 pub of_handler : {e : TypingContext} {known : Known} {letters : Letters} {level : ℕ} {cursors : List ResolvedCursor} {h : ResolvedHandler} {hs : List ResolvedHandler} → AreActions e known letters level cursors (h ∷ hs)

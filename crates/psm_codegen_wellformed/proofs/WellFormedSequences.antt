@@ -27,7 +27,6 @@ use Rattle.psm_typing.specs.Expressions.{AreExprs, IsExpr}
 use Rattle.psm_typing.specs.TypingContext.{TypingContext}
 use Rattle.psm_codegen_wellformed.specs.Frame.{WellFormedLines}
 use Rattle.psm_codegen_wellformed.specs.Kept.{Keeps}
-use Rattle.psm_wellformed.specs.Expressions.{AllWellFormed, WellFormed}
 use Rattle.psm_codegen_wellformed.proofs.Asking.{duplicate-does}
 use Rattle.psm_codegen_wellformed.proofs.Frees.{arguments-free, free-as, null-typed, null-wanted, writes-free}
 use Rattle.psm_codegen_wellformed.proofs.Lines.{Does, free-join, free-none, free-one, goes-fall_through, line-well_formed, never-fall_through, no-jump, or_second, resumes-following, resumes-never}
@@ -122,28 +121,28 @@ module _ {code : RawCode} {r : RawRoutine} {context resume : ℕ} where
 
   module _ {e : TypingContext} {known : Known} (keeps : Keeps e known code r) where
     -- an expression of which a letter is asked for
-    pub source-part : {k : Letter} {x : ResolvedExpr} {w v : Written} → Writes known context resume k x w v → IsExpr e x k → WellFormed known true x → WellFormedLines code r context resume w v (k ∷ w.stack)
-    source-part {k} {x} a t p = record {
+    pub source-part : {k : Letter} {x : ResolvedExpr} {w v : Written} → Writes known context resume k x w v → IsExpr e true x k → WellFormedLines code r context resume w v (k ∷ w.stack)
+    source-part {k} {x} a t = record {
       grows = grows-writes a;
-      stack = wanted-put k x k refl (writes-stack keeps a t p);
+      stack = wanted-put k x k refl (writes-stack keeps a t);
       starts = λ b f. writes-starts a b f;
-      free = λ first there ends b h f. writes-free keeps first there ends a t p (null-wanted k refl t) b h f;
+      free = λ first there ends b h f. writes-free keeps first there ends a t (null-wanted k refl t) b h f;
     }
 
     -- one that isn't NULL
-    pub operand-part : {j k : Letter} {x : ResolvedExpr} {w v : Written} → Writes known context resume j x w v → IsExpr e x k → WellFormed known false x → WellFormedLines code r context resume w v (k ∷ w.stack)
-    operand-part {j} {k} {x} a t p = record {
+    pub operand-part : {j k : Letter} {x : ResolvedExpr} {w v : Written} → Writes known context resume j x w v → IsExpr e false x k → WellFormedLines code r context resume w v (k ∷ w.stack)
+    operand-part {j} {k} {x} a t = record {
       grows = grows-writes a;
-      stack = typed-put j k p (writes-stack keeps a t p);
+      stack = typed-put j k t (writes-stack keeps a t);
       starts = λ b f. writes-starts a b f;
-      free = λ first there ends b h f. writes-free keeps first there ends a t p (λ q. absurd (null-typed p q)) b h f;
+      free = λ first there ends b h f. writes-free keeps first there ends a t (λ q. absurd (null-typed t q)) b h f;
     }
 
-    pub arguments-part : {letters : List Letter} {n : ℕ} {es : List ResolvedExpr} {w v : Written} → Arguments known context resume letters n es w v → (ks : List Letter) → drop n letters ≡ ks → AreExprs e es ks → AllWellFormed known true es
+    pub arguments-part : {letters : List Letter} {n : ℕ} {es : List ResolvedExpr} {w v : Written} → Arguments known context resume letters n es w v → (ks : List Letter) → drop n letters ≡ ks → AreExprs e true es ks
         → WellFormedLines code r context resume w v (reverse ks ++ w.stack)
-    arguments-part a ks l t p = record {
+    arguments-part a ks l t = record {
       grows = grows-arguments a;
-      stack = arguments-stack keeps a ks l t p;
+      stack = arguments-stack keeps a ks l t;
       starts = λ b f. arguments-starts a b f;
-      free = λ first there ends b h f. arguments-free keeps first there ends a ks l t p b h f;
+      free = λ first there ends b h f. arguments-free keeps first there ends a ks l t b h f;
     }

@@ -15,7 +15,7 @@ use Rattle.psm_code.specs.Instructions.{letters_of_query, parameter_letters, var
 use Rattle.psm_code.specs.Parts.{giving, routine_at, taking}
 use Rattle.psm_exprgen.specs.declared.known.Known.{Known}
 use Rattle.psm_exprgen.specs.Exprs.{function_number}
-use Rattle.psm_exprgen.specs.Queries.{QueryMade, is_query, item_letters}
+use Rattle.psm_exprgen.specs.Queries.{QueryMade, item_letters}
 use Rattle.psm_exprgen.specs.Written.{letter_at, letters_at}
 use Rattle.psm_codegen.specs.Files.{gives_back, is_function, letter_of_result}
 use Rattle.psm_codegen.specs.Simples.{procedure_number}
@@ -45,7 +45,7 @@ FunctionTakes r = returns r.returns ≡ true → list_all (λ p. not (gives_back
 
 -- the items of each query of the routine are of the letters that are known of the query for which it is made
 abbrev pub QueriesKeep : Known → RawCode → RawRoutine → Type 0
-QueriesKeep known code r = (query : ResolvedQuery) (made : Query) (n : ℕ) → is_query known query ≡ true → QueryMade known query made → slice_get r.queries n ≡ Some made → letters_of_query code r made ≡ item_letters known query
+QueriesKeep known code r = (query : ResolvedQuery) (made : Query) (n : ℕ) → QueryMade known query made → slice_get r.queries n ≡ Some made → letters_of_query code r made ≡ item_letters known query
 
 pub record Keeps (e : TypingContext) (known : Known) (code : RawCode) (r : RawRoutine) : Type 0 where
   pub variables : variables_of r ≡ known.variables
@@ -53,7 +53,7 @@ pub record Keeps (e : TypingContext) (known : Known) (code : RawCode) (r : RawRo
   pub functions : (function : ℕ) (routine : ResolvedRoutine) (t : SqlType) → function_at e.file function ≡ Some routine → routine.returns ≡ Some t
       → KeepsFunction known code (function_number known function) (letters_of (taken_by routine.parameters)) (letter_of t)
   -- the items of a query are of the letters that are known, in the tree and in the code
-  pub items : (query : ResolvedQuery) (ks : List Letter) → is_query known query ≡ true → IsQuery e query ks → item_letters known query ≡ ks
+  pub items : (query : ResolvedQuery) (ks : List Letter) → IsQuery e query ks → item_letters known query ≡ ks
   pub queries : QueriesKeep known code r
 
 -- ---- the routine itself, and procedures

@@ -28,6 +28,7 @@ use Rattle.psm_typing.specs.TypingContext.{Each}
 use Rattle.psm_typing.specs.Queries.{AreItems, AreRowValues, AreSets, IsOperand, IsRowValue, letter_of_set}
 use Rattle.psm_typing.proofs.Evaluates.{Evaluates, no_truth}
 use Rattle.psm_typing.proofs.RowValues.{row-evaluates}
+use Rattle.psm_resolved.specs.RowType.{Of, RowType, Untyped, Wrong, goes_as, is_of, row_type_of}
 
 -- ---- results
 
@@ -107,9 +108,15 @@ value_in-right k (Some (Err s)) v h = tt
 value_in-right k (Some (Ok (Value d))) v h = h
 value_in-right k (Some (Ok (Truth t))) v h = absurd (no_truth k v h)
 
+-- what is of a letter and isn't NULL may stand where NULL may
+goes-as : (k : Letter) (s : RowType) → is_of k s ≡ true → goes_as k s ≡ true
+goes-as k Wrong h = h
+goes-as k Untyped h = absurd (false≢true h)
+goes-as k (Of l) h = h
+
 module _ (columns variables : List Letter) (vars : List Datum) (fit : are_of variables vars ≡ true) where
   pub value-right : (x : ResolvedExpr) (k : Letter) → IsRowValue columns variables x k → (row : List Datum) → Row columns row → Right (λ d. has_letter k d ≡ true) ((over vars).value x row)
-  value-right x k h row f = value_in-right k (row_value row vars x) h.value (row-evaluates columns variables row vars f fit x k h.letter)
+  value-right x k h row f = value_in-right k (row_value row vars x) h.value (row-evaluates columns variables row vars f fit x k (goes-as k (row_type_of columns variables x) h.letter))
 
   pub values-right : (xs : List ResolvedExpr) (ks : List Letter) → AreRowValues columns variables xs ks → (row : List Datum) → Row columns row → Right (Row ks) (values_of (over vars) xs row)
   values-right [] [] h row f = refl
@@ -191,21 +198,21 @@ letters_under columns variables [] (k ∷ ks) h = []
 letters_under columns variables (a ∷ others) [] h = []
 letters_under columns variables (a ∷ others) (k ∷ ks) h = h.0.0 ∷ letters_under columns variables others ks h.1
 
-pub operand-value : (columns variables : List Letter) (x : Option ResolvedExpr) (j : Letter) → IsOperand columns variables x j → is_value j ≡ true
-operand-value columns variables None j h = ap is_value h
-operand-value columns variables (Some x) j h = h.value
+pub operand-value : (columns variables : List Letter) (f : q.SetFunction) (x : Option ResolvedExpr) (j : Letter) → IsOperand columns variables f x j → is_value j ≡ true
+operand-value columns variables f None j h = ap is_value h.0
+operand-value columns variables f (Some x) j h = h.0.value
 
 module _ (columns variables : List Letter) (vars : List Datum) (fit : are_of variables vars ≡ true) where
-  operand-right : (x : Option ResolvedExpr) (j : Letter) → IsOperand columns variables x j → (row : List Datum) → Row columns row → Right (λ d. has_letter j d ≡ true) (operand_of (over vars) x row)
-  operand-right None j h row f = subst (λ k. has_letter k (q.whole 1) ≡ true) (sym h) refl
-  operand-right (Some x) j h row f = value-right columns variables vars fit x j h row f
+  operand-right : (f : q.SetFunction) (x : Option ResolvedExpr) (j : Letter) → IsOperand columns variables f x j → (row : List Datum) → Row columns row → Right (λ d. has_letter j d ≡ true) (operand_of (over vars) x row)
+  operand-right f None j h row p = subst (λ k. has_letter k (q.whole 1) ≡ true) (sym h.0) refl
+  operand-right f (Some x) j h row p = value-right columns variables vars fit x j h.0 row p
 
   operands-right : (sets : List (Aggregate ResolvedExpr)) (ks : List Letter) (h : AreSets columns variables sets ks) (row : List Datum) → Row columns row → Right (Row (letters_under columns variables sets ks h)) (operands_of (over vars) sets row)
   operands-right [] [] h row f = refl
   operands-right [] (k ∷ ks) h row f = absurd h
   operands-right (a ∷ others) [] h row f = absurd h
   operands-right (a ∷ others) (k ∷ ks) h row f =
-      right-then (λ d. has_letter h.0.0 d ≡ true) (Row (h.0.0 ∷ letters_under columns variables others ks h.1)) (operand_of (over vars) a.operand row) _ (operand-right a.operand h.0.0 h.0.1 row f)
+      right-then (λ d. has_letter h.0.0 d ≡ true) (Row (h.0.0 ∷ letters_under columns variables others ks h.1)) (operand_of (over vars) a.operand row) _ (operand-right a.function a.operand h.0.0 h.0.1 row f)
       (λ d p. right-mapped (Row (letters_under columns variables others ks h.1)) (Row (h.0.0 ∷ letters_under columns variables others ks h.1)) _ (operands_of (over vars) others row) (operands-right others ks h.1 row f)
       (λ ds g. both_true (has_letter h.0.0 d) (are_of (letters_under columns variables others ks h.1) ds) p g))
 
@@ -216,7 +223,7 @@ module _ (columns variables : List Letter) (vars : List Datum) (fit : are_of var
   finished-right (a ∷ others) (k ∷ ks) h rows i c =
       let j : Letter = h.0.0 in
       right-then (λ d. has_letter k d ≡ true) (Row (k ∷ ks)) (function_of a.function (known (column rows i))) _
-      (subst (λ l. Right (λ d. has_letter l d ≡ true) (function_of a.function (known (column rows i)))) h.0.2 (set-right a.function j (known (column rows i)) (operand-value columns variables a.operand j h.0.1) (known-right j (column rows i) c.0)))
+      (subst (λ l. Right (λ d. has_letter l d ≡ true) (function_of a.function (known (column rows i)))) h.0.2 (set-right a.function j (known (column rows i)) (operand-value columns variables a.function a.operand j h.0.1) (known-right j (column rows i) c.0)))
       (λ d p. right-mapped (Row ks) (Row (k ∷ ks)) _ (finished rows (i + 1) others) (finished-right others ks h.1 rows (i + 1) c.1) (λ ds g. both_true (has_letter k d) (are_of ks ds) p g))
 
   -- ---- answers

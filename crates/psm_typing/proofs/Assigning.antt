@@ -95,7 +95,7 @@ slot-of e slot t h = subst IsThere (sym h) tt
 pub holds-set : {e : TypingContext} {m : Meaning} → Values e m → (eval_context : EvalContext) → eval_context.routine ≡ e.routine → (slot : ℕ) (x : ResolvedExpr) → IsFor e slot x → Holds e m Anything (set eval_context slot x)
 holds-set {e = e} v eval_context r slot x h = holds-bind holds-cleared (λ u w. holds-bind (holds-value_of v x (letter_of h.type) (letter_of-value h.type) h.source) (λ d p. holds-assign eval_context r slot d (slot-of e slot h.type h.there)))
 
-pub holds-returned : {e : TypingContext} {m : Meaning} → Values e m → (eval_context : EvalContext) → eval_context.routine ≡ e.routine → (t : SqlType) (x : ResolvedExpr) → e.routine.returns ≡ Some t → IsExpr e x (letter_of t) → Holds e m (HasLetter (letter_of t)) (returned eval_context x)
+pub holds-returned : {e : TypingContext} {m : Meaning} → Values e m → (eval_context : EvalContext) → eval_context.routine ≡ e.routine → (t : SqlType) (x : ResolvedExpr) → e.routine.returns ≡ Some t → IsExpr e true x (letter_of t) → Holds e m (HasLetter (letter_of t)) (returned eval_context x)
 holds-returned v eval_context r t x h g = holds-bind (holds-value_of v x (letter_of t) (letter_of-value t) g) (λ d p.
     holds-bind (holds-present {P = λ s. s ≡ t} eval_context.routine.returns t (ap (λ y. y.returns) r ∙ h) refl) (λ s q.
     holds-tried (stored s d) (λ w l. subst (λ y. HasLetter (letter_of y) w) q (right-ok (HasLetter (letter_of s)) (stored s d) w (stored-right s d) l))))

@@ -50,7 +50,7 @@ use Rattle.psm_typing.proofs.Holding.{Anything, HasLetter, Holds, IsOf, holds-as
 
 -- well-typed expressions
 abbrev pub Values : TypingContext → Meaning → Type 0
-Values e m = (x : ResolvedExpr) (k : Letter) → IsExpr e x k → Holds e m (IsOf k) (operand x)
+Values e m = (b : Bool) (x : ResolvedExpr) (k : Letter) → IsExpr e b x k → Holds e m (IsOf k) (operand x)
 
 -- the routines of the file, with arguments for all parameters that take one
 abbrev pub Calls : TypingContext → Meaning → Type 0
@@ -81,13 +81,13 @@ holds-three i j l k a b c f h g u w = holds-bind h (λ x p. holds-two j l k b c 
 
 -- ---- expressions as values and as conditions
 
-pub holds-value_of : {e : TypingContext} {m : Meaning} → Values e m → (x : ResolvedExpr) (k : Letter) → is_value k ≡ true → IsExpr e x k → Holds e m (HasLetter k) (value_of x)
-holds-value_of v x k p h = holds-bind (v x k h) (λ a q. holds-as_value k a p q)
+pub holds-value_of : {e : TypingContext} {m : Meaning} {b : Bool} → Values e m → (x : ResolvedExpr) (k : Letter) → is_value k ≡ true → IsExpr e b x k → Holds e m (HasLetter k) (value_of x)
+holds-value_of v x k p h = holds-bind (v _ x k h) (λ a q. holds-as_value k a p q)
 
-pub holds-truth_of : {e : TypingContext} {m : Meaning} → Values e m → (x : ResolvedExpr) → IsExpr e x B → Holds e m Anything (truth_of x)
-holds-truth_of v x h = holds-bind (v x B h) (λ a q. holds-as_truth a q)
+pub holds-truth_of : {e : TypingContext} {m : Meaning} → Values e m → (x : ResolvedExpr) → IsExpr e false x B → Holds e m Anything (truth_of x)
+holds-truth_of v x h = holds-bind (v _ x B h) (λ a q. holds-as_truth a q)
 
-pub holds-values : {e : TypingContext} {m : Meaning} → Values e m → (xs : List ResolvedExpr) (ks : List Letter) → Each (λ k. is_value k ≡ true) ks → AreExprs e xs ks → Holds e m (λ ds. length ds ≡ length ks) (values xs)
+pub holds-values : {e : TypingContext} {m : Meaning} → Values e m → (xs : List ResolvedExpr) (ks : List Letter) → Each (λ k. is_value k ≡ true) ks → AreExprs e true xs ks → Holds e m (λ ds. length ds ≡ length ks) (values xs)
 holds-values v [] [] p typed.none = holds-got [] refl
 holds-values v [] (k ∷ ks) p h = elim h [ ]
 holds-values v (x ∷ xs) [] p h = elim h [ ]
@@ -103,20 +103,20 @@ letters-length (t ∷ ts) = ap (λ n. suc n) (letters-length ts)
 
 -- ---- several operands
 
-first_of : {e : TypingContext} {x : ResolvedExpr} {xs : List ResolvedExpr} {k : Letter} → AreAll e (x ∷ xs) k → IsExpr e x k
+first_of : {e : TypingContext} {b : Bool} {x : ResolvedExpr} {xs : List ResolvedExpr} {k : Letter} → AreAll e b (x ∷ xs) k → IsExpr e b x k
 first_of (typed.and_all h hs) = h
 
-others_of : {e : TypingContext} {x : ResolvedExpr} {xs : List ResolvedExpr} {k : Letter} → AreAll e (x ∷ xs) k → AreAll e xs k
+others_of : {e : TypingContext} {b : Bool} {x : ResolvedExpr} {xs : List ResolvedExpr} {k : Letter} → AreAll e b (x ∷ xs) k → AreAll e b xs k
 others_of (typed.and_all h hs) = hs
 
-holds-joined : {e : TypingContext} {m : Meaning} → Values e m → (j : LogicalOperator) (x : Operand) (xs : List ResolvedExpr) → IsOf B x → AreAll e xs B → Holds e m (IsOf B) (joined j x xs)
+holds-joined : {e : TypingContext} {m : Meaning} → Values e m → (j : LogicalOperator) (x : Operand) (xs : List ResolvedExpr) → IsOf B x → AreAll e false xs B → Holds e m (IsOf B) (joined j x xs)
 holds-joined v j x [] p h = holds-got x p
-holds-joined v j x (y ∷ ys) p h = holds-bind (holds-one B B y (λ b. layers.LogicalOperator j (record { first = there x; rest = b ∷ [] })) (v y B (first_of h)) (λ z q vars. Layers.joins j [] vars (there x) (there z) p q)) (λ both q. holds-joined v j both ys q (others_of h))
+holds-joined v j x (y ∷ ys) p h = holds-bind (holds-one B B y (λ b. layers.LogicalOperator j (record { first = there x; rest = b ∷ [] })) (v _ y B (first_of h)) (λ z q vars. Layers.joins j [] vars (there x) (there z) p q)) (λ both q. holds-joined v j both ys q (others_of h))
 
 holds-linked : {e : TypingContext} {m : Meaning} → Values e m → (k : Letter) (x : Operand) (ls : List ResolvedOperation) → IsOf k x → AreChainLinks e ls k → Holds e m (IsOf k) (linked x ls)
 holds-linked v k x [] p h = holds-got x p
 holds-linked v k x (l ∷ ls) p (typed.and_chain_link s h hs) =
-    holds-bind (holds-one k k (out-ResolvedOperation l).operand (λ b. layers.OperatorChain (there x) (((out-ResolvedOperation l).operator, b) ∷ [])) (v (out-ResolvedOperation l).operand k h) (λ y q vars.
+    holds-bind (holds-one k k (out-ResolvedOperation l).operand (λ b. layers.OperatorChain (there x) (((out-ResolvedOperation l).operator, b) ∷ [])) (v _ (out-ResolvedOperation l).operand k h) (λ y q vars.
     let o = (out-ResolvedOperation l).operator in
     let w : is_value k ≡ true = subst (λ i. is_value i ≡ true) s (Layers.operator-value o) in
     subst (λ i. Evaluates i (outcomes.of_two (λ a b. outcomes.valued (operated o a b)) (there x) (there y))) s (Layers.chain_link-evaluates o (there x) (there y) (valued-there k x w p) (valued-there k y w q))))
@@ -126,13 +126,13 @@ all_there : (k : Letter) (xs : List Operand) → is_value k ≡ true → Each (I
 all_there k [] v h = tt
 all_there k (x ∷ xs) v h = (valued-there k x v h.0, all_there k xs v h.1)
 
-holds-operands : {e : TypingContext} {m : Meaning} → Values e m → (k : Letter) (xs : List ResolvedExpr) → AreAll e xs k → Holds e m (Each (IsOf k)) (operands xs)
+holds-operands : {e : TypingContext} {m : Meaning} → Values e m → (k : Letter) (xs : List ResolvedExpr) → AreAll e false xs k → Holds e m (Each (IsOf k)) (operands xs)
 holds-operands v k [] h = holds-got [] tt
-holds-operands v k (x ∷ xs) h = holds-bind (v x k (first_of h)) (λ a p. holds-bind (holds-operands v k xs (others_of h)) (λ others q. holds-got (a ∷ others) (p, q)))
+holds-operands v k (x ∷ xs) h = holds-bind (v _ x k (first_of h)) (λ a p. holds-bind (holds-operands v k xs (others_of h)) (λ others q. holds-got (a ∷ others) (p, q)))
 
-holds-among : {e : TypingContext} {m : Meaning} → Values e m → (k : Letter) (negated : Bool) (x : ResolvedExpr) (list : Several ResolvedExpr) → is_value k ≡ true → IsExpr e x k → AreAll e (listed list) k → Holds e m (IsOf B) (among negated x list)
+holds-among : {e : TypingContext} {m : Meaning} → Values e m → (k : Letter) (negated : Bool) (x : ResolvedExpr) (list : Several ResolvedExpr) → is_value k ≡ true → IsExpr e false x k → AreAll e false (listed list) k → Holds e m (IsOf B) (among negated x list)
 holds-among v k negated x list w h hs =
-    holds-bind (v x k h) (λ a p. holds-bind (v list.first k (first_of hs)) (λ first q. holds-bind (holds-operands v k list.rest (others_of hs)) (λ others r.
+    holds-bind (v _ x k h) (λ a p. holds-bind (v _ list.first k (first_of hs)) (λ first q. holds-bind (holds-operands v k list.rest (others_of hs)) (λ others r.
     holds-worked B (layers.In negated (there a) (record { first = there first; rest = map there others })) (λ vars u. Layers.in-evaluates [] vars negated (there a) (record { first = there first; rest = map there others }) (valued-there k a w p) (valued-there k first w q, all_there k others w r)))))
 
 -- ---- choices
@@ -142,22 +142,22 @@ holds-scaled scale x h = holds-came (letter_at scale) _ (Layers.scale-evaluates 
 
 holds-else_of : {e : TypingContext} {m : Meaning} → Values e m → (k : Letter) (x : Option ResolvedExpr) → is_value k ≡ true → IsElse e x k → Holds e m (IsOf k) (else_of x)
 holds-else_of v k None p h = holds-got (Value Null) (null-letter k p)
-holds-else_of v k (Some x) p (typed.with_else h) = v x k h
+holds-else_of v k (Some x) p (typed.with_else h) = v _ x k h
 
-pub holds-is_equal : {e : TypingContext} {m : Meaning} → Values e m → (d : Datum) (x : ResolvedExpr) (k : Letter) → is_value k ≡ true → IsExpr e x k → Holds e m Anything (is_equal d x)
+pub holds-is_equal : {e : TypingContext} {m : Meaning} → Values e m → (d : Datum) (x : ResolvedExpr) (k : Letter) → is_value k ≡ true → IsExpr e false x k → Holds e m Anything (is_equal d x)
 holds-is_equal v d x k p h = holds-bind (holds-value_of v x k p h) (λ c q. holds-got _ tt)
 
-holds-chosen : {e : TypingContext} {m : Meaning} → Values e m → (j k : Letter) (test : ResolvedExpr → Act truth.Truth) → ((x : ResolvedExpr) → IsExpr e x j → Holds e m Anything (test x)) → (ws : List ResolvedWhen) (otherwise : Option ResolvedExpr) → is_value k ≡ true → AreWhens e ws j k → IsElse e otherwise k
+holds-chosen : {e : TypingContext} {m : Meaning} → Values e m → (j k : Letter) (test : ResolvedExpr → Act truth.Truth) → ((x : ResolvedExpr) → IsExpr e false x j → Holds e m Anything (test x)) → (ws : List ResolvedWhen) (otherwise : Option ResolvedExpr) → is_value k ≡ true → AreWhens e ws j k → IsElse e otherwise k
     → Holds e m (IsOf k) (chosen test ws otherwise)
 holds-chosen v j k test t [] otherwise p h g = holds-else_of v k otherwise p g
 holds-chosen v j k test t (w ∷ ws) otherwise p (typed.and_when a b hs) g =
-    holds-bind (t (out-ResolvedWhen w).test a) (λ c u. holds-if (is_certain c) (v (out-ResolvedWhen w).result k b) (holds-chosen v j k test t ws otherwise p hs g))
+    holds-bind (t (out-ResolvedWhen w).test a) (λ c u. holds-if (is_certain c) (v _ (out-ResolvedWhen w).result k b) (holds-chosen v j k test t ws otherwise p hs g))
 
 set-holds : {e : TypingContext} {m : Meaning} (k : Letter) (d : Datum) → HasLetter k d → Holds e m (IsOf k) (got (Value d))
 set-holds k d h = holds-got (Value d) h
 
-holds-first_set : {e : TypingContext} {m : Meaning} → Values e m → (k : Letter) (x : ResolvedExpr) (xs : List ResolvedExpr) → is_value k ≡ true → IsExpr e x k → AreAll e xs k → Holds e m (IsOf k) (first_set x xs)
-holds-first_set v k x [] p h hs = v x k h
+holds-first_set : {e : TypingContext} {m : Meaning} → Values e m → (k : Letter) (x : ResolvedExpr) (xs : List ResolvedExpr) → is_value k ≡ true → IsExpr e true x k → AreAll e true xs k → Holds e m (IsOf k) (first_set x xs)
+holds-first_set v k x [] p h hs = v _ x k h
 holds-first_set v k x (y ∷ ys) p h hs = holds-bind (holds-value_of v x k p h) (λ d q. holds-if (is_null d) (holds-first_set v k y ys p (first_of hs) (others_of hs)) (set-holds k d q))
 
 -- ---- calls
@@ -212,7 +212,7 @@ item-value : (columns variables : List Letter) (items : q.Items ResolvedExpr) (k
 item-value columns variables (q.Rows []) k h = absurd h
 item-value columns variables (q.Rows (x ∷ xs)) k h = h.0.value
 item-value columns variables (q.Sets []) k h = absurd h
-item-value columns variables (q.Sets (a ∷ others)) k h = subst (λ i. is_value i ≡ true) h.0.2 (set-value a.function h.0.0 (operand-value columns variables a.operand h.0.0 h.0.1))
+item-value columns variables (q.Sets (a ∷ others)) k h = subst (λ i. is_value i ≡ true) h.0.2 (set-value a.function h.0.0 (operand-value columns variables a.function a.operand h.0.0 h.0.1))
 
 holds-scalar : {e : TypingContext} {m : Meaning} (k : Letter) (rs : List (List Datum)) → is_value k ≡ true → Each (Row (k ∷ [])) rs → Holds e m (IsOf k) (scalar rs)
 holds-scalar k [] v h = holds-got (Value Null) (null-letter k v)
@@ -231,37 +231,37 @@ known-variable (j ∷ ks) [] i k f h = absurd (cc)
 known-variable (j ∷ ks) (d ∷ ds) zero k f h = subst (λ l. has_letter l d ≡ true) (some_same h) (and_first (has_letter j d) (are_of ks ds) f)
 known-variable (j ∷ ks) (d ∷ ds) (suc i) k f h = known-variable ks ds i k (and_second (has_letter j d) (are_of ks ds) f) h
 
-pub holds-evaluated : {e : TypingContext} {m : Meaning} → Values e m → Calls e m → (x : ResolvedExpr) (k : Letter) → IsExpr e x k → Holds e m (IsOf k) (evaluated e.file (out-ResolvedExpr x))
+pub holds-evaluated : {e : TypingContext} {m : Meaning} {b : Bool} → Values e m → Calls e m → (x : ResolvedExpr) (k : Letter) → IsExpr e b x k → Holds e m (IsOf k) (evaluated e.file (out-ResolvedExpr x))
 holds-evaluated v c x k (typed.null q w) = by-layer x layers.Null q (holds-worked k layers.Null (λ vars u. null-letter k w))
 holds-evaluated v c x k (typed.number n q) = by-layer x (layers.Number n) q (holds-worked N (layers.Number n) (λ vars u. refl))
 holds-evaluated v c x k (typed.text t q) = by-layer x (layers.Text t) q (holds-worked T (layers.Text t) (λ vars u. refl))
 holds-evaluated {e = e} v c x k (typed.variable slot q h) = by-layer x (layers.Variable slot) q (holds-worked k (layers.Variable slot) (λ vars u. known-variable (variables_of e) vars slot k u h))
-holds-evaluated v c x k (typed.logical_operator j xs q h) = by-layer x (layers.LogicalOperator j xs) q (holds-bind (v xs.first B (first_of h)) (λ a p. holds-joined v j a xs.rest p (others_of h)))
-holds-evaluated v c x k (typed.not y q h) = by-layer x (layers.Not y) q (holds-one B B y (λ a. layers.Not a) (v y B h) (λ a p vars. Layers.not-evaluates [] vars (there a) p))
-holds-evaluated v c x k (typed.compare {k = j} operator y z q w g h) = by-layer x (layers.Compare operator y z) q (holds-two j j B y z (λ a b. layers.Compare operator a b) (v y j g) (v z j h) (λ a b p r vars. Layers.compare-evaluates [] vars operator (there a) (there b) (valued-there j a w p) (valued-there j b w r)))
-holds-evaluated v c x k (typed.is_null {k = j} negated y q w h) = by-layer x (layers.IsNull negated y) q (holds-one j B y (λ a. layers.IsNull negated a) (v y j h) (λ a p vars. Layers.is_null-evaluates [] vars negated (there a) (valued-there j a w p)))
-holds-evaluated v c x k (typed.between {k = j} negated y z u q w f g h) = by-layer x (layers.Between negated y z u) q (holds-three j j j B y z u (λ a b d. layers.Between negated a b d) (v y j f) (v z j g) (v u j h) (λ a b d p r s vars.
+holds-evaluated v c x k (typed.logical_operator j xs q h) = by-layer x (layers.LogicalOperator j xs) q (holds-bind (v _ xs.first B (first_of h)) (λ a p. holds-joined v j a xs.rest p (others_of h)))
+holds-evaluated v c x k (typed.not y q h) = by-layer x (layers.Not y) q (holds-one B B y (λ a. layers.Not a) (v _ y B h) (λ a p vars. Layers.not-evaluates [] vars (there a) p))
+holds-evaluated v c x k (typed.compare {k = j} operator y z q w g h) = by-layer x (layers.Compare operator y z) q (holds-two j j B y z (λ a b. layers.Compare operator a b) (v _ y j g) (v _ z j h) (λ a b p r vars. Layers.compare-evaluates [] vars operator (there a) (there b) (valued-there j a w p) (valued-there j b w r)))
+holds-evaluated v c x k (typed.is_null {k = j} negated y q w h) = by-layer x (layers.IsNull negated y) q (holds-one j B y (λ a. layers.IsNull negated a) (v _ y j h) (λ a p vars. Layers.is_null-evaluates [] vars negated (there a) (valued-there j a w p)))
+holds-evaluated v c x k (typed.between {k = j} negated y z u q w f g h) = by-layer x (layers.Between negated y z u) q (holds-three j j j B y z u (λ a b d. layers.Between negated a b d) (v _ y j f) (v _ z j g) (v _ u j h) (λ a b d p r s vars.
     Layers.between-evaluates [] vars negated (there a) (there b) (there d) (valued-there j a w p) (valued-there j b w r) (valued-there j d w s)))
 holds-evaluated v c x k (typed.among {k = j} negated y list q w h hs) = by-layer x (layers.In negated y list) q (holds-among v j negated y list w h hs)
-holds-evaluated v c x k (typed.like negated y z q g h) = by-layer x (layers.Like negated y z None) q (holds-two T T B y z (λ a b. layers.Like negated a b None) (v y T g) (v z T h) (λ a b p r vars. Layers.like-evaluates [] vars negated (there a) (there b) (valued-there T a refl p) (valued-there T b refl r)))
-holds-evaluated v c x k (typed.like_escaped negated y z u q f g h) = by-layer x (layers.Like negated y z (Some u)) q (holds-three T T T B y z u (λ a b d. layers.Like negated a b (Some d)) (v y T f) (v z T g) (v u T h) (λ a b d p r s vars.
+holds-evaluated v c x k (typed.like negated y z q g h) = by-layer x (layers.Like negated y z None) q (holds-two T T B y z (λ a b. layers.Like negated a b None) (v _ y T g) (v _ z T h) (λ a b p r vars. Layers.like-evaluates [] vars negated (there a) (there b) (valued-there T a refl p) (valued-there T b refl r)))
+holds-evaluated v c x k (typed.like_escaped negated y z u q f g h) = by-layer x (layers.Like negated y z (Some u)) q (holds-three T T T B y z u (λ a b d. layers.Like negated a b (Some d)) (v _ y T f) (v _ z T g) (v _ u T h) (λ a b d p r s vars.
     Layers.like_escaped-evaluates [] vars negated (there a) (there b) (there d) (valued-there T a refl p) (valued-there T b refl r) (valued-there T d refl s)))
-holds-evaluated v c x k (typed.operator_chain y chain_links q h hs) = by-layer x (layers.OperatorChain y chain_links) q (holds-bind (v y k h) (λ a p. holds-linked v k a chain_links p hs))
-holds-evaluated v c x k (typed.negated y q h) = by-layer x (layers.Negated y) q (holds-one N N y (λ a. layers.Negated a) (v y N h) (λ a p vars. Layers.negated-evaluates [] vars (there a) (valued-there N a refl p)))
+holds-evaluated v c x k (typed.operator_chain y chain_links q h hs) = by-layer x (layers.OperatorChain y chain_links) q (holds-bind (v _ y k h) (λ a p. holds-linked v k a chain_links p hs))
+holds-evaluated v c x k (typed.negated y q h) = by-layer x (layers.Negated y) q (holds-one N N y (λ a. layers.Negated a) (v _ y N h) (λ a p vars. Layers.negated-evaluates [] vars (there a) (valued-there N a refl p)))
 holds-evaluated v c x k (typed.call function arguments r t q f g hs) = by-layer x (layers.Call function arguments) q (holds-bind (holds-values v arguments (letters_of (taken_by r.parameters)) (letters-values (taken_by r.parameters)) hs) (λ args l.
     holds-called c function r t args f g (l ∙ letters-length (taken_by r.parameters))))
 holds-evaluated {e = e} v c x k (typed.scalar query q h) = by-layer x (layers.Scalar query) q (holds-bind (holds-answer_of query (k ∷ []) h) (λ a p. holds-scalar k a.rows (item-value (columns_of h.table) (variables_of e) (query_of query).items k h.items) p))
 holds-evaluated v c x k (typed.exists query ks q h) = by-layer x (layers.Exists query) q (holds-bind (holds-answer_of query ks h) (λ a p. holds-got _ refl))
-holds-evaluated v c x k (typed.searched ws otherwise scale q hs h) = by-layer x (layers.Case None ws otherwise scale) q
+holds-evaluated v c x k (typed.searched ws otherwise scale q i hs h) = by-layer x (layers.Case None ws otherwise scale) q
     (holds-bind (holds-chosen v B (letter_at scale) truth_of (holds-truth_of v) (listed ws) otherwise (Layers.letter_at-value scale) hs h) (λ a p. holds-scaled scale a p))
-holds-evaluated v c x k (typed.compared {j = j} y ws otherwise scale q w g hs h) = by-layer x (layers.Case (Some y) ws otherwise scale) q
+holds-evaluated v c x k (typed.compared {j = j} y ws otherwise scale q i w g hs h) = by-layer x (layers.Case (Some y) ws otherwise scale) q
     (holds-bind (holds-bind (holds-value_of v y j w g) (λ d p. holds-chosen v j (letter_at scale) (is_equal d) (λ z f. holds-is_equal v d z j w f) (listed ws) otherwise (Layers.letter_at-value scale) hs h)) (λ a p. holds-scaled scale a p))
-holds-evaluated v c x k (typed.coalesce xs scale q h) = by-layer x (layers.Coalesce xs scale) q (holds-bind (holds-first_set v (letter_at scale) xs.first xs.rest (Layers.letter_at-value scale) (first_of h) (others_of h)) (λ a p. holds-scaled scale a p))
-holds-evaluated v c x k (typed.cast {k = j} y to q w h) = by-layer x (layers.Cast y to) q (holds-one j (letter_of to) y (λ a. layers.Cast a to) (v y j h) (λ a p vars. Layers.cast-evaluates [] vars (there a) to (valued-there j a w p)))
-holds-evaluated v c x k (typed.null_if y z q w g h) = by-layer x (layers.NullIf y z) q (holds-two k k k y z (λ a b. layers.NullIf a b) (v y k g) (v z k h) (λ a b p r vars. Layers.null_if-evaluates [] vars k (there a) (there b) w p (valued-there k b w r)))
-holds-evaluated v c x k (typed.function f y q h) = by-layer x (layers.Function f y) q (holds-one T k y (λ a. layers.Function f a) (v y T h) (λ a p vars. Layers.function-evaluates [] vars f (there a) (valued-there T a refl p)))
-holds-evaluated v c x k (typed.position y z q g h) = by-layer x (layers.Position y z) q (holds-two T T N y z (λ a b. layers.Position a b) (v y T g) (v z T h) (λ a b p r vars. Layers.position-evaluates [] vars (there a) (there b) (valued-there T a refl p) (valued-there T b refl r)))
-holds-evaluated v c x k (typed.substring y z q g h) = by-layer x (layers.Substring y z None) q (holds-two T N T y z (λ a b. layers.Substring a b None) (v y T g) (v z N h) (λ a b p r vars. Layers.substring-evaluates [] vars (there a) (there b) (valued-there T a refl p) (valued-there N b refl r)))
-holds-evaluated v c x k (typed.substring_for y z u q f g h) = by-layer x (layers.Substring y z (Some u)) q (holds-three T N N T y z u (λ a b d. layers.Substring a b (Some d)) (v y T f) (v z N g) (v u N h) (λ a b d p r s vars.
+holds-evaluated v c x k (typed.coalesce xs scale q i h) = by-layer x (layers.Coalesce xs scale) q (holds-bind (holds-first_set v (letter_at scale) xs.first xs.rest (Layers.letter_at-value scale) (first_of h) (others_of h)) (λ a p. holds-scaled scale a p))
+holds-evaluated v c x k (typed.cast {k = j} y to q i w h) = by-layer x (layers.Cast y to) q (holds-one j (letter_of to) y (λ a. layers.Cast a to) (v _ y j h) (λ a p vars. Layers.cast-evaluates [] vars (there a) to (valued-there j a w p)))
+holds-evaluated v c x k (typed.null_if y z q w g h) = by-layer x (layers.NullIf y z) q (holds-two k k k y z (λ a b. layers.NullIf a b) (v _ y k g) (v _ z k h) (λ a b p r vars. Layers.null_if-evaluates [] vars k (there a) (there b) w p (valued-there k b w r)))
+holds-evaluated v c x k (typed.function f y q h) = by-layer x (layers.Function f y) q (holds-one T k y (λ a. layers.Function f a) (v _ y T h) (λ a p vars. Layers.function-evaluates [] vars f (there a) (valued-there T a refl p)))
+holds-evaluated v c x k (typed.position y z q g h) = by-layer x (layers.Position y z) q (holds-two T T N y z (λ a b. layers.Position a b) (v _ y T g) (v _ z T h) (λ a b p r vars. Layers.position-evaluates [] vars (there a) (there b) (valued-there T a refl p) (valued-there T b refl r)))
+holds-evaluated v c x k (typed.substring y z q g h) = by-layer x (layers.Substring y z None) q (holds-two T N T y z (λ a b. layers.Substring a b None) (v _ y T g) (v _ z N h) (λ a b p r vars. Layers.substring-evaluates [] vars (there a) (there b) (valued-there T a refl p) (valued-there N b refl r)))
+holds-evaluated v c x k (typed.substring_for y z u q f g h) = by-layer x (layers.Substring y z (Some u)) q (holds-three T N N T y z u (λ a b d. layers.Substring a b (Some d)) (v _ y T f) (v _ z N g) (v _ u N h) (λ a b d p r s vars.
     Layers.substring_for-evaluates [] vars (there a) (there b) (there d) (valued-there T a refl p) (valued-there N b refl r) (valued-there N d refl s)))
-holds-evaluated v c x k (typed.trim side y q h) = by-layer x (layers.Trim side y) q (holds-one T T y (λ a. layers.Trim side a) (v y T h) (λ a p vars. Layers.trim-evaluates [] vars side (there a) (valued-there T a refl p)))
+holds-evaluated v c x k (typed.trim side y q h) = by-layer x (layers.Trim side y) q (holds-one T T y (λ a. layers.Trim side a) (v _ y T h) (λ a p vars. Layers.trim-evaluates [] vars side (there a) (valued-there T a refl p)))

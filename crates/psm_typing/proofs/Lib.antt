@@ -5,6 +5,7 @@ pub mod RowValues
 pub mod Holding
 pub mod Answers
 pub mod Evaluating
+pub mod Inversion
 pub mod Fitting
 pub mod Assigning
 pub mod Fetching

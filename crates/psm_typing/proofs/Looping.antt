@@ -30,7 +30,7 @@ use Rattle.psm_typing.proofs.Holding.{Anything, Holds}
 
 -- ---- IF and CASE
 
-pub goes-branched : {e : TypingContext} {m : Meaning} → Parts e m → (s : StatementScope) (eval_context : EvalContext) → IsEvalContext e s eval_context → (k : Letter) (test : ResolvedExpr → Act truth.Truth) → ((x : ResolvedExpr) → IsExpr e x k → Holds e m Anything (test x)) → (bs : List ResolvedBranch) (otherwise : Deed)
+pub goes-branched : {e : TypingContext} {m : Meaning} → Parts e m → (s : StatementScope) (eval_context : EvalContext) → IsEvalContext e s eval_context → (k : Letter) (test : ResolvedExpr → Act truth.Truth) → ((x : ResolvedExpr) → IsExpr e false x k → Holds e m Anything (test x)) → (bs : List ResolvedBranch) (otherwise : Deed)
     → AreBranches e s bs k → Goes e m s eval_context.scopes otherwise → Goes e m s eval_context.scopes (branched eval_context test bs otherwise)
 goes-branched parts s eval_context p k test t [] otherwise h g = g
 goes-branched parts s eval_context p k test t (b ∷ bs) otherwise (typed.and_branch x xs hs) g =
@@ -40,7 +40,7 @@ pub goes-else_of : {e : TypingContext} {m : Meaning} → Parts e m → (s : Stat
 goes-else_of parts s eval_context p [] h = goes-raised parts s eval_context p (of_state (codes "20000"))
 goes-else_of parts s eval_context p (x ∷ xs) h = goes-all parts s eval_context (x ∷ xs) p h
 
-pub goes-compared : {e : TypingContext} {m : Meaning} → Values e m → Parts e m → (s : StatementScope) (eval_context : EvalContext) → IsEvalContext e s eval_context → (k : Letter) (x : ResolvedExpr) (bs : List ResolvedBranch) (otherwise : Deed) → is_value k ≡ true → IsExpr e x k → AreBranches e s bs k → Goes e m s eval_context.scopes otherwise
+pub goes-compared : {e : TypingContext} {m : Meaning} → Values e m → Parts e m → (s : StatementScope) (eval_context : EvalContext) → IsEvalContext e s eval_context → (k : Letter) (x : ResolvedExpr) (bs : List ResolvedBranch) (otherwise : Deed) → is_value k ≡ true → IsExpr e false x k → AreBranches e s bs k → Goes e m s eval_context.scopes otherwise
     → Goes e m s eval_context.scopes (cased eval_context (Some x) bs otherwise)
 goes-compared v parts s eval_context p k x bs otherwise w f h g = goes-after parts s eval_context p (holds-value_of v x k w f) (λ d q. goes-branched parts s eval_context p k (is_equal d) (λ y i. holds-is_equal v d y k w i) bs otherwise h g)
 
@@ -70,11 +70,11 @@ list-goes parts s eval_context level xs again p h g = goes-following (looping le
 pub goes-looped : {e : TypingContext} {m : Meaning} → Parts e m → (s : StatementScope) (eval_context : EvalContext) (level : ℕ) (xs : List ResolvedStatement) (again : Deed) → IsEvalContext e s eval_context → AreStatements e (looping level s) xs → Goes e m s eval_context.scopes again → Goes e m s eval_context.scopes (looped level eval_context xs again)
 goes-looped parts s eval_context level xs again p h g = goes-at_turn (list-goes parts s eval_context level xs again p h g)
 
-pub goes-while_true : {e : TypingContext} {m : Meaning} → Values e m → Parts e m → (s : StatementScope) (eval_context : EvalContext) (level : ℕ) (test : ResolvedExpr) (xs : List ResolvedStatement) (again : Deed) → IsEvalContext e s eval_context → IsExpr e test B → AreStatements e (looping level s) xs → Goes e m s eval_context.scopes again
+pub goes-while_true : {e : TypingContext} {m : Meaning} → Values e m → Parts e m → (s : StatementScope) (eval_context : EvalContext) (level : ℕ) (test : ResolvedExpr) (xs : List ResolvedStatement) (again : Deed) → IsEvalContext e s eval_context → IsExpr e false test B → AreStatements e (looping level s) xs → Goes e m s eval_context.scopes again
     → Goes e m s eval_context.scopes (while_true level eval_context test xs again)
 goes-while_true v parts s eval_context level test xs again p f h g = goes-at_turn (goes-after parts s eval_context p (holds-truth_of v test f) (λ t u. goes-if (is_certain t) (list-goes parts s eval_context level xs again p h g) (goes-ends_as Normal tt)))
 
-pub goes-until_true : {e : TypingContext} {m : Meaning} → Values e m → Parts e m → (s : StatementScope) (eval_context : EvalContext) (level : ℕ) (xs : List ResolvedStatement) (until : ResolvedExpr) (again : Deed) → IsEvalContext e s eval_context → AreStatements e (looping level s) xs → IsExpr e until B → Goes e m s eval_context.scopes again
+pub goes-until_true : {e : TypingContext} {m : Meaning} → Values e m → Parts e m → (s : StatementScope) (eval_context : EvalContext) (level : ℕ) (xs : List ResolvedStatement) (until : ResolvedExpr) (again : Deed) → IsEvalContext e s eval_context → AreStatements e (looping level s) xs → IsExpr e false until B → Goes e m s eval_context.scopes again
     → Goes e m s eval_context.scopes (until_true level eval_context xs until again)
 goes-until_true v parts s eval_context level xs until again p h f g = goes-at_turn (list-goes parts s eval_context level xs _ p h (goes-after parts s eval_context p (holds-truth_of v until f) (λ t u. goes-if (is_certain t) (goes-ends_as Normal tt) g)))
 

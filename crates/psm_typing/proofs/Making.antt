@@ -1,5 +1,5 @@
 -- Well-typed blocks, handlers and branches that are put together from their parts.
-use Rattle.std.proofs.Common.{◌≡◌, ℕ, List, ◌∷◌, sym, subst}
+use Rattle.std.proofs.Common.{◌≡◌, ℕ, List, ◌∷◌, sym, subst, false}
 use Rattle.psm_cond.specs.declared.handlers.ConditionValue.{ConditionValue}
 use Rattle.psm_cond.specs.declared.handlers.HandlerKind.{HandlerKind}
 use Rattle.psm_exprcode.specs.declared.op.Letter.{Letter}
@@ -28,8 +28,8 @@ pub handler-well_typed : {e : TypingContext} {level : ℕ} {cursors : List Resol
 handler-well_typed {e = e} {level = level} {cursors = cursors} kind values x h hs =
     typed.and_handler (subst (λ y. IsStatement e (in_action level cursors) y.action) (sym (out-roll-ResolvedHandler (record { kind = kind; values = values; action = x }))) h) hs
 
-pub branch-well_typed : {e : TypingContext} {s : StatementScope} {k : Letter} {bs : List ResolvedBranch} (test : ResolvedExpr) (xs : List ResolvedStatement) → IsExpr e test k → AreStatements e s xs → AreBranches e s bs k
+pub branch-well_typed : {e : TypingContext} {s : StatementScope} {k : Letter} {bs : List ResolvedBranch} (test : ResolvedExpr) (xs : List ResolvedStatement) → IsExpr e false test k → AreStatements e s xs → AreBranches e s bs k
     → AreBranches e s (roll-ResolvedBranch (record { test = test; statements = xs }) ∷ bs) k
 branch-well_typed {e = e} {s = s} {k = k} test xs h hs bs =
     let r = sym (out-roll-ResolvedBranch (record { test = test; statements = xs })) in
-    typed.and_branch (subst (λ b. IsExpr e b.test k) r h) (subst (λ b. AreStatements e s b.statements) r hs) bs
+    typed.and_branch (subst (λ b. IsExpr e false b.test k) r h) (subst (λ b. AreStatements e s b.statements) r hs) bs

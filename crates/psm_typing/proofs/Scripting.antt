@@ -41,8 +41,8 @@ over-is r (Got d) h = h
 over-is r (Raises c) h = tt
 over-is r (Ends stop) h = h
 
-pub value-well_typed : (e : TypingContext) → IsWellTyped e.file → (h : ℕ) (x : ResolvedExpr) (k : Letter) → IsExpr e x k → (st : State) → IsState e st → IsGiven k ((meaning e.file h).value x st).given × IsState e ((meaning e.file h).value x st).state
-value-well_typed e well_typed h x k f st s = let w = (((everywhere e.file well_typed h).values e.routine e.shapes) x k f).well st s in (given-is k ((meaning e.file h).value x st).given w.given, w.state)
+pub value-well_typed : (e : TypingContext) → IsWellTyped e.file → (h : ℕ) (b : Bool) (x : ResolvedExpr) (k : Letter) → IsExpr e b x k → (st : State) → IsState e st → IsGiven k ((meaning e.file h).value x st).given × IsState e ((meaning e.file h).value x st).state
+value-well_typed e well_typed h b x k f st s = let w = (((everywhere e.file well_typed h).values e.routine e.shapes) b x k f).well st s in (given-is k ((meaning e.file h).value x st).given w.given, w.state)
 
 pub statement-well_typed : (e : TypingContext) → IsWellTyped e.file → (h : ℕ) (s : StatementScope) (eval_context : EvalContext) (x : ResolvedStatement) → IsEvalContext e s eval_context → IsStatement e s x → (st : State) → IsState e st → IsEnd e s eval_context.scopes ((meaning e.file h).done (Do x) eval_context st).outcome × IsState e ((meaning e.file h).done (Do x) eval_context st).state
 statement-well_typed e well_typed h s eval_context x p f st t = let w = (((everywhere e.file well_typed h).parts e.routine e.shapes).part s eval_context x p f).done st t in (w.end, w.state)

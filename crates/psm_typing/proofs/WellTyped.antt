@@ -29,7 +29,7 @@ known {file = file} well_typed k r shapes = record { values = k.values r shapes;
 
 nowhere : (file : ResolvedFile) → Everywhere file nothing
 nowhere file = record {
-  values = λ r shapes x k h. record { well = λ st s. record { state = s; given = tt } };
+  values = λ r shapes b x k h. record { well = λ st s. record { state = s; given = tt } };
   parts = λ r shapes. record {
     part = λ s eval_context x p h. record { done = λ st f. record { state = f; end = tt } };
     round = λ s eval_context level head xs p c f h. record { done = λ st g. record { state = g; end = tt } };
@@ -38,7 +38,7 @@ nowhere file = record {
 
 higher : {file : ResolvedFile} {m : Meaning} → IsWellTyped file → Everywhere file m → Everywhere file (step file m)
 higher {file = file} well_typed k = record {
-  values = λ r shapes x j h. record { well = λ st s. (holds-evaluated (k.values r shapes) (calls well_typed k r shapes) x j h).well st s };
+  values = λ r shapes b x j h. record { well = λ st s. (holds-evaluated (k.values r shapes) (calls well_typed k r shapes) x j h).well st s };
   parts = λ r shapes. record {
     part = λ s eval_context x p h. record { done = λ st f. (goes-statement (known well_typed k r shapes) s eval_context p x (part eval_context x) ((k.parts r shapes).part s eval_context x p h) h).done st f };
     round = λ s eval_context level head xs p c f h. record { done = λ st g. (goes-round (k.parts r shapes) s eval_context level head xs p c f h).done st g };

@@ -39,7 +39,7 @@ use Rattle.psm_resolved.specs.RowType.{IsOfLetter}
 use Rattle.psm_meaning.specs.Calls.{procedure_at}
 use Rattle.psm_meaning.specs.Rows.{query_of}
 use Rattle.psm_typing.specs.TypingContext.{TypingContext, Shape, Among, Each, IsThere, columns_of, variables_of}
-use Rattle.psm_typing.specs.Queries.{IsQuery, IsRowValue}
+use Rattle.psm_typing.specs.Queries.{IsQuery, IsRowTest}
 use Rattle.psm_typing.specs.Expressions.{AreExprs, IsExpr}
 
 -- ---- where a statement stands
@@ -76,7 +76,7 @@ IsSlot e slot = IsThere (slice_get e.routine.slots slot)
 pub record IsFor (e : TypingContext) (slot : ℕ) (x : ResolvedExpr) : Type 0 where
   pub type : SqlType
   pub there : slice_get e.routine.slots slot ≡ Some type
-  pub source : IsExpr e x (letter_of type)
+  pub source : IsExpr e true x (letter_of type)
 
 -- set functions are of an insensitive cursor alone
 abbrev pub MayBe : Bool → q.Items ResolvedExpr → Type 0
@@ -105,7 +105,7 @@ pub record AreForItems (e : TypingContext) (number : ℕ) (slots : List ℕ) : T
 
 -- arguments are as many as and of the modes of the parameters
 abbrev pub IsArgument : TypingContext → ResolvedArgument → ResolvedParameter → Type 0
-IsArgument e (arguments.In x) p = (p.mode ≡ modes.In) × IsExpr e x (letter_of p.kind)
+IsArgument e (arguments.In x) p = (p.mode ≡ modes.In) × IsExpr e true x (letter_of p.kind)
 IsArgument e (arguments.Out slot) p = (p.mode ≡ modes.Out) × IsSlot e slot
 IsArgument e (arguments.InOut slot) p = (p.mode ≡ modes.InOut) × IsSlot e slot
 
@@ -122,7 +122,7 @@ IsCondition e (conditions.Own n) = IsThere (slice_get e.routine.conditions n)
 -- a message is a text
 abbrev pub IsMessage : TypingContext → Option ResolvedExpr → Type 0
 IsMessage e None = Unit {0}
-IsMessage e (Some x) = IsExpr e x T
+IsMessage e (Some x) = IsExpr e true x T
 
 abbrev pub IsSignal : TypingContext → ResolvedSignal → Type 0
 IsSignal e s = IsCondition e s.condition × IsMessage e s.message
@@ -139,20 +139,20 @@ AreDiagnostics e (diagnostics.Condition area number items) = IsNumber e number �
 pub record IsRowFor (e : TypingContext) (columns : List ℕ) (xs : List ResolvedExpr) : Type 0 where
   pub letters : List Letter
   pub values : Each (λ k. IsTrue (is_value k)) letters
-  pub exprs : AreExprs e xs letters
+  pub exprs : AreExprs e true xs letters
   pub many : length columns ≡ length letters
 
 abbrev pub AreRowsFor : TypingContext → List ℕ → ResolvedRows → Type 0
 AreRowsFor e columns (given.Values rows) = Each (IsRowFor e columns) rows
 AreRowsFor e columns (given.Query query) = (ks : List Letter) × IsQuery e query ks × (length columns ≡ length ks)
 
--- a column of the table gets a row expression of its letter
+-- a column of the table gets a row expression of its letter, or NULL
 abbrev pub IsChange : TypingContext → ResolvedTable → ResolvedSet → Type 0
-IsChange e t set = (k : Letter) × (slice_get (columns_of t) set.column ≡ Some k) × IsRowValue (columns_of t) (variables_of e) set.source k
+IsChange e t set = (k : Letter) × (slice_get (columns_of t) set.column ≡ Some k) × IsOfLetter (columns_of t) (variables_of e) set.source k
 
 abbrev pub IsWhere : TypingContext → StatementScope → ResolvedTable → ResolvedWhere → Type 0
 IsWhere e s t which.All = Unit {0}
-IsWhere e s t (which.Test x) = IsOfLetter (columns_of t) (variables_of e) x B
+IsWhere e s t (which.Test x) = IsRowTest (columns_of t) (variables_of e) (Some x)
 IsWhere e s t (which.Current cursor) = IsSeen s cursor
 
 -- ---- simple statements
@@ -160,7 +160,7 @@ IsWhere e s t (which.Current cursor) = IsSeen s cursor
 abbrev pub IsSimple : TypingContext → StatementScope → ResolvedSimple → Type 0
 IsSimple e s (simples.Set slot x) = IsFor e slot x
 IsSimple e s (simples.Call procedure args) = (r : ResolvedRoutine) × (procedure_at e.file procedure ≡ Some r) × AreArguments e args r.parameters
-IsSimple e s (simples.Return x) = (t : SqlType) × (e.routine.returns ≡ Some t) × IsExpr e x (letter_of t)
+IsSimple e s (simples.Return x) = (t : SqlType) × (e.routine.returns ≡ Some t) × IsExpr e true x (letter_of t)
 IsSimple e s (simples.Leave level) = Among level s.leaves
 IsSimple e s (simples.Iterate level) = Among level s.iterates
 IsSimple e s (simples.Signal x) = IsSignal e x
@@ -179,7 +179,7 @@ IsSimple e s (simples.Close cursor) = IsSeen s cursor
 
 abbrev pub IsDefault : TypingContext → Option ResolvedExpr → Letter → Type 0
 IsDefault e None k = Unit {0}
-IsDefault e (Some x) k = IsExpr e x k
+IsDefault e (Some x) k = IsExpr e true x k
 
 -- variables of one type, and a value of its letter
 abbrev pub IsDeclaration : TypingContext → ResolvedDeclaration → Type 0
@@ -196,9 +196,9 @@ mutual
         → AreStatements e (inside level (out-ResolvedBlock block).cursors s) (out-ResolvedBlock block).statements → IsStatement e s x
     loop : {s : StatementScope} {x : ResolvedStatement} (level : ℕ) (xs : List ResolvedStatement) → out-ResolvedStatement x ≡ layers.Loop level xs → AreStatements e (looping level s) xs → IsStatement e s x
     while : {s : StatementScope} {x : ResolvedStatement} (level : ℕ) (test : ResolvedExpr) (xs : List ResolvedStatement) → out-ResolvedStatement x ≡ layers.While level test xs
-        → IsExpr e test B → AreStatements e (looping level s) xs → IsStatement e s x
+        → IsExpr e false test B → AreStatements e (looping level s) xs → IsStatement e s x
     repeat : {s : StatementScope} {x : ResolvedStatement} (level : ℕ) (xs : List ResolvedStatement) (until : ResolvedExpr) → out-ResolvedStatement x ≡ layers.Repeat level xs until
-        → AreStatements e (looping level s) xs → IsExpr e until B → IsStatement e s x
+        → AreStatements e (looping level s) xs → IsExpr e false until B → IsStatement e s x
     for_each : {s : StatementScope} {x : ResolvedStatement} (level : ℕ) (head : ResolvedFor) (xs : List ResolvedStatement) → out-ResolvedStatement x ≡ layers.For level head xs
         → IsCursor e head.cursor → AreForItems e head.cursor.number head.slots → AreStatements e (over_rows level head.cursor s) xs → IsStatement e s x
     if : {s : StatementScope} {x : ResolvedStatement} (branches : List ResolvedBranch) (otherwise : List ResolvedStatement) → out-ResolvedStatement x ≡ layers.If branches otherwise
@@ -206,7 +206,7 @@ mutual
     searched : {s : StatementScope} {x : ResolvedStatement} (branches : List ResolvedBranch) (otherwise : List ResolvedStatement) → out-ResolvedStatement x ≡ layers.Case None branches otherwise
         → AreBranches e s branches B → AreStatements e s otherwise → IsStatement e s x
     compared : {s : StatementScope} {x : ResolvedStatement} {k : Letter} (operand : ResolvedExpr) (branches : List ResolvedBranch) (otherwise : List ResolvedStatement) → out-ResolvedStatement x ≡ layers.Case (Some operand) branches otherwise
-        → IsTrue (is_value k) → IsExpr e operand k → AreBranches e s branches k → AreStatements e s otherwise → IsStatement e s x
+        → IsTrue (is_value k) → IsExpr e false operand k → AreBranches e s branches k → AreStatements e s otherwise → IsStatement e s x
 
   pub data AreStatements (e : TypingContext) : StatementScope → List ResolvedStatement → Type 0 where
     none : {s : StatementScope} → AreStatements e s []
@@ -215,7 +215,7 @@ mutual
   -- tests of one letter, and statements
   pub data AreBranches (e : TypingContext) : StatementScope → List ResolvedBranch → Letter → Type 0 where
     no_branch : {s : StatementScope} {k : Letter} → AreBranches e s [] k
-    and_branch : {s : StatementScope} {b : ResolvedBranch} {bs : List ResolvedBranch} {k : Letter} → IsExpr e (out-ResolvedBranch b).test k → AreStatements e s (out-ResolvedBranch b).statements → AreBranches e s bs k → AreBranches e s (b ∷ bs) k
+    and_branch : {s : StatementScope} {b : ResolvedBranch} {bs : List ResolvedBranch} {k : Letter} → IsExpr e false (out-ResolvedBranch b).test k → AreStatements e s (out-ResolvedBranch b).statements → AreBranches e s bs k → AreBranches e s (b ∷ bs) k
 
   -- the actions of handlers of a block, which see these cursors
   pub data AreHandlers (e : TypingContext) : ℕ → List ResolvedCursor → List ResolvedHandler → Type 0 where

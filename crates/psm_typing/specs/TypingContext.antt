@@ -28,6 +28,11 @@ abbrev pub IsThere : {A : Type 0} → Option A → Type 0
 IsThere None = ⊥
 IsThere (Some a) = Unit {0}
 
+-- there is one at least
+abbrev pub HasSome : {A : Type 0} → List A → Type 0
+HasSome [] = ⊥
+HasSome (a ∷ others) = Unit {0}
+
 -- each of some
 abbrev pub Each : {A : Type 0} → (A → Type 0) → List A → Type 0
 Each P [] = Unit {0}

@@ -1,5 +1,5 @@
 pub mod WellTyped
-pub mod Typing
+pub mod Queries
 pub mod Outside
 pub mod Standing
 pub mod Statements

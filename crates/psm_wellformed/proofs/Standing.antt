@@ -1,12 +1,11 @@
 -- Code can stand for well-formed statements: what they name is in scope, and their expressions stand outside of rows.
-use Rattle.std.proofs.Common.{◌≡◌, ℕ, suc, ◌<◌, ◌≤◌, ◌⊎◌, true, false, List, [], ◌∷◌, ◌++◌, zero, length, nat_eq, slice_get, Option, Some, None, sym, ap, ◌∙◌, subst, arith}
+use Rattle.std.proofs.Common.{◌≡◌, ℕ, suc, ◌<◌, true, false, List, [], ◌∷◌, zero, length, nat_eq, slice_get, Option, Some, None, sym, ap, ◌∙◌, subst, arith}
 use Rattle.std.specs.List.{list_all}
-use Rattle.std.specs.Prelude.{◌||◌, find}
+use Rattle.std.specs.Prelude.{find}
 use Rattle.std.proofs.lemmas.Bool.{false≢true}
 use Rattle.psm_exprcode.specs.declared.op.Letter.{Letter}
 use Rattle.psm_resolved.specs.declared.expr.ResolvedExpr.{ResolvedExpr}
 use Rattle.psm_resolved.specs.declared.file.ResolvedParameter.{ResolvedParameter}
-use Rattle.psm_resolved.specs.declared.file.ResolvedRoutine.{ResolvedRoutine}
 use Rattle.psm_resolved.specs.declared.statement.ResolvedArgument.{ResolvedArgument}
 use Rattle.psm_resolved.specs.declared.statement.ResolvedArgument.TheVariants as arguments
 use Rattle.psm_resolved.specs.declared.statement.ResolvedCondition.{ResolvedCondition}
@@ -22,21 +21,19 @@ use Rattle.psm_resolved.specs.declared.statement.ResolvedWhere.{ResolvedWhere}
 use Rattle.psm_resolved.specs.declared.statement.ResolvedWhere.TheVariants as which
 use Rattle.psm_simulation.specs.Scheme.{AreFor}
 use Rattle.psm_exprgen.specs.declared.known.Known.{Known}
-use Rattle.psm_exprgen.specs.Queries.{is_query, is_set, is_test}
+use Rattle.psm_exprgen.specs.Queries.{is_set, is_test}
 use Rattle.psm_exprgen.specs.Written.{letters_at}
 use Rattle.psm_codegen.specs.Files.{known_of}
 use Rattle.psm_codegen.specs.Outside.{ArgumentsOutside, DefaultsOutside, PerhapsOutside, RowsOutside}
 use Rattle.psm_codegen.specs.Outside as outside
-use Rattle.psm_codegen.specs.Simples.{letters_of_columns}
 use Rattle.psm_codegen.specs.Standing as fit
 use Rattle.psm_codegen.specs.Standing.{ConditionFits, CursorsFit, SeesCursor, SignalFits, SimpleFits, WhereFits, is_among}
 use Rattle.psm_typing.specs.TypingContext.{Among, Each, IsThere, TypingContext}
-use Rattle.psm_typing.specs.Statements.{AreArguments, IsCondition, IsDeclaration, IsMessage, IsRowFor, IsSeen, IsSignal, IsSimple, StatementScope, IsDefault}
-use Rattle.psm_wellformed.specs.Expressions.{PerhapsWellFormed}
-use Rattle.psm_wellformed.specs.Expressions as parts
-use Rattle.psm_wellformed.specs.Simples.{WellFormedArguments, WellFormedSignal, WellFormedSimple, WellFormedWhere, RowOf}
-use Rattle.psm_wellformed.specs.Statements.{Letters, WellFormedCursor, WellFormedDeclaration}
-use Rattle.psm_wellformed.proofs.Outside.{all-outside, as-many, stands-outside, typed-exprs}
+use Rattle.psm_typing.specs.Statements.{AreArguments, IsCondition, IsDeclaration, IsMessage, IsRowFor, IsSeen, IsSignal, IsSimple, StatementScope, IsDefault, IsCursor}
+use Rattle.psm_wellformed.specs.Simples.{WellFormedSimple, WellFormedWhere}
+use Rattle.psm_wellformed.specs.Statements.{Letters}
+use Rattle.psm_wellformed.proofs.Outside.{as-many, stands-outside}
+use Rattle.psm_wellformed.proofs.Queries.{known_in, query-known}
 
 -- ---- what a statement sees, as it is checked and as code can stand for it
 
@@ -51,18 +48,18 @@ pub record Sees (s : StatementScope) (t : fit.BlockScope) : Type 0 where
 
 -- ---- parts of statements
 
-module _ (e : TypingContext) (known : Known) where
-  message-stands : (x : Option ResolvedExpr) → IsMessage e x → PerhapsWellFormed known true x → PerhapsOutside e.file known x
-  message-stands None h p = outside.nothing
-  message-stands (Some x) h (parts.just p) = outside.just (stands-outside p h)
+module _ (e : TypingContext) where
+  message-stands : (x : Option ResolvedExpr) → IsMessage e x → PerhapsOutside e.file (known_in e) x
+  message-stands None h = outside.nothing
+  message-stands (Some x) h = outside.just (stands-outside h)
 
-  default-stands : (x : Option ResolvedExpr) (k : Letter) → IsDefault e x k → PerhapsWellFormed known true x → PerhapsOutside e.file known x
-  default-stands None k h p = outside.nothing
-  default-stands (Some x) k h (parts.just p) = outside.just (stands-outside p h)
+  default-stands : (x : Option ResolvedExpr) (k : Letter) → IsDefault e x k → PerhapsOutside e.file (known_in e) x
+  default-stands None k h = outside.nothing
+  default-stands (Some x) k h = outside.just (stands-outside h)
 
-  pub defaults-stand : (xs : List ResolvedDeclaration) → Each (IsDeclaration e) xs → Each (WellFormedDeclaration known) xs → DefaultsOutside e.file known xs
-  defaults-stand [] hs ps = tt
-  defaults-stand (x ∷ xs) hs ps = (default-stands x.default _ hs.0.2 ps.0.1, defaults-stand xs hs.1 ps.1)
+  pub defaults-stand : (xs : List ResolvedDeclaration) → Each (IsDeclaration e) xs → DefaultsOutside e.file (known_in e) xs
+  defaults-stand [] hs = tt
+  defaults-stand (x ∷ xs) hs = (default-stands x.default _ hs.0.2, defaults-stand xs hs.1)
 
   arguments-for : (xs : List ResolvedArgument) (ps : List ResolvedParameter) → AreArguments e xs ps → AreFor xs ps
   arguments-for [] [] h = tt
@@ -72,20 +69,20 @@ module _ (e : TypingContext) (known : Known) where
   arguments-for (arguments.Out slot ∷ xs) (p ∷ ps) h = (h.0.0, arguments-for xs ps h.1)
   arguments-for (arguments.InOut slot ∷ xs) (p ∷ ps) h = (h.0.0, arguments-for xs ps h.1)
 
-  arguments-stand : (xs : List ResolvedArgument) (ps : List ResolvedParameter) → AreArguments e xs ps → WellFormedArguments e known xs ps → ArgumentsOutside e.file known xs
-  arguments-stand [] ps h q = tt
-  arguments-stand (arguments.In x ∷ xs) (p ∷ ps) h q = (stands-outside q.0 h.0.1, arguments-stand xs ps h.1 q.1)
-  arguments-stand (arguments.Out slot ∷ xs) (p ∷ ps) h q = arguments-stand xs ps h.1 q.1
-  arguments-stand (arguments.InOut slot ∷ xs) (p ∷ ps) h q = arguments-stand xs ps h.1 q.1
-  arguments-stand (x ∷ xs) [] h q = absurd h
+  arguments-stand : (xs : List ResolvedArgument) (ps : List ResolvedParameter) → AreArguments e xs ps → ArgumentsOutside e.file (known_in e) xs
+  arguments-stand [] ps h = tt
+  arguments-stand (arguments.In x ∷ xs) (p ∷ ps) h = (stands-outside h.0.1, arguments-stand xs ps h.1)
+  arguments-stand (arguments.Out slot ∷ xs) (p ∷ ps) h = arguments-stand xs ps h.1
+  arguments-stand (arguments.InOut slot ∷ xs) (p ∷ ps) h = arguments-stand xs ps h.1
+  arguments-stand (x ∷ xs) [] h = absurd h
 
-  rows-stand : (letters : List Letter) (columns : List ℕ) (rows : List (List ResolvedExpr)) → Each (IsRowFor e columns) rows → Each (RowOf e known letters) rows → RowsOutside e.file known (length columns) rows
-  rows-stand letters columns [] hs ps = tt
-  rows-stand letters columns (es ∷ rows) hs ps = (as-many hs.0.exprs ∙ sym hs.0.many, all-outside e ps.0.1 (typed-exprs ps.0.0), rows-stand letters columns rows hs.1 ps.1)
+  rows-stand : (columns : List ℕ) (rows : List (List ResolvedExpr)) → Each (IsRowFor e columns) rows → RowsOutside e.file (known_in e) (length columns) rows
+  rows-stand columns [] hs = tt
+  rows-stand columns (es ∷ rows) hs = (as-many hs.0.exprs ∙ sym hs.0.many, exprs-outside hs.0.exprs, rows-stand columns rows hs.1)
 
-  pub cursors-fit : (letters : Letters) (routine : ResolvedRoutine) → known ≡ known_of e.file routine → (xs : List ResolvedCursor) → Each (WellFormedCursor known letters) xs → CursorsFit e.file routine xs
-  cursors-fit letters routine q [] ps = tt
-  cursors-fit letters routine q (x ∷ xs) ps = (subst (λ k. is_query k x.query ≡ true) q ps.0.query.is, cursors-fit letters routine q xs ps.1)
+  pub cursors-fit : (xs : List ResolvedCursor) → Each (IsCursor e) xs → CursorsFit e.file e.routine xs
+  cursors-fit [] hs = tt
+  cursors-fit (x ∷ xs) hs = ((query-known e x.query hs.0.letters hs.0.query).is, cursors-fit xs hs.1)
 
 -- ---- what is in scope
 
@@ -108,8 +105,8 @@ sees-cursor s t see n h = seen-by (find (λ x. nat_eq x.number n) s.cursors) (fi
 -- ---- simple statements
 
 module _ (e : TypingContext) (known : Known) (s : StatementScope) (t : fit.BlockScope) (is : known ≡ known_of e.file e.routine) (see : Sees s t) where
-  signal-fits : (x : ResolvedSignal) → IsSignal e x → WellFormedSignal known x → SignalFits e.file e.routine x
-  signal-fits x h p = (condition-fits e x.condition h.0, subst (λ k. PerhapsOutside e.file k x.message) is (message-stands e known x.message h.1 p.1))
+  signal-fits : (x : ResolvedSignal) → IsSignal e x → SignalFits e.file e.routine x
+  signal-fits x h = (condition-fits e x.condition h.0, message-stands e x.message h.1)
 
   where-fits : (table : ℕ) (x : ResolvedWhere) → WellFormedWhere known s table x → WhereFits e.file e.routine t table x
   where-fits table which.All p = tt
@@ -117,22 +114,21 @@ module _ (e : TypingContext) (known : Known) (s : StatementScope) (t : fit.Block
   where-fits table (which.Current cursor) p = (p.x, ap (λ xs. find (λ y. nat_eq y.number cursor) xs) see.cursors ∙ p.seen, p.over)
 
   pub simple-fits : (letters : Letters) (x : ResolvedSimple) → IsSimple e s x → WellFormedSimple e known letters s x → SimpleFits e.file e.routine t x
-  simple-fits letters (simples.Set slot x) h p = subst (λ k. outside.Outside e.file k x) is (stands-outside p h.source)
-  simple-fits letters (simples.Call procedure args) (r, q, h) p =
-      (r, q, arguments-for e known args r.parameters h, subst (λ k. ArgumentsOutside e.file k args) is (arguments-stand e known args r.parameters h (p.1 r q)))
-  simple-fits letters (simples.Return x) (type, q, h) p = subst (λ k. outside.Outside e.file k x) is (stands-outside p h)
+  simple-fits letters (simples.Set slot x) h p = stands-outside h.source
+  simple-fits letters (simples.Call procedure args) (r, q, h) p = (r, q, arguments-for e args r.parameters h, arguments-stand e args r.parameters h)
+  simple-fits letters (simples.Return x) (type, q, h) p = stands-outside h
   simple-fits letters (simples.Leave level) h p = see.labels level h
   simple-fits letters (simples.Iterate level) h p = see.loops level h
-  simple-fits letters (simples.Signal x) h p = signal-fits x h p
+  simple-fits letters (simples.Signal x) h p = signal-fits x h
   simple-fits letters (simples.Resignal None) h p = tt
-  simple-fits letters (simples.Resignal (Some x)) h p = signal-fits x h p
+  simple-fits letters (simples.Resignal (Some x)) h p = signal-fits x h
   simple-fits letters (simples.GetDiagnostics (diagnostics.Statement area [])) h p = absurd (false≢true p.0)
   simple-fits letters (simples.GetDiagnostics (diagnostics.Statement area (i ∷ items))) h p = tt
   simple-fits letters (simples.GetDiagnostics (diagnostics.Condition area number [])) h p = absurd (false≢true p.0)
   simple-fits letters (simples.GetDiagnostics (diagnostics.Condition area number (i ∷ items))) h p = tt
-  simple-fits letters (simples.SelectInto query slots) h p = subst (λ k. is_query k query ≡ true) is p.0.is
-  simple-fits letters (simples.Insert table columns (given.Values rows)) (u, q, h) p = subst (λ k. RowsOutside e.file k (length columns) rows) is (rows-stand e known (letters_of_columns known table columns) columns rows h p.2)
-  simple-fits letters (simples.Insert table columns (given.Query query)) h p = subst (λ k. is_query k query ≡ true) is p.2.is
+  simple-fits letters (simples.SelectInto query slots) h p = (query-known e query h.0 h.1).is
+  simple-fits letters (simples.Insert table columns (given.Values rows)) (u, q, h) p = rows-stand e columns rows h
+  simple-fits letters (simples.Insert table columns (given.Query query)) (u, q, h) p = (query-known e query h.0 h.1).is
   simple-fits letters (simples.Update table sets x) h p = (subst (λ k. list_all (is_set (letters_at k.columns table) k.variables) sets ≡ true) is p.1.1, where-fits table x p.2)
   simple-fits letters (simples.Delete table x) h p = where-fits table x p.1
   simple-fits letters (simples.Open cursor) h p = sees-cursor s t see cursor h

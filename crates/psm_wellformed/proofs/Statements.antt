@@ -17,9 +17,8 @@ use Rattle.psm_resolved.specs.declared.statement.ResolvedStatement.{ResolvedStat
 use Rattle.psm_exprcode.specs.declared.op.Letter.{Letter}
 use Rattle.psm_code.specs.Rules.{is_some}
 use Rattle.psm_exprgen.specs.declared.known.Known.{Known}
-use Rattle.psm_exprgen.specs.Queries.{column_letters, is_query, is_test}
+use Rattle.psm_exprgen.specs.Queries.{column_letters, is_test}
 use Rattle.psm_codegen.specs.Files.{known_of}
-use Rattle.psm_codegen.specs.Outside.{Outside, DefaultsOutside}
 use Rattle.psm_codegen.specs.Outside as outside
 use Rattle.psm_codegen.specs.Standing as fit
 use Rattle.psm_codegen.specs.Standing.{AllFit, BranchesFit, CanStand, Fits, HandlersFit, HasSome, IsNewLevel, LayerFits, RoutineFits, RoutinesFit, in_action, in_block, in_for, in_loop, is_among}
@@ -31,6 +30,7 @@ use Rattle.psm_wellformed.specs.Statements as well_formed
 use Rattle.psm_wellformed.specs.Statements.{AreActions, AreWellFormed, IsWellFormed, Letters, MayHandle}
 use Rattle.psm_wellformed.proofs.Outside.{stands-outside}
 use Rattle.psm_wellformed.proofs.Standing.{AreBelow, Sees, cursors-fit, defaults-stand, simple-fits}
+use Rattle.psm_wellformed.proofs.Queries.{query-known}
 
 -- ---- levels
 
@@ -109,19 +109,19 @@ module _ (e : TypingContext) (known : Known) (letters : Letters) (is : known ≡
     pub statement-fits : (s : StatementScope) (t : fit.BlockScope) → Sees s t → (x : ResolvedStatement) → IsWellFormed e known letters s x → Fits e.file e.routine t x
     statement-fits s t see x (well_formed.simple y h well_typed p) = layered t x _ h (fit.simple (simple-fits e known s t is see letters y well_typed p))
     statement-fits s t see x (well_formed.compound level block h low xs ps cursors qs apart may actions all) = layered t x _ h (fit.compound (new-level s t level low see)
-        (subst (λ k. DefaultsOutside e.file k (out-ResolvedBlock block).declarations) is (defaults-stand e known (out-ResolvedBlock block).declarations xs ps))
-        (cursors-fit e known letters e.routine is (out-ResolvedBlock block).cursors qs)
+        (defaults-stand e (out-ResolvedBlock block).declarations xs)
+        (cursors-fit e (out-ResolvedBlock block).cursors cursors)
         (handlers-fit level ((out-ResolvedBlock block).cursors ++ s.cursors) (in_action (out-ResolvedBlock block).cursors t) (out-ResolvedBlock block).atomic (in-action s t level (out-ResolvedBlock block).cursors low see) (out-ResolvedBlock block).handlers may actions)
         (all-fit _ _ (in-block s t level (out-ResolvedBlock block).cursors low see) (out-ResolvedBlock block).statements all))
     statement-fits s t see x (well_formed.loop level xs h all) = layered t x _ h (fit.loop (all-fit _ _ (in-loop s t level see) xs all))
-    statement-fits s t see x (well_formed.while level test xs h p all) = layered t x _ h (fit.while (subst (λ k. Outside e.file k test) is (stands-outside p.1 p.0)) (all-fit _ _ (in-loop s t level see) xs all))
-    statement-fits s t see x (well_formed.repeat level xs until h all p) = layered t x _ h (fit.repeat (all-fit _ _ (in-loop s t level see) xs all) (subst (λ k. Outside e.file k until) is (stands-outside p.1 p.0)))
+    statement-fits s t see x (well_formed.while level test xs h p all) = layered t x _ h (fit.while (stands-outside p) (all-fit _ _ (in-loop s t level see) xs all))
+    statement-fits s t see x (well_formed.repeat level xs until h all p) = layered t x _ h (fit.repeat (all-fit _ _ (in-loop s t level see) xs all) (stands-outside p))
     statement-fits s t see x (well_formed.for_each level head xs h low cursor q items slots all) =
-        layered t x _ h (fit.for_ (new-level s t level low see) (subst (λ k. is_query k head.cursor.query ≡ true) is q.query.is) (all-fit _ _ (in-for s t level head.cursor see) xs all))
+        layered t x _ h (fit.for_ (new-level s t level low see) (query-known e head.cursor.query cursor.letters cursor.query).is (all-fit _ _ (in-for s t level head.cursor see) xs all))
     statement-fits s t see x (well_formed.if branches otherwise h bs all) = layered t x _ h (fit.if_ (branches-fit s t see branches bs) (all-fit s t see otherwise all))
     statement-fits s t see x (well_formed.searched branches otherwise h bs all) = layered t x _ h (fit.case outside.nothing (branches-fit s t see branches bs) (all-fit s t see otherwise all))
     statement-fits s t see x (well_formed.compared operand branches otherwise h v p bs all) =
-        layered t x _ h (fit.case (outside.just (subst (λ k. Outside e.file k operand) is (stands-outside p.1 p.0))) (branches-fit s t see branches bs) (all-fit s t see otherwise all))
+        layered t x _ h (fit.case (outside.just (stands-outside p)) (branches-fit s t see branches bs) (all-fit s t see otherwise all))
 
     all-fit : (s : StatementScope) (t : fit.BlockScope) → Sees s t → (xs : List ResolvedStatement) → AreWellFormed e known letters s xs → AllFit e.file e.routine t xs
     all-fit s t see [] well_formed.none = fit.none
@@ -130,7 +130,7 @@ module _ (e : TypingContext) (known : Known) (letters : Letters) (is : known ≡
     branches-fit : (s : StatementScope) (t : fit.BlockScope) → Sees s t → (bs : List ResolvedBranch) {k : Letter} → well_formed.AreBranches e known letters s bs k → BranchesFit e.file e.routine t bs
     branches-fit s t see [] well_formed.no_branch = fit.no_branch
     branches-fit s t see (b ∷ bs) (well_formed.and_branch p all ps) =
-        fit.branch (subst (λ k. Outside e.file k (out-ResolvedBranch b).test) is (stands-outside p.1 p.0)) (all-fit s t see (out-ResolvedBranch b).statements all) (branches-fit s t see bs ps)
+        fit.branch (stands-outside p) (all-fit s t see (out-ResolvedBranch b).statements all) (branches-fit s t see bs ps)
 
     handlers-fit : (level : ℕ) (cursors : List ResolvedCursor) (t : fit.BlockScope) (atomic : Bool) → Sees (well_typed.in_action level cursors) t → (hs : List ResolvedHandler) → Each (MayHandle e atomic) hs → AreActions e known letters level cursors hs
         → HandlersFit e.file e.routine t atomic hs

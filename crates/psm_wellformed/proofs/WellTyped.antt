@@ -21,12 +21,12 @@ mutual
   is-well_typed (well_formed.simple y h simple p) = well_typed.simple y h simple
   is-well_typed (well_formed.compound level block h low xs ps cursors qs apart may actions statements) = well_typed.compound level block h low xs cursors (are-handlers actions) (are-well_typed statements)
   is-well_typed (well_formed.loop level xs h all) = well_typed.loop level xs h (are-well_typed all)
-  is-well_typed (well_formed.while level test xs h t all) = well_typed.while level test xs h t.0 (are-well_typed all)
-  is-well_typed (well_formed.repeat level xs until h all t) = well_typed.repeat level xs until h (are-well_typed all) t.0
+  is-well_typed (well_formed.while level test xs h t all) = well_typed.while level test xs h t (are-well_typed all)
+  is-well_typed (well_formed.repeat level xs until h all t) = well_typed.repeat level xs until h (are-well_typed all) t
   is-well_typed (well_formed.for_each level head xs h low cursor q items slots all) = well_typed.for_each level head xs h cursor items (are-well_typed all)
   is-well_typed (well_formed.if branches otherwise h bs all) = well_typed.if branches otherwise h (are-branches bs) (are-well_typed all)
   is-well_typed (well_formed.searched branches otherwise h bs all) = well_typed.searched branches otherwise h (are-branches bs) (are-well_typed all)
-  is-well_typed (well_formed.compared operand branches otherwise h value t bs all) = well_typed.compared operand branches otherwise h value t.0 (are-branches bs) (are-well_typed all)
+  is-well_typed (well_formed.compared operand branches otherwise h value t bs all) = well_typed.compared operand branches otherwise h value t (are-branches bs) (are-well_typed all)
 
   pub are-well_typed : {e : TypingContext} {known : Known} {letters : Letters} {s : StatementScope} {xs : List ResolvedStatement} → AreWellFormed e known letters s xs → AreStatements e s xs
   are-well_typed well_formed.none = well_typed.none
@@ -34,7 +34,7 @@ mutual
 
   are-branches : {e : TypingContext} {known : Known} {letters : Letters} {s : StatementScope} {bs : List ResolvedBranch} {k : Letter} → well_formed.AreBranches e known letters s bs k → AreBranches e s bs k
   are-branches well_formed.no_branch = well_typed.no_branch
-  are-branches (well_formed.and_branch t all bs) = well_typed.and_branch t.0 (are-well_typed all) (are-branches bs)
+  are-branches (well_formed.and_branch t all bs) = well_typed.and_branch t (are-well_typed all) (are-branches bs)
 
   are-handlers : {e : TypingContext} {known : Known} {letters : Letters} {level : ℕ} {cursors : List ResolvedCursor} {hs : List ResolvedHandler} → AreActions e known letters level cursors hs → AreHandlers e level cursors hs
   are-handlers well_formed.no_handler = well_typed.no_handler

@@ -1,5 +1,4 @@
 pub mod Queries
-pub mod Expressions
 pub mod Slots
 pub mod Simples
 pub mod Statements

@@ -1,6 +1,6 @@
--- Statements as they are checked: well-typed, with well-formed expressions, and with blocks whose handlers may be theirs (ISO/IEC 9075-4:1996).
+-- Statements as they are checked: well-typed, and with blocks whose handlers may be theirs (ISO/IEC 9075-4:1996).
 use Rattle.std.specs.List.{flat_map}
-use Rattle.std.specs.Prelude.{◌≡◌, ◌≤◌, ◌||◌, ℕ, Bool, true, false, not, List, [], ◌∷◌, ◌++◌, slice_get, IsTrue, Option, Some, None}
+use Rattle.std.specs.Prelude.{◌≡◌, ◌≤◌, ◌||◌, ℕ, Bool, true, false, not, List, [], ◌∷◌, ◌++◌, slice_get, IsTrue, Some, None}
 use Rattle.psm_cond.specs.declared.handlers.ConditionValue.{ConditionValue}
 use Rattle.psm_cond.specs.declared.handlers.ConditionValue.TheVariants as values
 use Rattle.psm_exprcode.specs.declared.op.Letter.{Letter}
@@ -23,8 +23,7 @@ use Rattle.psm_exprgen.specs.Queries.{item_letters}
 use Rattle.psm_typing.specs.Expressions.{IsExpr}
 use Rattle.psm_typing.specs.TypingContext.{Each, IsThere, TypingContext}
 use Rattle.psm_typing.specs.Statements.{AreForItems, IsCursor, IsDeclaration, IsSimple, StatementScope, in_action, inside, looping, over_rows}
-use Rattle.psm_wellformed.specs.Expressions.{PerhapsWellFormed, WellFormed}
-use Rattle.psm_wellformed.specs.Queries.{WellFormedQuery, has_rows, items_of}
+use Rattle.psm_wellformed.specs.Queries.{has_rows, items_of}
 use Rattle.psm_wellformed.specs.Simples.{WellFormedSimple}
 use Rattle.psm_wellformed.specs.Slots.{AreSlots}
 
@@ -32,19 +31,14 @@ use Rattle.psm_wellformed.specs.Slots.{AreSlots}
 abbrev pub Letters : Type 0
 Letters = List (List Letter)
 
--- an expression of that letter, which isn't NULL
-abbrev pub IsTest : TypingContext → Known → ResolvedExpr → Letter → Type 0
-IsTest e known x k = IsExpr e x k × WellFormed known false x
-
 -- ---- declarations
 
 -- variables are declared
-abbrev pub WellFormedDeclaration : Known → ResolvedDeclaration → Type 0
-WellFormedDeclaration known d = (is_some d.slots ≡ true) × PerhapsWellFormed known true d.default
+abbrev pub WellFormedDeclaration : ResolvedDeclaration → Type 0
+WellFormedDeclaration d = is_some d.slots ≡ true
 
 -- no set function stands in the query of a cursor
 pub record WellFormedCursor (known : Known) (letters : Letters) (x : ResolvedCursor) : Type 0 where
-  pub query : WellFormedQuery known x.query
   pub rows : has_rows (items_of x.query) ≡ true
   pub items : slice_get letters x.number ≡ Some (item_letters known x.query)
 
@@ -73,16 +67,16 @@ mutual
   pub data IsWellFormed (e : TypingContext) (known : Known) (letters : Letters) : StatementScope → ResolvedStatement → Type 0 where
     simple : {s : StatementScope} {x : ResolvedStatement} (y : ResolvedSimple) → out-ResolvedStatement x ≡ layers.Simple y → IsSimple e s y → WellFormedSimple e known letters s y → IsWellFormed e known letters s x
     compound : {s : StatementScope} {x : ResolvedStatement} (level : ℕ) (block : ResolvedBlock) → out-ResolvedStatement x ≡ layers.Compound level block → s.bound ≤ level
-        → Each (IsDeclaration e) (out-ResolvedBlock block).declarations → Each (WellFormedDeclaration known) (out-ResolvedBlock block).declarations
+        → Each (IsDeclaration e) (out-ResolvedBlock block).declarations → Each WellFormedDeclaration (out-ResolvedBlock block).declarations
         → Each (IsCursor e) (out-ResolvedBlock block).cursors → Each (WellFormedCursor known letters) (out-ResolvedBlock block).cursors
         → AreApart (out-ResolvedBlock block).handlers → Each (MayHandle e (out-ResolvedBlock block).atomic) (out-ResolvedBlock block).handlers
         → AreActions e known letters level ((out-ResolvedBlock block).cursors ++ s.cursors) (out-ResolvedBlock block).handlers
         → AreWellFormed e known letters (inside level (out-ResolvedBlock block).cursors s) (out-ResolvedBlock block).statements → IsWellFormed e known letters s x
     loop : {s : StatementScope} {x : ResolvedStatement} (level : ℕ) (xs : List ResolvedStatement) → out-ResolvedStatement x ≡ layers.Loop level xs → AreWellFormed e known letters (looping level s) xs → IsWellFormed e known letters s x
     while : {s : StatementScope} {x : ResolvedStatement} (level : ℕ) (test : ResolvedExpr) (xs : List ResolvedStatement) → out-ResolvedStatement x ≡ layers.While level test xs
-        → IsTest e known test B → AreWellFormed e known letters (looping level s) xs → IsWellFormed e known letters s x
+        → IsExpr e false test B → AreWellFormed e known letters (looping level s) xs → IsWellFormed e known letters s x
     repeat : {s : StatementScope} {x : ResolvedStatement} (level : ℕ) (xs : List ResolvedStatement) (until : ResolvedExpr) → out-ResolvedStatement x ≡ layers.Repeat level xs until
-        → AreWellFormed e known letters (looping level s) xs → IsTest e known until B → IsWellFormed e known letters s x
+        → AreWellFormed e known letters (looping level s) xs → IsExpr e false until B → IsWellFormed e known letters s x
     for_each : {s : StatementScope} {x : ResolvedStatement} (level : ℕ) (head : ResolvedFor) (xs : List ResolvedStatement) → out-ResolvedStatement x ≡ layers.For level head xs → s.bound ≤ level
         → IsCursor e head.cursor → WellFormedCursor known letters head.cursor → AreForItems e head.cursor.number head.slots → AreSlots e head.slots (item_letters known head.cursor.query)
         → AreWellFormed e known letters (over_rows level head.cursor s) xs → IsWellFormed e known letters s x
@@ -91,7 +85,7 @@ mutual
     searched : {s : StatementScope} {x : ResolvedStatement} (branches : List ResolvedBranch) (otherwise : List ResolvedStatement) → out-ResolvedStatement x ≡ layers.Case None branches otherwise
         → AreBranches e known letters s branches B → AreWellFormed e known letters s otherwise → IsWellFormed e known letters s x
     compared : {s : StatementScope} {x : ResolvedStatement} {k : Letter} (operand : ResolvedExpr) (branches : List ResolvedBranch) (otherwise : List ResolvedStatement) → out-ResolvedStatement x ≡ layers.Case (Some operand) branches otherwise
-        → IsTrue (is_value k) → IsTest e known operand k → AreBranches e known letters s branches k → AreWellFormed e known letters s otherwise → IsWellFormed e known letters s x
+        → IsTrue (is_value k) → IsExpr e false operand k → AreBranches e known letters s branches k → AreWellFormed e known letters s otherwise → IsWellFormed e known letters s x
 
   -- statements one after another
   pub data AreWellFormed (e : TypingContext) (known : Known) (letters : Letters) : StatementScope → List ResolvedStatement → Type 0 where
@@ -101,7 +95,7 @@ mutual
   -- tests of one letter, and statements
   pub data AreBranches (e : TypingContext) (known : Known) (letters : Letters) : StatementScope → List ResolvedBranch → Letter → Type 0 where
     no_branch : {s : StatementScope} {k : Letter} → AreBranches e known letters s [] k
-    and_branch : {s : StatementScope} {b : ResolvedBranch} {bs : List ResolvedBranch} {k : Letter} → IsTest e known (out-ResolvedBranch b).test k → AreWellFormed e known letters s (out-ResolvedBranch b).statements
+    and_branch : {s : StatementScope} {b : ResolvedBranch} {bs : List ResolvedBranch} {k : Letter} → IsExpr e false (out-ResolvedBranch b).test k → AreWellFormed e known letters s (out-ResolvedBranch b).statements
         → AreBranches e known letters s bs k → AreBranches e known letters s (b ∷ bs) k
 
   -- the actions of handlers of a block, which see these cursors
