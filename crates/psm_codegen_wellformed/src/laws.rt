@@ -16,7 +16,6 @@ ghost use Rattle.psm_typing.specs.Expressions.{IsExpr};
 ghost use Rattle.psm_typing.specs.TypingContext.{TypingContext};
 ghost use Rattle.psm_codegen_wellformed.specs.Frame.{Ends, Follows, Free};
 ghost use Rattle.psm_codegen_wellformed.specs.Kept.{Keeps};
-ghost use Rattle.psm_wellformed.specs.Expressions.{WellFormed};
 ghost use Rattle.psm_wellformed.specs.Files.{WellFormedFile, WellFormedRoutine, typing_context_of};
 
 /// The lines that are written for a well-typed expression are well-formed, in code that keeps the letters of its file: they stand in the
@@ -24,8 +23,8 @@ ghost use Rattle.psm_wellformed.specs.Files.{WellFormedFile, WellFormedRoutine, 
 /// condition. They put one operand of the letter of the expression on those that stood there; NULL is put with the letter that was
 /// asked for, and stands only where one is asked for.
 pub fn expressions_break_no_rule()
-    ensures sources { (e : TypingContext) (known : Known) (code : RawCode) (r : RawRoutine) (context resume : ℕ) → Keeps e known code r → Follows r 0 0 [] → context_there r context ≡ true → Ends r resume context → (k : Letter) (x : ResolvedExpr) (w v : Written) → IsExpr e x k → WellFormed known true x → Writes known context resume k x w v → Begins v r → here v ≤ resume → Follows r (here v) context v.stack → (v.stack ≡ k ∷ w.stack) × Follows r (here w) context w.stack × Free code r (here w) (here v) }
-    ensures operands { (e : TypingContext) (known : Known) (code : RawCode) (r : RawRoutine) (context resume : ℕ) → Keeps e known code r → Follows r 0 0 [] → context_there r context ≡ true → Ends r resume context → (k j : Letter) (x : ResolvedExpr) (w v : Written) → IsExpr e x k → WellFormed known false x → Writes known context resume j x w v → Begins v r → here v ≤ resume → Follows r (here v) context v.stack → (v.stack ≡ k ∷ w.stack) × Follows r (here w) context w.stack × Free code r (here w) (here v) }
+    ensures sources { (e : TypingContext) (known : Known) (code : RawCode) (r : RawRoutine) (context resume : ℕ) → Keeps e known code r → Follows r 0 0 [] → context_there r context ≡ true → Ends r resume context → (k : Letter) (x : ResolvedExpr) (w v : Written) → IsExpr e true x k → Writes known context resume k x w v → Begins v r → here v ≤ resume → Follows r (here v) context v.stack → (v.stack ≡ k ∷ w.stack) × Follows r (here w) context w.stack × Free code r (here w) (here v) }
+    ensures operands { (e : TypingContext) (known : Known) (code : RawCode) (r : RawRoutine) (context resume : ℕ) → Keeps e known code r → Follows r 0 0 [] → context_there r context ≡ true → Ends r resume context → (k j : Letter) (x : ResolvedExpr) (w v : Written) → IsExpr e false x k → Writes known context resume j x w v → Begins v r → here v ≤ resume → Follows r (here v) context v.stack → (v.stack ≡ k ∷ w.stack) × Follows r (here w) context w.stack × Free code r (here w) (here v) }
 {}
 
 /// Code that is written for a well-formed file keeps the letters of the file: in each routine those of its variables, of the functions of

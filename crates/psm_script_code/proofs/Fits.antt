@@ -26,7 +26,7 @@ use Rattle.psm_exprgen.specs.Queries.{QueryMade, column_letters, is_query}
 use Rattle.psm_exprgen.specs.Written.{letters_at}
 use Rattle.psm_codegen.specs.Files.{FileWritten, known_of}
 use Rattle.psm_typing.specs.TypingContext.{Each}
-use Rattle.psm_typing.specs.Scripts.{no_routine}
+use Rattle.psm_typing.specs.Scripts.{no_routine, outside}
 use Rattle.psm_wellformed.specs.Files.{WellFormedFile}
 use Rattle.psm_wellformed.specs.Queries.{WellFormedQuery, are_well_formed, items_of}
 use Rattle.psm_checker_sound.specs.ScriptsStand.{ScriptStands}
@@ -44,6 +44,7 @@ use Rattle.psm_script_code.proofs.Heads.{HasHeads, SameTables, same_tables, writ
 use Rattle.psm_script_code.proofs.Selects.{HasSelect, IsSelect, commands_select}
 use Rattle.psm_script_code.proofs.Tables.{WellFormedTables, knows_tables, tables_of_file}
 use Rattle.psm_script_code.proofs.TypeChecks.{query_fits}
+use Rattle.psm_wellformed.proofs.Queries.{query-known}
 
 -- ---- CALL
 
@@ -109,7 +110,7 @@ select_fits file code same query select lines q =
       type_checks = record {
         variables = [];
         kinds = refl;
-        fits = subst (λ ls. fits_query ls [] lines ≡ true) (letters_there code.tables n t.0 t.1) (query_fits (known_of_tables code) query lines (well_formed_over file code same query select.well_formed) q);
+        fits = subst (λ ls. fits_query ls [] lines ≡ true) (letters_there code.tables n t.0 t.1) (query_fits (known_of_tables code) query lines (well_formed_over file code same query (query-known (outside file) query select.letters select.well_typed)) q);
       };
     }
 
@@ -133,7 +134,7 @@ module _ (file : ResolvedFile) (code : RawCode) (same : SameTables file.tables c
   command_asks : (c : Command) → HasSelect file c → AsksTables code c
   command_asks (Call procedure values) select = tt
   command_asks (Insert table columns rows) select = tt
-  command_asks (Select query) select = (well_formed_over file code same query select.well_formed).is
+  command_asks (Select query) select = (well_formed_over file code same query (query-known (outside file) query select.letters select.well_typed)).is
   command_asks Commit select = tt
   command_asks Rollback select = tt
 

@@ -1,5 +1,5 @@
--- The queries of an accepted script are well-typed and well-formed.
-use Rattle.std.proofs.Common.{◌≡◌, Bool, true, ◌&&◌, List, [], ◌∷◌, None, map, refl, sym, ◌∙◌, subst}
+-- The queries of an accepted script are well-typed.
+use Rattle.std.proofs.Common.{◌≡◌, Bool, List, [], ◌∷◌, None, map, refl, sym, ◌∙◌, subst}
 use Rattle.std.specs.Prelude.{IsTrue, slice_get, Some}
 use Rattle.psm_declare.specs.Declarations.{is_downward, ordered}
 use Rattle.psm_exprcode.specs.declared.op.Letter.{Letter}
@@ -16,20 +16,17 @@ use Rattle.psm_resolved.specs.declared.file.ResolvedFile.{ResolvedFile}
 use Rattle.psm_resolve_expr.specs.Exprs.{resolve_query}
 use Rattle.psm_meaning.specs.Rows as rows
 use Rattle.psm_meaning.specs.Session.{Command, Call, Insert, Select, Commit, Rollback}
-use Rattle.psm_exprgen.specs.declared.known.Known as emitted
-use Rattle.psm_exprgen.specs.Queries.{are_items, is_test_perhaps, item_letters}
-use Rattle.psm_exprgen.specs.Written.{letters_at}
+use Rattle.psm_exprgen.specs.Queries.{item_letters}
 use Rattle.psm_codegen.specs.Files.{known_of}
-use Rattle.psm_typing.specs.Queries.{AreItems, IsQuery, IsRowTest}
+use Rattle.psm_typing.specs.Queries.{AreItems, HasItems, IsQuery, IsRowTest}
 use Rattle.psm_typing.specs.TypingContext.{Each, TypingContext, columns_of, variables_of}
 use Rattle.psm_typing.specs.Scripts.{no_routine, outside}
-use Rattle.psm_wellformed.specs.Queries.{WellFormedQuery, are_well_formed}
 use Rattle.psm_checker_sound.specs.Agreement.{Agree}
 use Rattle.psm_checker_sound.specs.ScriptsStand.{CommandStands, ScriptStands}
 use Rattle.psm_checker_sound.specs.Stands.{select_stands}
 use Rattle.psm_checker_sound.proofs.Clauses.{queries}
 use Rattle.psm_checker_sound.proofs.Parts.{neither}
-use Rattle.psm_checker_sound.proofs.WellFormedQueries.{well_formed-letters, well_formed-queries}
+use Rattle.psm_checker_sound.proofs.WellFormedQueries.{well_formed-letters}
 use Rattle.psm_check_script.specs.Checked.{script_of}
 use Rattle.psm_check_script.specs.Commands.{command_of, selected}
 use Rattle.psm_check_script.specs.Known.{Known, resolver_scope_of, checker_scope_of}
@@ -39,7 +36,7 @@ use Rattle.psm_script_code.proofs.Tables.{KnowsTables}
 -- ---- what a query of a script sees
 
 pub outside_agrees : (file : ResolvedFile) (known : Known) → KnowsTables file known → Agree (outside file) (checker_scope_of known) (resolver_scope_of known)
-outside_agrees file known h = record { tables = refl; functions = refl; scopes = refl; row = refl; known_tables = h.tables; known_functions = tt; slots = tt }
+outside_agrees file known h = record { tables = refl; functions = refl; scopes = refl; row = refl; columns = h.columns; known_tables = h.tables; known_functions = tt; slots = tt }
 
 -- ---- a query whose rows come upwards or downwards
 
@@ -51,23 +48,17 @@ module _ (downward : Bool) (query : ResolvedQuery) where
   ordered_well_typed e ks h = record {
     table = h.table;
     there = subst (λ q. slice_get e.file.tables q.table ≡ Some h.table) (sym opened) h.there;
+    some = subst (λ q. HasItems (rows.items_of (out-ResolvedItems q.items))) (sym opened) h.some;
     items = subst (λ q. AreItems (columns_of h.table) (variables_of e) (rows.items_of (out-ResolvedItems q.items)) ks) (sym opened) h.items;
     test = subst (λ q. IsRowTest (columns_of h.table) (variables_of e) q.test) (sym opened) h.test;
   }
 
-  pub ordered_well_formed : (known : emitted.Known) → WellFormedQuery known query → WellFormedQuery known (ordered downward query)
-  ordered_well_formed known h = record {
-    is = subst (λ q. (are_items (letters_at known.columns q.table) known.variables (out-ResolvedItems q.items) && is_test_perhaps (letters_at known.columns q.table) known.variables q.test) ≡ true) (sym opened) h.is;
-    items = subst (λ q. are_well_formed (letters_at known.columns q.table) known.variables (out-ResolvedItems q.items) ≡ true) (sym opened) h.items;
-  }
-
 -- ---- SELECT
 
--- well-typed with the letters of its items, and well-formed
+-- well-typed with the letters of its items
 pub record IsSelect (file : ResolvedFile) (query : ResolvedQuery) : Type 0 where
   pub letters : List Letter
   pub well_typed : IsQuery (outside file) query letters
-  pub well_formed : WellFormedQuery (known_of file no_routine) query
 
 pub select_is : (file : ResolvedFile) (known : Known) → KnowsTables file known → (q : OrderedQuery) → IsTrue (select_stands q.query) → select_fault known q ≡ None → IsSelect file (selected known q)
 select_is file known h q well none =
@@ -79,7 +70,6 @@ select_is file known h q well none =
     record {
       letters = letters;
       well_typed = ordered_well_typed (is_downward q.order) query (outside file) letters ((queries (outside file) (checker_scope_of known) (resolver_scope_of known) agree q.query well clear).3 letters type_check);
-      well_formed = ordered_well_formed (is_downward q.order) query (known_of file no_routine) (well_formed-queries (outside file) (known_of file no_routine) h.columns refl (checker_scope_of known) (resolver_scope_of known) agree q.query well clear);
     }
 
 -- ---- those of a script

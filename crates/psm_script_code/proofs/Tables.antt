@@ -25,8 +25,7 @@ use Rattle.psm_resolved.specs.declared.file.ResolvedTable.{ResolvedTable}
 use Rattle.psm_typing.specs.Scripts.{outside}
 use Rattle.psm_typing.specs.TypingContext.{Each}
 use Rattle.psm_wellformed.specs.Files.{NoFault, WellFormedFile, WellFormedTable, are_new_names, is_name_among}
-use Rattle.psm_checker_sound.specs.Agreement.{AreTables, HaveTypes}
-use Rattle.psm_checker_sound.proofs.WellFormedParts.{HaveColumns}
+use Rattle.psm_checker_sound.specs.Agreement.{AreTables, HaveColumns, HaveTypes}
 use Rattle.psm_check_script.specs.Known.{Known, Tables, with_columns}
 use Rattle.psm_check_script.proofs.NamesBefore.{sees_more}
 use Rattle.psm_script_code.specs.FileKnown.{with_tables}

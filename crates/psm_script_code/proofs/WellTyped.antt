@@ -5,7 +5,7 @@ use Rattle.psm_tree.specs.declared.script.ScriptTree.{ScriptTree}
 use Rattle.psm_resolved.specs.declared.file.ResolvedFile.{ResolvedFile}
 use Rattle.psm_meaning.specs.Session.{Command, Call, Insert, Select, Commit, Rollback}
 use Rattle.psm_typing.specs.TypingContext.{Each}
-use Rattle.psm_typing.specs.Scripts.{IsCommand}
+use Rattle.psm_typing.specs.Scripts.{IsCommand, outside}
 use Rattle.psm_wellformed.specs.Files.{WellFormedFile}
 use Rattle.psm_checker_sound.specs.ScriptsStand.{ScriptStands}
 use Rattle.psm_check_script.proofs.Named.{commands_there}
@@ -18,6 +18,7 @@ use Rattle.psm_script_code.proofs.Heads.{heads_alone, own_heads, same_known}
 use Rattle.psm_script_code.proofs.Selects.{HasSelect, commands_select}
 use Rattle.psm_script_code.proofs.Tables.{knows_tables, tables_of_file}
 use Rattle.psm_script_code.proofs.There.{call_is, table_is}
+use Rattle.psm_wellformed.proofs.Queries.{query-known}
 
 -- ---- commands that name what is there in code that has the tables and heads of the file
 
@@ -35,7 +36,7 @@ all_well_typed file (c ∷ cs) there select = (command_well_typed file c there.0
 command_well_formed : (file : ResolvedFile) (c : Command) → HasSelect file c → WellFormedCommand file c
 command_well_formed file (Call procedure values) select = tt
 command_well_formed file (Insert table columns rows) select = tt
-command_well_formed file (Select query) select = select.well_formed
+command_well_formed file (Select query) select = query-known (outside file) query select.letters select.well_typed
 command_well_formed file Commit select = tt
 command_well_formed file Rollback select = tt
 

@@ -1,6 +1,7 @@
 -- The rows of a well-typed query's answer have the letters of its items.
 use Rattle.std.proofs.Common.{◌≡◌, ℕ, ◌+◌, Bool, true, false, not, cond, List, [], ◌∷◌, ◌++◌, length, filter, Option, Some, None, Result, Ok, Err, refl, ap, sym, subst, ◌∙◌, append_assoc, length-append, slice_index_or, if◌then◌else◌}
 use Rattle.std.specs.List.{cons_option}
+use Rattle.std.proofs.lemmas.Bool.{false≢true}
 use mathlib.Core.List.{reverse_aux}
 use Rattle.psm_num.specs.Num.{Num}
 use Rattle.psm_num.proofs.Literals.{and_first, and_second}
