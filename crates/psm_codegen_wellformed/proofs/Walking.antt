@@ -101,7 +101,7 @@ module _ {e : TypingContext} {known : Known} {letters : Letters} {code : RawCode
         let entered = block_entered context (out-ResolvedBlock block).atomic (at c) (map (λ x. x.number) xs) a in
         let begun = passed inner (at b) hs entered in
         let same : length begun.cursors ≡ length a.cursors = ap length (passed-cursors inner (at b) hs entered) in
-        let none : a.code.stack ≡ [] = cursors-stack cursors ∙ declares-stack kept_all.keeps declares o.declared o.well_formed ∙ place.none in
+        let none : a.code.stack ≡ [] = cursors-stack cursors ∙ declares-stack kept_all.keeps declares o.declared ∙ place.none in
         let kept_c : Kept c r = kept-earlier {but = no_context} (grown-plain inner (instruction.Exit inner) {p = c}) place.kept in
         let kept_b : Kept b r = kept-earlier (grown-all statements) kept_c in
         let kept_a : Kept a r = kept-earlier {but = no_context} (grown-entered context (out-ResolvedBlock block).atomic (at c) (map (λ x. x.number) xs) a) (kept-earlier {but = no_context} (grown-passed inner (at b) hs entered) (kept-earlier (grown-handlers handlers) kept_b)) in
