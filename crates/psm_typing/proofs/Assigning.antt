@@ -1,5 +1,5 @@
 -- Assignments, SET, CALL, SIGNAL, RESIGNAL and GET DIAGNOSTICS are never stuck.
-use Rattle.std.proofs.Common.{◌≡◌, ℕ, suc, true, false, not, List, [], ◌∷◌, length, Option, Some, None, refl, ap, sym, subst, ◌∙◌, slice_get, true≢false, arith}
+use Rattle.std.proofs.Common.{◌≡◌, ℕ, suc, true, false, not, List, [], ◌∷◌, length, Option, Some, None, refl, ap, sym, subst, ◌∙◌, slice_get, true≢false, arith, zero}
 use Rattle.psm_num.proofs.Literals.{and_second}
 use Rattle.psm_value.specs.declared.datum.Datum.{Datum}
 use Rattle.psm_value.specs.declared.datum.Datum.TheVariants.{Null, Num, Text}
@@ -33,17 +33,42 @@ use Rattle.psm_meaning.specs.Assigning.{arguments_given, assign, assign_all, ass
 use Rattle.psm_meaning.specs.Calls.{procedure_at, returns}
 use Rattle.psm_meaning.specs.Signalling.{activating, area_read, assign_items, entry_for, entry_numbered, get_diagnostics, message_text, number_given, numbered, resignal, signal, signalled, stacked_area, with_message}
 use Rattle.psm_meaning.specs.Statements.{returned}
-use Rattle.psm_typing.specs.TypingContext.{TypingContext, Among, Begin, Each, IsThere, letters_of, taken_by, variables_of, with_taken}
+use Rattle.psm_typing.specs.TypingContext.{TypingContext, Among, Begin, Each, IsThere, letters_of, taken_by, variables_of, with_taken, AreOf}
 use Rattle.psm_typing.specs.Expressions.{IsExpr}
-use Rattle.psm_typing.specs.Statements.{AreArguments, AreDiagnostics, IsCondition, IsFor, IsMessage, IsNumber, IsSignal, IsSlot}
+use Rattle.psm_typing.specs.Statements.{AreArguments, AreDiagnostics, IsCondition, IsFor, IsMessage, IsNumber, IsSignal, IsSlot, SlotOf, condition_letter, statement_letter}
 use Rattle.psm_typing.specs.States.{IsState}
 use Rattle.psm_typing.specs.Ends.{IsReturned}
 use Rattle.psm_typing.proofs.Answers.{Row, right-ok}
 use Rattle.psm_typing.proofs.Evaluating.{Calls, Values, among-filter, holds-value_of}
 use Rattle.psm_typing.proofs.Fitting.{fetched-right, letter-at, letter-there, row-set, row-there, stored-right}
 use Rattle.psm_typing.proofs.Holding.{Anything, HasLetter, Holds, holds-bind, holds-change, holds-cleared, holds-got, holds-present, holds-raises, holds-read, holds-there, holds-tried}
+use Rattle.psm_exprcode.specs.declared.op.Letter.{Letter}
 
 -- ---- variables
+
+-- a slot is there
+abbrev pub IsSlot : TypingContext → ℕ → Type 0
+IsSlot e slot = IsThere (slice_get e.routine.slots slot)
+
+lettered-there : (ts : List SqlType) (i : ℕ) (k : Letter) → slice_get (letters_of ts) i ≡ Some k → IsThere (slice_get ts i)
+lettered-there [] i k h = absurd (cc)
+lettered-there (t ∷ ts) zero k h = tt
+lettered-there (t ∷ ts) (suc i) k h = lettered-there ts i k h
+
+-- one with a letter is
+pub slot-is : (e : TypingContext) (slot : ℕ) (k : Letter) → SlotOf e slot k → IsSlot e slot
+slot-is e slot k h = lettered-there e.routine.slots slot k h
+
+pub of-length : (letters : List Letter) (ns : List ℕ) (ks : List Letter) → AreOf letters ns ks → length ns ≡ length ks
+of-length letters [] [] h = refl
+of-length letters [] (k ∷ ks) h = absurd h
+of-length letters (n ∷ ns) [] h = absurd h
+of-length letters (n ∷ ns) (k ∷ ks) h = ap suc (of-length letters ns ks h.1)
+
+pub slots-are : (e : TypingContext) (slots : List ℕ) (ks : List Letter) → AreOf (variables_of e) slots ks → Each (IsSlot e) slots
+slots-are e [] ks h = tt
+slots-are e (slot ∷ slots) [] h = absurd h
+slots-are e (slot ∷ slots) (k ∷ ks) h = (slot-is e slot k h.0, slots-are e slots ks h.1)
 
 -- the slots of a place are those of its routine
 pub slot-there : (e : TypingContext) (eval_context : EvalContext) (slot : ℕ) → eval_context.routine ≡ e.routine → IsSlot e slot → IsThere (slice_get eval_context.routine.slots slot)
@@ -110,7 +135,7 @@ holds-arguments v (a ∷ others) [] h = absurd h
 holds-arguments v (arguments.In x ∷ others) (p ∷ ps) h = holds-bind (holds-value_of v x (letter_of p.kind) (letter_of-value p.kind) h.0.1) (λ d u. holds-bind (holds-arguments v others ps h.1) (λ ds q.
     holds-got (d ∷ ds) (subst (λ o. suc (length ds) ≡ length (with_taken o p.kind (taken_by ps))) (sym h.0.0) (ap (λ n. suc n) q))))
 holds-arguments {e = e} {m = m} v (arguments.Out slot ∷ others) (p ∷ ps) h = subst (λ o. Holds e m (λ ds. length ds ≡ length (with_taken o p.kind (taken_by ps))) (arguments_given others)) (sym h.0.0) (holds-arguments v others ps h.1)
-holds-arguments v (arguments.InOut slot ∷ others) (p ∷ ps) h = holds-bind (holds-variable slot h.0.1) (λ d u. holds-bind (holds-arguments v others ps h.1) (λ ds q.
+holds-arguments {e = e} v (arguments.InOut slot ∷ others) (p ∷ ps) h = holds-bind (holds-variable slot (slot-is e slot (letter_of p.kind) h.0.1)) (λ d u. holds-bind (holds-arguments v others ps h.1) (λ ds q.
     holds-got (d ∷ ds) (subst (λ o. suc (length ds) ≡ length (with_taken o p.kind (taken_by ps))) (sym h.0.0) (ap (λ n. suc n) q))))
 
 holds-given_back : {e : TypingContext} {m : Meaning} (eval_context : EvalContext) → eval_context.routine ≡ e.routine → (args : List ResolvedArgument) (ps : List ResolvedParameter) (ts : List SqlType) (ds : List Datum) → AreArguments e args ps → Begin ps ts → Row (letters_of ts) ds → Holds e m Anything (given_back eval_context args ds)
@@ -119,8 +144,8 @@ holds-given_back eval_context r (a ∷ others) [] ts ds h b f = absurd h
 holds-given_back eval_context r (a ∷ others) (p ∷ ps) [] ds h b f = absurd b
 holds-given_back eval_context r (a ∷ others) (p ∷ ps) (t ∷ ts) [] h b f = absurd (true≢false (sym f))
 holds-given_back eval_context r (arguments.In x ∷ others) (p ∷ ps) (t ∷ ts) (d ∷ ds) h b f = holds-given_back eval_context r others ps ts ds h.1 b.1 (and_second (has_letter (letter_of t) d) (are_of (letters_of ts) ds) f)
-holds-given_back eval_context r (arguments.Out slot ∷ others) (p ∷ ps) (t ∷ ts) (d ∷ ds) h b f = holds-bind (holds-assign eval_context r slot d h.0.1) (λ u w. holds-given_back eval_context r others ps ts ds h.1 b.1 (and_second (has_letter (letter_of t) d) (are_of (letters_of ts) ds) f))
-holds-given_back eval_context r (arguments.InOut slot ∷ others) (p ∷ ps) (t ∷ ts) (d ∷ ds) h b f = holds-bind (holds-assign eval_context r slot d h.0.1) (λ u w. holds-given_back eval_context r others ps ts ds h.1 b.1 (and_second (has_letter (letter_of t) d) (are_of (letters_of ts) ds) f))
+holds-given_back {e = e} eval_context r (arguments.Out slot ∷ others) (p ∷ ps) (t ∷ ts) (d ∷ ds) h b f = holds-bind (holds-assign eval_context r slot d (slot-is e slot (letter_of p.kind) h.0.1)) (λ u w. holds-given_back eval_context r others ps ts ds h.1 b.1 (and_second (has_letter (letter_of t) d) (are_of (letters_of ts) ds) f))
+holds-given_back {e = e} eval_context r (arguments.InOut slot ∷ others) (p ∷ ps) (t ∷ ts) (d ∷ ds) h b f = holds-bind (holds-assign eval_context r slot d (slot-is e slot (letter_of p.kind) h.0.1)) (λ u w. holds-given_back eval_context r others ps ts ds h.1 b.1 (and_second (has_letter (letter_of t) d) (are_of (letters_of ts) ds) f))
 
 pub no_type : (t : Option SqlType) → not (returns t) ≡ true → t ≡ None
 no_type None h = refl
@@ -183,9 +208,9 @@ holds-resignal v eval_context r (Some s) h = holds-bind holds-cleared (λ u w. h
 
 -- ---- GET DIAGNOSTICS
 
-holds-assign_items : {e : TypingContext} {m : Meaning} {I : Type 0} (eval_context : EvalContext) → eval_context.routine ≡ e.routine → (item : I → Datum) (items : List (ℕ × I)) → Each (λ i. IsSlot e i.0) items → Holds e m Anything (assign_items eval_context item items)
-holds-assign_items eval_context r item [] h = holds-got tt tt
-holds-assign_items eval_context r item (i ∷ items) h = holds-bind (holds-assign eval_context r i.0 (item i.1) h.0) (λ u w. holds-assign_items eval_context r item items h.1)
+holds-assign_items : {e : TypingContext} {m : Meaning} {I : Type 0} (eval_context : EvalContext) → eval_context.routine ≡ e.routine → (item : I → Datum) (letter : I → Letter) (items : List (ℕ × I)) → Each (λ i. SlotOf e i.0 (letter i.1)) items → Holds e m Anything (assign_items eval_context item items)
+holds-assign_items eval_context r item letter [] h = holds-got tt tt
+holds-assign_items {e = e} eval_context r item letter (i ∷ items) h = holds-bind (holds-assign eval_context r i.0 (item i.1) (slot-is e i.0 (letter i.1) h.0)) (λ u w. holds-assign_items eval_context r item letter items h.1)
 
 holds-numbered : {e : TypingContext} {m : Meaning} (entry : Option (ℕ × Entry)) → Holds e m Anything (numbered entry)
 holds-numbered None = holds-raises _
@@ -193,7 +218,7 @@ holds-numbered (Some entry) = holds-got entry tt
 
 holds-number_given : {e : TypingContext} {m : Meaning} (n : ResolvedNumber) → IsNumber e n → Holds e m Anything (number_given n)
 holds-number_given (numbers.Constant n) h = holds-got _ tt
-holds-number_given (numbers.Variable slot) h = holds-variable slot h
+holds-number_given {e = e} (numbers.Variable slot) h = holds-variable slot (slot-is e slot N h)
 
 holds-stacked_area : {e : TypingContext} {m : Meaning} (areas : List Diagnostics) → Holds e m Anything (stacked_area areas)
 holds-stacked_area [] = holds-raises _
@@ -204,6 +229,6 @@ holds-area_read eval_context which_area.Current = holds-read {P = Anything} (λ 
 holds-area_read eval_context which_area.Stacked = holds-stacked_area eval_context.acting
 
 pub holds-get_diagnostics : {e : TypingContext} {m : Meaning} (eval_context : EvalContext) → eval_context.routine ≡ e.routine → (d : ResolvedDiagnostics) → AreDiagnostics e d → Holds e m Anything (get_diagnostics eval_context d)
-holds-get_diagnostics eval_context r (diagnostics.Statement area items) h = holds-bind (holds-area_read eval_context area) (λ a u. holds-assign_items eval_context r (statement_item (length (entries_of a.entries)) a.entries.more a.rows) items h)
-holds-get_diagnostics eval_context r (diagnostics.Condition area n items) h = holds-bind (holds-number_given n h.0) (λ d w. holds-bind (holds-area_read eval_context area) (λ a u.
-    holds-bind (holds-numbered (entry_numbered 1 (entries_of a.entries) d)) (λ entry x. holds-assign_items eval_context r (entry_item entry.0 entry.1) items h.1)))
+holds-get_diagnostics eval_context r (diagnostics.Statement area items) h = holds-bind (holds-area_read eval_context area) (λ a u. holds-assign_items eval_context r (statement_item (length (entries_of a.entries)) a.entries.more a.rows) statement_letter items h.1)
+holds-get_diagnostics eval_context r (diagnostics.Condition area n items) h = holds-bind (holds-number_given n h.1) (λ d w. holds-bind (holds-area_read eval_context area) (λ a u.
+    holds-bind (holds-numbered (entry_numbered 1 (entries_of a.entries) d)) (λ entry x. holds-assign_items eval_context r (entry_item entry.0 entry.1) condition_letter items h.2)))

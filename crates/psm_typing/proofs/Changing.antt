@@ -10,7 +10,7 @@ use Rattle.psm_value.specs.declared.truth.Truth.TheVariants as truths
 use Rattle.psm_value.specs.Stored.{stored}
 use Rattle.psm_cond.specs.Condition.{alone}
 use Rattle.psm_cond.specs.Entry.{entry_of, name_text}
-use Rattle.psm_exprcode.specs.Kinds.{are_of, has_letter, letter_of}
+use Rattle.psm_exprcode.specs.Kinds.{are_of, has_letter, letter_of, is_value}
 use Rattle.psm_exprcode.proofs.Standing.{both_true}
 use Rattle.psm_table.specs.Changing.{Changed, Division, Failure, OfTable, Raised, Schema, SetItem, counting, deleted, deleted_at, divided, ended, ended_with, in_order, inserted, is_before, kind_of, moving, new_values, inserted_in, rows_but, rows_pass, set_row, stored_row, stored_rows, then_of, updated, updated_at, with_values}
 use Rattle.psm_table.specs.Changing as changing
@@ -37,8 +37,8 @@ use Rattle.psm_meaning.specs.State.{EvalContext, with_rows}
 use Rattle.psm_meaning.specs.Acts.{Meaning}
 use Rattle.psm_meaning.specs.Data.{all_values, delete, delete_at, delete_rows, insert, leave_row, leaves, left_by, plain, put_in, row_of_cursor, rows_given, schema_at, schema_of, set_item, some_row, some_rows, standing_on, unless_failed, update, update_at, update_rows}
 use Rattle.psm_meaning.specs.Rows.{over}
-use Rattle.psm_typing.specs.TypingContext.{TypingContext, Shape, Each, columns_of, letters_of}
-use Rattle.psm_typing.specs.Statements.{AreRowsFor, IsCursor, IsRowFor, IsSeen, IsWhere, StatementScope}
+use Rattle.psm_typing.specs.TypingContext.{TypingContext, Shape, Each, columns_of, letters_of, AreOf, IsThere}
+use Rattle.psm_typing.specs.Statements.{AreRowsFor, IsCursor, IsSeen, IsWhere, StatementScope, MayChange}
 use Rattle.psm_typing.specs.States.{IsShaped}
 use Rattle.psm_typing.specs.EvalContexts.{IsEvalContext}
 use Rattle.psm_typing.proofs.Answers.{Perhaps, Right, Row, each-append, each-filter, right-any, right-mapped, right-then}
@@ -46,6 +46,9 @@ use Rattle.psm_typing.proofs.Evaluating.{Values, holds-answer_of, holds-table_no
 use Rattle.psm_typing.proofs.Fetching.{holds-change_to, holds-declared_at, holds-wrong_state, now-at, shape_of}
 use Rattle.psm_typing.proofs.Fitting.{filled-set, stored-right}
 use Rattle.psm_typing.proofs.Holding.{Anything, HasLetter, Holds, holds-bind, holds-change, holds-cleared, holds-got, holds-present, holds-raises, holds-read}
+use Rattle.psm_typing.specs.Expressions.{AreExprs}
+use Rattle.psm_exprcode.specs.declared.op.Letter.{Letter}
+use Rattle.psm_exprcode.proofs.Results.{letter_of-value}
 
 -- ---- results of statements on tables
 
@@ -148,20 +151,32 @@ holds-put_in table t columns rows h =
     holds-bind (holds-unless_failed {P = λ (x : Changed). Each (Row (columns_of t)) x.rows} s.def (inserted plain s (map (new_row s.def columns) rows) c.rows) (subst (λ x. Kept (λ y. Each (Row (columns_of t)) y.rows) (inserted plain x (map (new_row x.def columns) rows) c.rows)) (sym p.1) (inserted-kept p.0 t columns rows c.rows f))) (λ x g.
     holds-leaves table t c x.rows x.count h g)))
 
-holds-all_values : {e : TypingContext} {m : Meaning} → Values e m → (columns : List ℕ) (rows : List (List ResolvedExpr)) → Each (IsRowFor e columns) rows → Holds e m Anything (all_values rows)
-holds-all_values v columns [] h = holds-got [] tt
-holds-all_values v columns (r ∷ rs) h = holds-bind (holds-values v r h.0.letters h.0.values h.0.exprs) (λ ds u. holds-bind (holds-all_values v columns rs h.1) (λ others w. holds-got (ds ∷ others) tt))
+-- the letters of columns are those of values
+columns-value : (ts : List SqlType) (n : ℕ) (k : Letter) → slice_get (letters_of ts) n ≡ Some k → is_value k ≡ true
+columns-value [] n k h = absurd (cc)
+columns-value (t ∷ ts) zero k h = subst (λ l. is_value l ≡ true) (some_same h) (letter_of-value t)
+columns-value (t ∷ ts) (suc n) k h = columns-value ts n k h
+
+columns-values : (ts : List SqlType) (ns : List ℕ) (ks : List Letter) → AreOf (letters_of ts) ns ks → Each (λ k. is_value k ≡ true) ks
+columns-values ts [] [] h = tt
+columns-values ts [] (k ∷ ks) h = absurd h
+columns-values ts (n ∷ ns) [] h = absurd h
+columns-values ts (n ∷ ns) (k ∷ ks) h = (columns-value ts n k h.0, columns-values ts ns ks h.1)
+
+holds-all_values : {e : TypingContext} {m : Meaning} → Values e m → (ks : List Letter) → Each (λ k. is_value k ≡ true) ks → (rows : List (List ResolvedExpr)) → Each (λ xs. AreExprs e true xs ks) rows → Holds e m Anything (all_values rows)
+holds-all_values v ks w [] h = holds-got [] tt
+holds-all_values v ks w (r ∷ rs) h = holds-bind (holds-values v r ks w h.0) (λ ds u. holds-bind (holds-all_values v ks w rs h.1) (λ others p. holds-got (ds ∷ others) tt))
 
 holds-some_rows : {e : TypingContext} {m : Meaning} (rows : List (List Datum)) → Holds e m Anything (some_rows rows)
 holds-some_rows [] = holds-raises _
 holds-some_rows (r ∷ rs) = holds-got (r ∷ rs) tt
 
-holds-rows_given : {e : TypingContext} {m : Meaning} → Values e m → (columns : List ℕ) (rows : ResolvedRows) → AreRowsFor e columns rows → Holds e m Anything (rows_given rows)
-holds-rows_given v columns (given.Values rows) h = holds-all_values v columns rows h
-holds-rows_given v columns (given.Query query) h = holds-bind (holds-answer_of query h.0 h.1) (λ a u. holds-some_rows a.rows)
+holds-rows_given : {e : TypingContext} {m : Meaning} → Values e m → (ks : List Letter) → Each (λ k. is_value k ≡ true) ks → (rows : ResolvedRows) → AreRowsFor e ks rows → Holds e m Anything (rows_given rows)
+holds-rows_given v ks w (given.Values rows) h = holds-all_values v ks w rows h
+holds-rows_given v ks w (given.Query query) h = holds-bind (holds-answer_of query ks h) (λ a u. holds-some_rows a.rows)
 
-pub holds-insert : {e : TypingContext} {m : Meaning} → Values e m → (table : ℕ) (t : ResolvedTable) (columns : List ℕ) (rows : ResolvedRows) → slice_get e.file.tables table ≡ Some t → AreRowsFor e columns rows → Holds e m Anything (insert e.file table columns rows)
-holds-insert v table t columns rows h g = holds-bind holds-cleared (λ u w. holds-bind (holds-rows_given v columns rows g) (λ new x. holds-put_in table t columns new h))
+pub holds-insert : {e : TypingContext} {m : Meaning} → Values e m → (table : ℕ) (t : ResolvedTable) (columns : List ℕ) (ks : List Letter) (rows : ResolvedRows) → slice_get e.file.tables table ≡ Some t → AreOf (columns_of t) columns ks → AreRowsFor e ks rows → Holds e m Anything (insert e.file table columns rows)
+holds-insert v table t columns ks rows h c g = holds-bind holds-cleared (λ u w. holds-bind (holds-rows_given v ks (columns-values (kinds_of t.definition.columns) columns ks c) rows g) (λ new x. holds-put_in table t columns new h))
 
 -- ---- UPDATE
 
@@ -285,12 +300,15 @@ holds-delete_at eval_context p table t cursor h seen =
 
 -- ---- UPDATE and DELETE
 
-pub holds-update : {e : TypingContext} {m : Meaning} {s : StatementScope} (eval_context : EvalContext) → IsEvalContext e s eval_context → (table : ℕ) (t : ResolvedTable) (sets : List ResolvedSet) (x : ResolvedWhere) → slice_get e.file.tables table ≡ Some t → IsWhere e s t x → Holds e m Anything (update e.file eval_context table sets x)
+changed-seen : (s : StatementScope) (table cursor : ℕ) → MayChange s table cursor → IsSeen s cursor
+changed-seen s table cursor g = subst IsThere (sym g.seen) tt
+
+pub holds-update : {e : TypingContext} {m : Meaning} {s : StatementScope} (eval_context : EvalContext) → IsEvalContext e s eval_context → (table : ℕ) (t : ResolvedTable) (sets : List ResolvedSet) (x : ResolvedWhere) → slice_get e.file.tables table ≡ Some t → IsWhere e s table t x → Holds e m Anything (update e.file eval_context table sets x)
 holds-update eval_context p table t sets which.All h g = holds-bind holds-cleared (λ u w. holds-update_rows table t sets None h)
 holds-update eval_context p table t sets (which.Test y) h g = holds-bind holds-cleared (λ u w. holds-update_rows table t sets (Some y) h)
-holds-update eval_context p table t sets (which.Current cursor) h g = holds-bind holds-cleared (λ u w. holds-update_at eval_context p table t sets cursor h g)
+holds-update {s = s} eval_context p table t sets (which.Current cursor) h g = holds-bind holds-cleared (λ u w. holds-update_at eval_context p table t sets cursor h (changed-seen s table cursor g))
 
-pub holds-delete : {e : TypingContext} {m : Meaning} {s : StatementScope} (eval_context : EvalContext) → IsEvalContext e s eval_context → (table : ℕ) (t : ResolvedTable) (x : ResolvedWhere) → slice_get e.file.tables table ≡ Some t → IsWhere e s t x → Holds e m Anything (delete e.file eval_context table x)
+pub holds-delete : {e : TypingContext} {m : Meaning} {s : StatementScope} (eval_context : EvalContext) → IsEvalContext e s eval_context → (table : ℕ) (t : ResolvedTable) (x : ResolvedWhere) → slice_get e.file.tables table ≡ Some t → IsWhere e s table t x → Holds e m Anything (delete e.file eval_context table x)
 holds-delete eval_context p table t which.All h g = holds-bind holds-cleared (λ u w. holds-delete_rows table t None h)
 holds-delete eval_context p table t (which.Test y) h g = holds-bind holds-cleared (λ u w. holds-delete_rows table t (Some y) h)
-holds-delete eval_context p table t (which.Current cursor) h g = holds-bind holds-cleared (λ u w. holds-delete_at eval_context p table t cursor h g)
+holds-delete {s = s} eval_context p table t (which.Current cursor) h g = holds-bind holds-cleared (λ u w. holds-delete_at eval_context p table t cursor h (changed-seen s table cursor g))

@@ -16,7 +16,7 @@ use Rattle.psm_meaning.specs.Acts.{Outcome, Normal, Leave, Iterate, Return, Rais
 use Rattle.psm_meaning.specs.Blocks.{Block, all_declared, arrived, compound, declared, default_of, ended, entered, finding, is_left_by_exception, left, put_back, taken_over, undone}
 use Rattle.psm_meaning.specs.Cursors.{closed}
 use Rattle.psm_typing.specs.TypingContext.{TypingContext, Among, Each}
-use Rattle.psm_typing.specs.Statements.{AreHandlers, AreStatements, IsCursor, IsDeclaration, IsDefault, IsSlot, IsStatement, StatementScope, in_action, inside}
+use Rattle.psm_typing.specs.Statements.{AreHandlers, AreStatements, IsCursor, IsDeclaration, IsDefault, IsSlot, IsStatement, StatementScope, in_action, inside, HandleApart, MayHandle}
 use Rattle.psm_typing.specs.States.{AreFilled}
 use Rattle.psm_typing.specs.EvalContexts.{IsEvalContext}
 use Rattle.psm_typing.specs.Ends.{IsAway, IsEnd}
@@ -47,6 +47,8 @@ pub record IsBlock (e : TypingContext) (s : StatementScope) (level : ℕ) (b : B
   pub above : s.bound ≤ level
   pub declarations : Each (IsDeclaration e) b.declarations
   pub cursors : Each (IsCursor e) b.cursors
+  pub apart : HandleApart b.handlers
+  pub may : Each (MayHandle e b.atomic) b.handlers
   pub handlers : AreHandlers e level (b.cursors ++ s.cursors) b.handlers
   pub statements : AreStatements e (inside level b.cursors s) b.statements
 

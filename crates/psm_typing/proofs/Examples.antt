@@ -72,12 +72,14 @@ a_procedure_that_calls_itself = (
       above = omega arith;
       declarations = tt;
       cursors = tt;
+      apart = handler-apart kinds.Undo conditions.SqlException (made.Simple (simples.Resignal None));
+      may = (handler-may _ true kinds.Undo conditions.SqlException (made.Simple (simples.Resignal None)) tt refl, tt);
       handlers = handler-well_typed kinds.Undo (conditions.SqlException ∷ []) (made.Simple (simples.Resignal None)) (typed.simple (simples.Resignal None) (made.outs-Simple _) tt) typed.no_handler;
       statements = typed.more
           (typed.while 1 (exprs.IsNull false a) _ (made.outs-While _ _ _) (typed_expr.is_null false a (exprs.outs-IsNull _ _) refl (typed_expr.variable 0 (exprs.outs-Variable _) refl))
           (typed.more (typed.simple (simples.Set 0 one) (made.outs-Simple _) (record { type = types.Integer; there = refl; source = typed_expr.number _ (exprs.outs-Number _) }))
           (typed.more (typed.simple (simples.Leave 0) (made.outs-Simple _) (inr (inl refl))) typed.none)))
-          (typed.more (typed.simple (simples.Call 0 (arguments.InOut 0 ∷ [])) (made.outs-Simple _) (procedure, refl, ((refl, tt), tt))) typed.none);
+          (typed.more (typed.simple (simples.Call 0 (arguments.InOut 0 ∷ [])) (made.outs-Simple _) (procedure, refl, ((refl, refl), tt), refl)) typed.none);
     });
   },
   tt,

@@ -17,9 +17,9 @@ use Rattle.psm_meaning.specs.Acts.{Meaning, change}
 use Rattle.psm_meaning.specs.Cursors.{close, closed, cursor_now, declared_at, fetch, fetched_into, items_of_found, items_on, let_go, next, next_of, only_row, «open», open_as, open_cursor, opened, select_into, warned, wrong_state}
 use Rattle.psm_meaning.specs.Flow.{kept, row_of_for}
 use Rattle.psm_meaning.specs.Rows.{over, query_of}
-use Rattle.psm_typing.specs.TypingContext.{TypingContext, Shape, Each, IsThere, columns_of, variables_of}
+use Rattle.psm_typing.specs.TypingContext.{TypingContext, Shape, Each, IsThere, columns_of, variables_of, AreOf}
 use Rattle.psm_typing.specs.Queries.{AreItems, AreRowValues, IsQuery}
-use Rattle.psm_typing.specs.Statements.{AreForItems, IsCursor, IsSeen, IsSlot, MayBe, StatementScope}
+use Rattle.psm_typing.specs.Statements.{AreForItems, IsCursor, IsSeen, IsSlot, StatementScope, HasRows}
 use Rattle.psm_typing.specs.States.{AreShaped, IsShaped, IsState}
 use Rattle.psm_typing.specs.EvalContexts.{IsEvalContext}
 use Rattle.psm_typing.proofs.Answers.{Perhaps, Right, Row, each-more, right-any, right-mapped, right-ok, right-then}
@@ -55,7 +55,7 @@ holds-cursor_now {e = e} number w h = holds-bind (holds-read {P = AreShaped e.sh
 
 -- the shape of a cursor that is well-typed
 abbrev pub shape_of : {e : TypingContext} (x : ResolvedCursor) → IsCursor e x → Shape
-shape_of x h = record { width = length h.letters; insensitive = x.insensitive }
+shape_of x h = record { letters = h.letters; insensitive = x.insensitive }
 
 pub holds-change_to : {e : TypingContext} {m : Meaning} (x : ResolvedCursor) (h : IsCursor e x) (c : Cursor) → IsShaped (shape_of x h) c → Holds e m Anything (change (with_cursor x.number c))
 holds-change_to {e = e} x h c p = holds-change (with_cursor x.number c) (λ st s. record { tables = s.tables; variables = s.variables; cursors = shaped-set e.shapes st.cursors x.number (shape_of x h) c s.cursors h.shape p })
@@ -116,14 +116,14 @@ values-length columns variables (x ∷ xs) (k ∷ ks) h = ap (λ n. suc n) (valu
 abbrev pub IsAsWide : List Letter → List Datum → Type 0
 IsAsWide ks ds = length ds ≡ length ks
 
-holds-items_on : {e : TypingContext} {m : Meaning} (columns variables : List Letter) (items : q.Items ResolvedExpr) (ks : List Letter) (vars row : List Datum) (b : Bool) → b ≡ false → MayBe b items → AreItems columns variables items ks → Holds e m (IsAsWide ks) (items_on items vars row)
-holds-items_on columns variables (q.Rows xs) ks vars row b q p h =
+holds-items_on : {e : TypingContext} {m : Meaning} (columns variables : List Letter) (items : q.Items ResolvedExpr) (ks : List Letter) (vars row : List Datum) → HasRows items → AreItems columns variables items ks → Holds e m (IsAsWide ks) (items_on items vars row)
+holds-items_on columns variables (q.Rows xs) ks vars row p h =
     holds-tried (values_of (over vars) xs row) (λ ds g. right-ok (λ ys. length ys ≡ length xs) (values_of (over vars) xs row) ds (collected-length _ xs) g ∙ values-length columns variables xs ks h)
-holds-items_on columns variables (q.Sets sets) ks vars row b f p h = absurd (subst (λ c. MayBe c (q.Sets sets)) f p)
+holds-items_on columns variables (q.Sets sets) ks vars row p h = absurd p
 
-holds-items_of_found : {e : TypingContext} {m : Meaning} (x : ResolvedCursor) (h : IsCursor e x) (vars : List Datum) (found : Option (List Datum)) → x.insensitive ≡ false → Holds e m (Perhaps (IsAsWide h.letters)) (items_of_found x.query vars found)
-holds-items_of_found x h vars None q = holds-got None tt
-holds-items_of_found {e = e} x h vars (Some row) q = holds-bind (holds-items_on (columns_of h.query.table) (variables_of e) (query_of x.query).items h.letters vars row x.insensitive q h.items h.query.items) (λ ds g. holds-got (Some ds) g)
+holds-items_of_found : {e : TypingContext} {m : Meaning} (x : ResolvedCursor) (h : IsCursor e x) (vars : List Datum) (found : Option (List Datum)) → Holds e m (Perhaps (IsAsWide h.letters)) (items_of_found x.query vars found)
+holds-items_of_found x h vars None = holds-got None tt
+holds-items_of_found {e = e} x h vars (Some row) = holds-bind (holds-items_on (columns_of h.query.table) (variables_of e) (query_of x.query).items h.letters vars row h.rows h.query.items) (λ ds g. holds-got (Some ds) g)
 
 holds-next_of : {e : TypingContext} {m : Meaning} (x : ResolvedCursor) (h : IsCursor e x) (c : Cursor) → IsShaped (shape_of x h) c → Holds e m (Perhaps (IsAsWide h.letters)) (next_of x c)
 holds-next_of x h Closed f = holds-wrong_state x
@@ -132,7 +132,7 @@ holds-next_of x h (Insensitive (row ∷ rows)) f = holds-bind (holds-change_to x
 holds-next_of x h (Plain p vars) f =
     holds-bind (holds-table_now (query_of x.query).table h.query.table h.query.there) (λ t g.
     holds-bind (holds-tried {P = Anything} (advanced (over vars) (query_of x.query) t.def.key t.rows p) (λ found r. tt)) (λ found u.
-    holds-bind (holds-change_to x h (Plain found.1 vars) f) (λ w y. holds-items_of_found x h vars found.0 f)))
+    holds-bind (holds-change_to x h (Plain found.1 vars) f) (λ w y. holds-items_of_found x h vars found.0)))
 
 pub holds-next : {e : TypingContext} {m : Meaning} (x : ResolvedCursor) (h : IsCursor e x) → Holds e m (Perhaps (IsAsWide h.letters)) (next x)
 holds-next x h = holds-bind (holds-cursor_now x.number (shape_of x h) h.shape) (λ c f. holds-next_of x h c f)
@@ -148,11 +148,11 @@ holds-fetched_into eval_context r slots ks (Some ds) l h g = holds-bind (holds-r
 
 -- the slots for the items of a cursor are as many as its letters
 as_many : {e : TypingContext} (x : ResolvedCursor) (h : IsCursor e x) (number : ℕ) (slots : List ℕ) → x.number ≡ number → AreForItems e number slots → length slots ≡ length h.letters
-as_many {e = e} x h number slots q f = f.many ∙ ap (λ w. w.width) (some_same (sym f.known ∙ sym (ap (slice_get e.shapes) q) ∙ h.shape))
+as_many {e = e} x h number slots q f = of-length (variables_of e) slots f.shape.letters f.slots ∙ ap (λ w. length w.letters) (some_same (sym f.known ∙ sym (ap (slice_get e.shapes) q) ∙ h.shape))
 
 pub holds-fetch : {e : TypingContext} {m : Meaning} {s : StatementScope} (eval_context : EvalContext) → IsEvalContext e s eval_context → (number : ℕ) (slots : List ℕ) → IsSeen s number → AreForItems e number slots → Holds e m Anything (fetch eval_context number slots)
-holds-fetch eval_context p number slots h f = holds-bind holds-cleared (λ u w. holds-bind (holds-declared_at eval_context p number h) (λ x g. holds-bind (holds-next x g.cursor) (λ row y.
-    holds-fetched_into eval_context p.routine slots g.cursor.letters row (as_many x g.cursor number slots g.same f) f.there y)))
+holds-fetch {e = e} eval_context p number slots h f = holds-bind holds-cleared (λ u w. holds-bind (holds-declared_at eval_context p number h) (λ x g. holds-bind (holds-next x g.cursor) (λ row y.
+    holds-fetched_into eval_context p.routine slots g.cursor.letters row (as_many x g.cursor number slots g.same f) (slots-are e slots f.shape.letters f.slots) y)))
 
 -- ---- SELECT INTO
 
@@ -161,9 +161,9 @@ holds-only_row ks [] h = holds-raises _
 holds-only_row ks (r ∷ []) h = holds-got r (row-length ks r h.0)
 holds-only_row ks (r ∷ s ∷ rows) h = holds-raises _
 
-pub holds-select_into : {e : TypingContext} {m : Meaning} (eval_context : EvalContext) → eval_context.routine ≡ e.routine → (query : ResolvedQuery) (slots : List ℕ) (ks : List Letter) → IsQuery e query ks → length slots ≡ length ks → Each (IsSlot e) slots → Holds e m Anything (select_into eval_context query slots)
-holds-select_into eval_context r query slots ks h l f = holds-bind holds-cleared (λ u w. holds-bind (holds-answer_of query ks h) (λ a g. holds-bind (holds-only_row ks a.rows g) (λ row y.
-    holds-bind (holds-retrieve_all eval_context r slots row (l ∙ sym y) f) (λ lost z. holds-warned a.skipped lost))))
+pub holds-select_into : {e : TypingContext} {m : Meaning} (eval_context : EvalContext) → eval_context.routine ≡ e.routine → (query : ResolvedQuery) (slots : List ℕ) (ks : List Letter) → IsQuery e query ks → AreOf (variables_of e) slots ks → Holds e m Anything (select_into eval_context query slots)
+holds-select_into {e = e} eval_context r query slots ks h f = holds-bind holds-cleared (λ u w. holds-bind (holds-answer_of query ks h) (λ a g. holds-bind (holds-only_row ks a.rows g) (λ row y.
+    holds-bind (holds-retrieve_all eval_context r slots row (of-length (variables_of e) slots ks f ∙ sym y) (slots-are e slots ks f)) (λ lost z. holds-warned a.skipped lost))))
 
 -- ---- FOR
 
@@ -172,4 +172,4 @@ holds-kept eval_context r slots ks None l h g = holds-got None tt
 holds-kept eval_context r slots ks (Some ds) l h g = holds-bind (holds-assign_all eval_context r slots ds (l ∙ sym g) h) (λ u w. holds-got (Some ds) tt)
 
 pub holds-row_of_for : {e : TypingContext} {m : Meaning} (eval_context : EvalContext) → eval_context.routine ≡ e.routine → (head : ResolvedFor) → IsCursor e head.cursor → AreForItems e head.cursor.number head.slots → Holds e m Anything (row_of_for eval_context head)
-holds-row_of_for eval_context r head h f = holds-bind (holds-next head.cursor h) (λ row g. holds-kept eval_context r head.slots h.letters row (as_many head.cursor h head.cursor.number head.slots refl f) f.there g)
+holds-row_of_for {e = e} eval_context r head h f = holds-bind (holds-next head.cursor h) (λ row g. holds-kept eval_context r head.slots h.letters row (as_many head.cursor h head.cursor.number head.slots refl f) (slots-are e head.slots f.shape.letters f.slots) g)

@@ -1,5 +1,5 @@
 -- Well-typed blocks, handlers and branches that are put together from their parts.
-use Rattle.std.proofs.Common.{◌≡◌, ℕ, List, ◌∷◌, sym, subst, false}
+use Rattle.std.proofs.Common.{◌≡◌, ℕ, List, ◌∷◌, sym, subst, false, Bool}
 use Rattle.psm_cond.specs.declared.handlers.ConditionValue.{ConditionValue}
 use Rattle.psm_cond.specs.declared.handlers.HandlerKind.{HandlerKind}
 use Rattle.psm_exprcode.specs.declared.op.Letter.{Letter}
@@ -11,22 +11,33 @@ use Rattle.psm_resolved.specs.declared.statement.ResolvedHandler.{ResolvedHandle
 use Rattle.psm_resolved.specs.declared.statement.ResolvedStatement.{ResolvedStatement}
 use Rattle.psm_resolved.specs.declared.statement.ResolvedStatement.TheVariants as made
 use Rattle.psm_meaning.specs.Blocks.{Block}
-use Rattle.psm_typing.specs.TypingContext.{TypingContext}
+use Rattle.psm_typing.specs.TypingContext.{TypingContext, AreApart, Each, HasSome}
 use Rattle.psm_typing.specs.Expressions.{IsExpr}
 use Rattle.psm_typing.specs.Statements as typed
-use Rattle.psm_typing.specs.Statements.{AreBranches, AreHandlers, AreStatements, IsStatement, StatementScope, in_action}
+use Rattle.psm_typing.specs.Statements.{AreBranches, AreHandlers, AreStatements, IsStatement, StatementScope, in_action, HandleApart, IsValue, MayHandle, MayUndo}
 use Rattle.psm_typing.proofs.Entering.{IsBlock}
 
 pub block-well_typed : {e : TypingContext} {s : StatementScope} (level : ℕ) (b : Block) → IsBlock e s level b → IsStatement e s (made.Compound level (roll-ResolvedBlock b))
 block-well_typed {e = e} {s = s} level b h =
     let r : out-ResolvedBlock (roll-ResolvedBlock b) ≡ b = out-roll-ResolvedBlock b in
     let k : IsBlock e s level (out-ResolvedBlock (roll-ResolvedBlock b)) = subst (IsBlock e s level) (sym r) h in
-    typed.compound level (roll-ResolvedBlock b) (made.outs-Compound level (roll-ResolvedBlock b)) k.above k.declarations k.cursors k.handlers k.statements
+    typed.compound level (roll-ResolvedBlock b) (made.outs-Compound level (roll-ResolvedBlock b)) k.above k.declarations k.cursors k.apart k.may k.handlers k.statements
 
 pub handler-well_typed : {e : TypingContext} {level : ℕ} {cursors : List ResolvedCursor} {hs : List ResolvedHandler} (kind : HandlerKind) (values : List ConditionValue) (x : ResolvedStatement) → IsStatement e (in_action level cursors) x → AreHandlers e level cursors hs
     → AreHandlers e level cursors (roll-ResolvedHandler (record { kind = kind; values = values; action = x }) ∷ hs)
 handler-well_typed {e = e} {level = level} {cursors = cursors} kind values x h hs =
     typed.and_handler (subst (λ y. IsStatement e (in_action level cursors) y.action) (sym (out-roll-ResolvedHandler (record { kind = kind; values = values; action = x }))) h) hs
+
+-- one handler alone, which handles one kind of conditions
+pub handler-apart : (kind : HandlerKind) (value : ConditionValue) (x : ResolvedStatement) → HandleApart (roll-ResolvedHandler (record { kind = kind; values = value ∷ []; action = x }) ∷ [])
+handler-apart kind value x = subst (λ y. AreApart (y.values ++ [])) (sym (out-roll-ResolvedHandler (record { kind = kind; values = value ∷ []; action = x }))) ((λ a. a), tt)
+
+pub handler-may : (e : TypingContext) (atomic : Bool) (kind : HandlerKind) (value : ConditionValue) (x : ResolvedStatement) → IsValue e value → MayUndo atomic kind → MayHandle e atomic (roll-ResolvedHandler (record { kind = kind; values = value ∷ []; action = x }))
+handler-may e atomic kind value x v u = let q = sym (out-roll-ResolvedHandler (record { kind = kind; values = value ∷ []; action = x })) in record {
+  some = subst (λ y. HasSome y.values) q tt;
+  values = subst (λ y. Each (IsValue e) y.values) q (v, tt);
+  undo = subst (λ y. MayUndo atomic y.kind) q u;
+}
 
 pub branch-well_typed : {e : TypingContext} {s : StatementScope} {k : Letter} {bs : List ResolvedBranch} (test : ResolvedExpr) (xs : List ResolvedStatement) → IsExpr e false test k → AreStatements e s xs → AreBranches e s bs k
     → AreBranches e s (roll-ResolvedBranch (record { test = test; statements = xs }) ∷ bs) k

@@ -51,8 +51,8 @@ goes-simple k s eval_context p (simples.Signal x) h = goes-stated k.parts s eval
 goes-simple k s eval_context p (simples.Resignal None) h = goes-stated k.parts s eval_context p (holds-resignal k.values eval_context p.routine None tt)
 goes-simple k s eval_context p (simples.Resignal (Some x)) h = goes-stated k.parts s eval_context p (holds-resignal k.values eval_context p.routine (Some x) h)
 goes-simple k s eval_context p (simples.GetDiagnostics d) h = goes-stated k.parts s eval_context p (holds-get_diagnostics eval_context p.routine d h)
-goes-simple k s eval_context p (simples.SelectInto query slots) h = goes-stated k.parts s eval_context p (holds-select_into eval_context p.routine query slots h.0 h.1 h.2 h.3)
-goes-simple k s eval_context p (simples.Insert table columns rows) h = goes-stated k.parts s eval_context p (holds-insert k.values table h.0 columns rows h.1 h.2)
+goes-simple k s eval_context p (simples.SelectInto query slots) h = goes-stated k.parts s eval_context p (holds-select_into eval_context p.routine query slots h.0 h.1 h.2)
+goes-simple k s eval_context p (simples.Insert table columns rows) h = goes-stated k.parts s eval_context p (holds-insert k.values table h.0 columns h.2 rows h.1 h.3 h.4)
 goes-simple k s eval_context p (simples.Update table sets x) h = goes-stated k.parts s eval_context p (holds-update eval_context p table h.0 sets x h.1 h.3)
 goes-simple k s eval_context p (simples.Delete table x) h = goes-stated k.parts s eval_context p (holds-delete eval_context p table h.0 x h.1 h.2)
 goes-simple k s eval_context p (simples.Open cursor) h = goes-stated k.parts s eval_context p (holds-open eval_context p cursor h)
@@ -66,12 +66,12 @@ by-layer {e = e} {m = m} s eval_context x again layer q h = subst (λ l. Goes e 
 -- a statement, and the same that is done again
 pub goes-statement : {e : TypingContext} {m : Meaning} → Known e m → (s : StatementScope) (eval_context : EvalContext) → IsEvalContext e s eval_context → (x : ResolvedStatement) (again : Deed) → Goes e m s eval_context.scopes again → IsStatement e s x → Goes e m s eval_context.scopes (statement e.file eval_context again (out-ResolvedStatement x))
 goes-statement k s eval_context p x again g (typed.simple y q h) = by-layer s eval_context x again (layers.Simple y) q (goes-simple k s eval_context p y h)
-goes-statement k s eval_context p x again g (typed.compound level block q b ds cs hs xs) = by-layer s eval_context x again (layers.Compound level block) q
-    (goes-compound k.values k.parts s level (out-ResolvedBlock block) eval_context p (record { above = b; declarations = ds; cursors = cs; handlers = hs; statements = xs }))
+goes-statement k s eval_context p x again g (typed.compound level block q b ds cs apart may hs xs) = by-layer s eval_context x again (layers.Compound level block) q
+    (goes-compound k.values k.parts s level (out-ResolvedBlock block) eval_context p (record { above = b; declarations = ds; cursors = cs; apart = apart; may = may; handlers = hs; statements = xs }))
 goes-statement k s eval_context p x again g (typed.loop level xs q h) = by-layer s eval_context x again (layers.Loop level xs) q (goes-looped k.parts s eval_context level xs again p h g)
 goes-statement k s eval_context p x again g (typed.while level test xs q f h) = by-layer s eval_context x again (layers.While level test xs) q (goes-while_true k.values k.parts s eval_context level test xs again p f h g)
 goes-statement k s eval_context p x again g (typed.repeat level xs until q h f) = by-layer s eval_context x again (layers.Repeat level xs until) q (goes-until_true k.values k.parts s eval_context level xs until again p h f g)
-goes-statement k s eval_context p x again g (typed.for_each level head xs q c f h) = by-layer s eval_context x again (layers.For level head xs) q (goes-for_each k.parts s eval_context level head xs p c f h)
+goes-statement k s eval_context p x again g (typed.for_each level head xs q b c f h) = by-layer s eval_context x again (layers.For level head xs) q (goes-for_each k.parts s eval_context level head xs p c f h)
 goes-statement k s eval_context p x again g (typed.if bs xs q h f) = by-layer s eval_context x again (layers.If bs xs) q (goes-branched k.parts s eval_context p B truth_of (holds-truth_of k.values) bs (all eval_context xs) h (goes-all k.parts s eval_context xs p f))
 goes-statement k s eval_context p x again g (typed.searched bs xs q h f) = by-layer s eval_context x again (layers.Case None bs xs) q (goes-branched k.parts s eval_context p B truth_of (holds-truth_of k.values) bs (else_of eval_context xs) h (goes-else_of k.parts s eval_context p xs f))
 goes-statement k s eval_context p x again g (typed.compared {k = j} y bs xs q w f h i) = by-layer s eval_context x again (layers.Case (Some y) bs xs) q (goes-compared k.values k.parts s eval_context p j y bs (else_of eval_context xs) w f h (goes-else_of k.parts s eval_context p xs i))

@@ -1,9 +1,22 @@
--- Well-typed statements: whatever they name is there, expressions are of the letters that their places want, and LEAVE, ITERATE and RETURN
--- stand where they may (ISO/IEC 9075-4:1996).
-use Rattle.std.specs.Prelude.{◌≡◌, ◌≤◌, ℕ, suc, Bool, true, false, List, [], ◌∷◌, ◌++◌, length, find, nat_eq, slice_get, IsTrue, Option, Some, None}
+-- Well-typed statements (ISO/IEC 9075-4:1996, and 9075:1992, clause 13): whatever they name is there, what goes into a variable or a column
+-- is of its letter, LEAVE, ITERATE, RETURN, CALL and changes of tables stand where they may, and no handler of a block handles what another
+-- one of it does.
+use Rattle.std.specs.List.{flat_map}
+use Rattle.std.specs.Prelude.{◌≡◌, ◌≢◌, ◌≤◌, ℕ, suc, Bool, true, false, List, [], ◌∷◌, ◌++◌, find, map, nat_eq, slice_get, IsTrue, Option, Some, None}
+use Rattle.psm_sqlstate.specs.declared.kind.Kind.TheVariants as of_class
+use Rattle.psm_sqlstate.specs.declared.state.SqlState.{SqlState}
+use Rattle.psm_sqlstate.specs.Kind.{kind_of}
 use Rattle.psm_value.specs.declared.sqltype.SqlType.{SqlType}
+use Rattle.psm_cond.specs.declared.handlers.ConditionValue.{ConditionValue}
+use Rattle.psm_cond.specs.declared.handlers.ConditionValue.TheVariants as values
+use Rattle.psm_cond.specs.declared.handlers.HandlerKind.{HandlerKind}
+use Rattle.psm_cond.specs.declared.handlers.HandlerKind.TheVariants as kinds
+use Rattle.psm_cond.specs.declared.item.ConditionItem.{ConditionItem}
+use Rattle.psm_cond.specs.declared.item.ConditionItem.TheVariants as of_condition
+use Rattle.psm_cond.specs.declared.item.StatementItem.{StatementItem}
+use Rattle.psm_cond.specs.declared.item.StatementItem.TheVariants as of_statement
 use Rattle.psm_exprcode.specs.declared.op.Letter.{Letter}
-use Rattle.psm_exprcode.specs.declared.op.Letter.TheVariants.{T, B}
+use Rattle.psm_exprcode.specs.declared.op.Letter.TheVariants.{N, T, B}
 use Rattle.psm_exprcode.specs.Kinds.{is_value, letter_of}
 use Rattle.psm_table.specs.Queries as q
 use Rattle.psm_resolved.specs.declared.expr.ResolvedExpr.{ResolvedExpr}
@@ -38,7 +51,7 @@ use Rattle.psm_resolved.specs.declared.statement.ResolvedWhere.TheVariants as wh
 use Rattle.psm_resolved.specs.RowType.{IsOfLetter}
 use Rattle.psm_meaning.specs.Calls.{procedure_at}
 use Rattle.psm_meaning.specs.Rows.{query_of}
-use Rattle.psm_typing.specs.TypingContext.{TypingContext, Shape, Among, Each, IsThere, columns_of, variables_of}
+use Rattle.psm_typing.specs.TypingContext.{TypingContext, Shape, Among, AreApart, AreOf, Each, HasSome, IsThere, columns_of, variables_of}
 use Rattle.psm_typing.specs.Queries.{IsQuery, IsRowTest}
 use Rattle.psm_typing.specs.Expressions.{AreExprs, IsExpr}
 
@@ -69,8 +82,9 @@ in_action level cursors = record { cursors = cursors; bound = level; leaves = []
 
 -- ---- slots and cursors
 
-abbrev pub IsSlot : TypingContext → ℕ → Type 0
-IsSlot e slot = IsThere (slice_get e.routine.slots slot)
+-- a variable of that letter
+abbrev pub SlotOf : TypingContext → ℕ → Letter → Type 0
+SlotOf e slot k = slice_get (variables_of e) slot ≡ Some k
 
 -- an expression for a variable
 pub record IsFor (e : TypingContext) (slot : ℕ) (x : ResolvedExpr) : Type 0 where
@@ -78,18 +92,17 @@ pub record IsFor (e : TypingContext) (slot : ℕ) (x : ResolvedExpr) : Type 0 wh
   pub there : slice_get e.routine.slots slot ≡ Some type
   pub source : IsExpr e true x (letter_of type)
 
--- set functions are of an insensitive cursor alone
-abbrev pub MayBe : Bool → q.Items ResolvedExpr → Type 0
-MayBe true items = Unit {0}
-MayBe false (q.Rows xs) = Unit {0}
-MayBe false (q.Sets sets) = ⊥
+-- no set function stands in the query of a cursor
+abbrev pub HasRows : q.Items ResolvedExpr → Type 0
+HasRows (q.Rows xs) = Unit {0}
+HasRows (q.Sets sets) = ⊥
 
 -- a cursor has the shape that is known of its number
 pub record IsCursor (e : TypingContext) (x : ResolvedCursor) : Type 0 where
   pub letters : List Letter
   pub query : IsQuery e x.query letters
-  pub shape : slice_get e.shapes x.number ≡ Some (record { width = length letters; insensitive = x.insensitive })
-  pub items : MayBe x.insensitive (query_of x.query).items
+  pub rows : HasRows (query_of x.query).items
+  pub shape : slice_get e.shapes x.number ≡ Some (record { letters = letters; insensitive = x.insensitive })
 
 abbrev pub IsSeen : StatementScope → ℕ → Type 0
 IsSeen s number = IsThere (find (λ x. nat_eq x.number number) s.cursors)
@@ -98,16 +111,19 @@ IsSeen s number = IsThere (find (λ x. nat_eq x.number number) s.cursors)
 pub record AreForItems (e : TypingContext) (number : ℕ) (slots : List ℕ) : Type 0 where
   pub shape : Shape
   pub known : slice_get e.shapes number ≡ Some shape
-  pub many : length slots ≡ shape.width
-  pub there : Each (IsSlot e) slots
+  pub slots : AreOf (variables_of e) slots shape.letters
 
 -- ---- parts of simple statements
 
--- arguments are as many as and of the modes of the parameters
+-- a procedure calls and changes tables; a function returns
+abbrev pub IsProcedure : TypingContext → Type 0
+IsProcedure e = e.routine.returns ≡ None
+
+-- arguments are as many as and of the modes of the parameters, and a variable that a parameter gives a value to is of its letter
 abbrev pub IsArgument : TypingContext → ResolvedArgument → ResolvedParameter → Type 0
 IsArgument e (arguments.In x) p = (p.mode ≡ modes.In) × IsExpr e true x (letter_of p.kind)
-IsArgument e (arguments.Out slot) p = (p.mode ≡ modes.Out) × IsSlot e slot
-IsArgument e (arguments.InOut slot) p = (p.mode ≡ modes.InOut) × IsSlot e slot
+IsArgument e (arguments.Out slot) p = (p.mode ≡ modes.Out) × SlotOf e slot (letter_of p.kind)
+IsArgument e (arguments.InOut slot) p = (p.mode ≡ modes.InOut) × SlotOf e slot (letter_of p.kind)
 
 abbrev pub AreArguments : TypingContext → List ResolvedArgument → List ResolvedParameter → Type 0
 AreArguments e [] [] = Unit {0}
@@ -115,8 +131,12 @@ AreArguments e [] (p ∷ ps) = ⊥
 AreArguments e (a ∷ others) [] = ⊥
 AreArguments e (a ∷ others) (p ∷ ps) = IsArgument e a p × AreArguments e others ps
 
+-- an SQLSTATE isn't one of success
+abbrev pub IsRaised : SqlState → Type 0
+IsRaised s = kind_of s ≢ of_class.Success
+
 abbrev pub IsCondition : TypingContext → ResolvedCondition → Type 0
-IsCondition e (conditions.State s) = Unit {0}
+IsCondition e (conditions.State s) = IsRaised s
 IsCondition e (conditions.Own n) = IsThere (slice_get e.routine.conditions n)
 
 -- a message is a text
@@ -127,39 +147,63 @@ IsMessage e (Some x) = IsExpr e true x T
 abbrev pub IsSignal : TypingContext → ResolvedSignal → Type 0
 IsSignal e s = IsCondition e s.condition × IsMessage e s.message
 
+-- ---- diagnostics: there is an item, and items go into variables of their letters
+
+abbrev pub statement_letter : StatementItem → Letter
+statement_letter of_statement.Number = N
+statement_letter of_statement.More = T
+statement_letter of_statement.RowCount = N
+
+abbrev pub condition_letter : ConditionItem → Letter
+condition_letter of_condition.ConditionNumber = N
+condition_letter of_condition.ReturnedSqlstate = T
+condition_letter of_condition.ConditionIdentifier = T
+condition_letter of_condition.MessageText = T
+condition_letter of_condition.MessageLength = N
+condition_letter of_condition.TableName = T
+condition_letter of_condition.CursorName = T
+
 abbrev pub IsNumber : TypingContext → ResolvedNumber → Type 0
 IsNumber e (numbers.Constant n) = Unit {0}
-IsNumber e (numbers.Variable slot) = IsSlot e slot
+IsNumber e (numbers.Variable slot) = SlotOf e slot N
 
 abbrev pub AreDiagnostics : TypingContext → ResolvedDiagnostics → Type 0
-AreDiagnostics e (diagnostics.Statement area items) = Each (λ i. IsSlot e i.0) items
-AreDiagnostics e (diagnostics.Condition area number items) = IsNumber e number × Each (λ i. IsSlot e i.0) items
+AreDiagnostics e (diagnostics.Statement area items) = HasSome items × Each (λ i. SlotOf e i.0 (statement_letter i.1)) items
+AreDiagnostics e (diagnostics.Condition area number items) = HasSome items × IsNumber e number × Each (λ i. SlotOf e i.0 (condition_letter i.1)) items
+
+-- ---- changes of tables
+
+-- some columns, none of them twice
+abbrev pub AreColumns : List ℕ → Type 0
+AreColumns columns = HasSome columns × AreApart columns
 
 -- a row of an INSERT has a value for each of its columns
-pub record IsRowFor (e : TypingContext) (columns : List ℕ) (xs : List ResolvedExpr) : Type 0 where
-  pub letters : List Letter
-  pub values : Each (λ k. IsTrue (is_value k)) letters
-  pub exprs : AreExprs e true xs letters
-  pub many : length columns ≡ length letters
-
-abbrev pub AreRowsFor : TypingContext → List ℕ → ResolvedRows → Type 0
-AreRowsFor e columns (given.Values rows) = Each (IsRowFor e columns) rows
-AreRowsFor e columns (given.Query query) = (ks : List Letter) × IsQuery e query ks × (length columns ≡ length ks)
+abbrev pub AreRowsFor : TypingContext → List Letter → ResolvedRows → Type 0
+AreRowsFor e ks (given.Values rows) = Each (λ xs. AreExprs e true xs ks) rows
+AreRowsFor e ks (given.Query query) = IsQuery e query ks
 
 -- a column of the table gets a row expression of its letter, or NULL
 abbrev pub IsChange : TypingContext → ResolvedTable → ResolvedSet → Type 0
 IsChange e t set = (k : Letter) × (slice_get (columns_of t) set.column ≡ Some k) × IsOfLetter (columns_of t) (variables_of e) set.source k
 
-abbrev pub IsWhere : TypingContext → StatementScope → ResolvedTable → ResolvedWhere → Type 0
-IsWhere e s t which.All = Unit {0}
-IsWhere e s t (which.Test x) = IsRowTest (columns_of t) (variables_of e) (Some x)
-IsWhere e s t (which.Current cursor) = IsSeen s cursor
+-- a cursor by which rows of a table may be changed
+pub record MayChange (s : StatementScope) (table cursor : ℕ) : Type 0 where
+  pub x : ResolvedCursor
+  pub seen : find (λ y. nat_eq y.number cursor) s.cursors ≡ Some x
+  pub over : (query_of x.query).table ≡ table
+  pub plain : x.insensitive ≡ false
+  pub updatable : x.updatable ≡ true
+
+abbrev pub IsWhere : TypingContext → StatementScope → ℕ → ResolvedTable → ResolvedWhere → Type 0
+IsWhere e s table t which.All = Unit {0}
+IsWhere e s table t (which.Test x) = IsRowTest (columns_of t) (variables_of e) (Some x)
+IsWhere e s table t (which.Current cursor) = MayChange s table cursor
 
 -- ---- simple statements
 
 abbrev pub IsSimple : TypingContext → StatementScope → ResolvedSimple → Type 0
 IsSimple e s (simples.Set slot x) = IsFor e slot x
-IsSimple e s (simples.Call procedure args) = (r : ResolvedRoutine) × (procedure_at e.file procedure ≡ Some r) × AreArguments e args r.parameters
+IsSimple e s (simples.Call procedure args) = (r : ResolvedRoutine) × (procedure_at e.file procedure ≡ Some r) × AreArguments e args r.parameters × IsProcedure e
 IsSimple e s (simples.Return x) = (t : SqlType) × (e.routine.returns ≡ Some t) × IsExpr e true x (letter_of t)
 IsSimple e s (simples.Leave level) = Among level s.leaves
 IsSimple e s (simples.Iterate level) = Among level s.iterates
@@ -167,10 +211,12 @@ IsSimple e s (simples.Signal x) = IsSignal e x
 IsSimple e s (simples.Resignal None) = Unit {0}
 IsSimple e s (simples.Resignal (Some x)) = IsSignal e x
 IsSimple e s (simples.GetDiagnostics d) = AreDiagnostics e d
-IsSimple e s (simples.SelectInto query slots) = (ks : List Letter) × IsQuery e query ks × (length slots ≡ length ks) × Each (IsSlot e) slots
-IsSimple e s (simples.Insert table columns rows) = (t : ResolvedTable) × (slice_get e.file.tables table ≡ Some t) × AreRowsFor e columns rows
-IsSimple e s (simples.Update table sets x) = (t : ResolvedTable) × (slice_get e.file.tables table ≡ Some t) × Each (IsChange e t) sets × IsWhere e s t x
-IsSimple e s (simples.Delete table x) = (t : ResolvedTable) × (slice_get e.file.tables table ≡ Some t) × IsWhere e s t x
+IsSimple e s (simples.SelectInto query slots) = (ks : List Letter) × IsQuery e query ks × AreOf (variables_of e) slots ks
+IsSimple e s (simples.Insert table columns rows) =
+    (t : ResolvedTable) × (slice_get e.file.tables table ≡ Some t) × (ks : List Letter) × AreOf (columns_of t) columns ks × AreRowsFor e ks rows × AreColumns columns × IsProcedure e
+IsSimple e s (simples.Update table sets x) =
+    (t : ResolvedTable) × (slice_get e.file.tables table ≡ Some t) × Each (IsChange e t) sets × IsWhere e s table t x × AreColumns (map (λ set. set.column) sets) × IsProcedure e
+IsSimple e s (simples.Delete table x) = (t : ResolvedTable) × (slice_get e.file.tables table ≡ Some t) × IsWhere e s table t x × IsProcedure e
 IsSimple e s (simples.Open cursor) = IsSeen s cursor
 IsSimple e s (simples.Fetch cursor slots) = IsSeen s cursor × AreForItems e cursor slots
 IsSimple e s (simples.Close cursor) = IsSeen s cursor
@@ -183,7 +229,31 @@ IsDefault e (Some x) k = IsExpr e true x k
 
 -- variables of one type, and a value of its letter
 abbrev pub IsDeclaration : TypingContext → ResolvedDeclaration → Type 0
-IsDeclaration e d = (t : SqlType) × Each (λ slot. slice_get e.routine.slots slot ≡ Some t) d.slots × IsDefault e d.default (letter_of t)
+IsDeclaration e d = (t : SqlType) × Each (λ slot. slice_get e.routine.slots slot ≡ Some t) d.slots × IsDefault e d.default (letter_of t) × HasSome d.slots
+
+-- ---- handlers
+
+abbrev pub IsValue : TypingContext → ConditionValue → Type 0
+IsValue e (values.Named n) = IsThere (slice_get e.routine.conditions n)
+IsValue e (values.State s) = IsRaised s
+IsValue e values.SqlException = Unit {0}
+IsValue e values.SqlWarning = Unit {0}
+IsValue e values.NotFound = Unit {0}
+
+-- UNDO stands in an ATOMIC block alone
+abbrev pub MayUndo : Bool → HandlerKind → Type 0
+MayUndo atomic kinds.Continue = Unit {0}
+MayUndo atomic kinds.Exit = Unit {0}
+MayUndo atomic kinds.Undo = atomic ≡ true
+
+pub record MayHandle (e : TypingContext) (atomic : Bool) (h : ResolvedHandler) : Type 0 where
+  pub some : HasSome (out-ResolvedHandler h).values
+  pub values : Each (IsValue e) (out-ResolvedHandler h).values
+  pub undo : MayUndo atomic (out-ResolvedHandler h).kind
+
+-- no value stands twice in the handlers of a block
+abbrev pub HandleApart : List ResolvedHandler → Type 0
+HandleApart hs = AreApart (flat_map (λ h. (out-ResolvedHandler h).values) hs)
 
 -- ---- statements
 
@@ -192,6 +262,7 @@ mutual
     simple : {s : StatementScope} {x : ResolvedStatement} (y : ResolvedSimple) → out-ResolvedStatement x ≡ layers.Simple y → IsSimple e s y → IsStatement e s x
     compound : {s : StatementScope} {x : ResolvedStatement} (level : ℕ) (block : ResolvedBlock) → out-ResolvedStatement x ≡ layers.Compound level block → s.bound ≤ level
         → Each (IsDeclaration e) (out-ResolvedBlock block).declarations → Each (IsCursor e) (out-ResolvedBlock block).cursors
+        → HandleApart (out-ResolvedBlock block).handlers → Each (MayHandle e (out-ResolvedBlock block).atomic) (out-ResolvedBlock block).handlers
         → AreHandlers e level ((out-ResolvedBlock block).cursors ++ s.cursors) (out-ResolvedBlock block).handlers
         → AreStatements e (inside level (out-ResolvedBlock block).cursors s) (out-ResolvedBlock block).statements → IsStatement e s x
     loop : {s : StatementScope} {x : ResolvedStatement} (level : ℕ) (xs : List ResolvedStatement) → out-ResolvedStatement x ≡ layers.Loop level xs → AreStatements e (looping level s) xs → IsStatement e s x
@@ -199,7 +270,7 @@ mutual
         → IsExpr e false test B → AreStatements e (looping level s) xs → IsStatement e s x
     repeat : {s : StatementScope} {x : ResolvedStatement} (level : ℕ) (xs : List ResolvedStatement) (until : ResolvedExpr) → out-ResolvedStatement x ≡ layers.Repeat level xs until
         → AreStatements e (looping level s) xs → IsExpr e false until B → IsStatement e s x
-    for_each : {s : StatementScope} {x : ResolvedStatement} (level : ℕ) (head : ResolvedFor) (xs : List ResolvedStatement) → out-ResolvedStatement x ≡ layers.For level head xs
+    for_each : {s : StatementScope} {x : ResolvedStatement} (level : ℕ) (head : ResolvedFor) (xs : List ResolvedStatement) → out-ResolvedStatement x ≡ layers.For level head xs → s.bound ≤ level
         → IsCursor e head.cursor → AreForItems e head.cursor.number head.slots → AreStatements e (over_rows level head.cursor s) xs → IsStatement e s x
     if : {s : StatementScope} {x : ResolvedStatement} (branches : List ResolvedBranch) (otherwise : List ResolvedStatement) → out-ResolvedStatement x ≡ layers.If branches otherwise
         → AreBranches e s branches B → AreStatements e s otherwise → IsStatement e s x

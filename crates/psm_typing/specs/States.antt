@@ -22,11 +22,11 @@ AreFilled (t ∷ ts) (c ∷ cs) = IsFilled t c × AreFilled ts cs
 
 -- ---- cursors
 
--- the rows that are left of an insensitive cursor are of its width, and another one is no insensitive cursor's
+-- the rows that are left of an insensitive cursor are as wide as its items are many, and another one is no insensitive cursor's
 abbrev pub IsShaped : Shape → Cursor → Type 0
 IsShaped shape Closed = Unit {0}
 IsShaped shape (Plain p vars) = shape.insensitive ≡ false
-IsShaped shape (Insensitive rows) = Each (λ row. length row ≡ shape.width) rows
+IsShaped shape (Insensitive rows) = Each (λ row. length row ≡ length shape.letters) rows
 
 -- one for one
 abbrev pub AreShaped : List Shape → List Cursor → Type 0

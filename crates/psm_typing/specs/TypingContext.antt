@@ -1,5 +1,5 @@
 -- What a tree may name: the tables and routines of a file, and the slots, cursors and conditions of a routine.
-use Rattle.std.specs.Prelude.{◌≡◌, ◌⊎◌, ℕ, Bool, List, [], ◌∷◌, map, Option, Some, None}
+use Rattle.std.specs.Prelude.{◌≡◌, ◌⊎◌, ℕ, Bool, List, [], ◌∷◌, map, slice_get, Option, Some, None}
 use Rattle.psm_value.specs.declared.sqltype.SqlType.{SqlType}
 use Rattle.psm_exprcode.specs.declared.op.Letter.{Letter}
 use Rattle.psm_exprcode.specs.Kinds.{letter_of}
@@ -11,9 +11,9 @@ use Rattle.psm_resolved.specs.declared.file.ResolvedParameter.{ResolvedParameter
 use Rattle.psm_resolved.specs.declared.file.ResolvedRoutine.{ResolvedRoutine}
 use Rattle.psm_resolved.specs.declared.file.ResolvedTable.{ResolvedTable}
 
--- how many items a row of a cursor has, and whether the cursor is insensitive
+-- the letters of the items of a cursor, and whether it is insensitive
 pub record Shape : Type 0 where
-  pub width : ℕ
+  pub letters : List Letter
   pub insensitive : Bool
 
 -- a file, one of its routines, and the shapes of the routine's cursors by their numbers
@@ -43,7 +43,19 @@ abbrev pub Among : {A : Type 0} → A → List A → Type 0
 Among a [] = ⊥
 Among a (b ∷ others) = (a ≡ b) ⊎ Among a others
 
+-- none stands twice
+abbrev pub AreApart : {A : Type 0} → List A → Type 0
+AreApart [] = Unit {0}
+AreApart (a ∷ others) = (Among a others → ⊥) × AreApart others
+
 -- ---- letters
+
+-- variables or columns of letters, by their numbers, one for one
+abbrev pub AreOf : List Letter → List ℕ → List Letter → Type 0
+AreOf letters [] [] = Unit {0}
+AreOf letters [] (k ∷ ks) = ⊥
+AreOf letters (n ∷ ns) [] = ⊥
+AreOf letters (n ∷ ns) (k ∷ ks) = (slice_get letters n ≡ Some k) × AreOf letters ns ks
 
 abbrev pub letters_of : List SqlType → List Letter
 letters_of types = map letter_of types
