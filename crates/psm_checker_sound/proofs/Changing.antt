@@ -48,7 +48,7 @@ use Rattle.psm_checker_sound.specs.Agreement.{Agree, HaveTypes, letter_in}
 use Rattle.psm_checker_sound.specs.Meant.{IsCursorMeant, Meant}
 use Rattle.psm_checker_sound.specs.Simples.{InsertStands, WhichStands}
 use Rattle.psm_checker_sound.specs.Stands.{as_source, stands}
-use Rattle.psm_checker_sound.proofs.Judging.{Control, OnRow, null-source, row_type_at}
+use Rattle.psm_checker_sound.proofs.Judging.{Control, OnRow, is_of_row_type, null-source, row_type_at}
 use Rattle.psm_checker_sound.proofs.Parts.{IsResult, IsSourceOf, Part, as_condition-clean, as_value-clean, neither, operand_source, result, tested, value_of_family}
 use Rattle.psm_checker_sound.proofs.Queries.{IsTable, named_placed, tables_placed}
 use Rattle.psm_checker_sound.proofs.Accepted.{Fits}

@@ -55,7 +55,7 @@ use Rattle.psm_code.specs.Rules.{is_some as some}
 use Rattle.psm_exprcode.specs.Kinds.{is_letter}
 use Rattle.psm_wellformed.specs.Queries.{has_rows}
 use Rattle.psm_wellformed.specs.Queries.{items_of as items_at}
-use Rattle.psm_checker_sound.proofs.Judging.{Control, OnRow, column-judged, row_type_at}
+use Rattle.psm_checker_sound.proofs.Judging.{Control, OnRow, column-judged, is_of_row_type, row_type_at}
 use Rattle.psm_checker_sound.proofs.Parts.{Clean, IsOperand, IsSane, IsValue, Part, as_value-clean, combined-clean, combined-parts, neither, of_family-clean, operand, operand_source, valued}
 use Rattle.psm_checker_sound.proofs.Forms.{argued, resolved_condition, resolved_value, without_none, shape_some, typed_value}
 use Rattle.psm_checker_sound.proofs.Faultless.{each_at}

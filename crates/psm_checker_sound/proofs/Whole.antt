@@ -38,7 +38,7 @@ use Rattle.psm_typing.specs.Queries.{IsRowTest}
 use Rattle.psm_typing.specs.TypingContext.{TypingContext, letters_of, variables_of}
 use Rattle.psm_checker_sound.specs.Agreement.{Agree, HaveTypes}
 use Rattle.psm_checker_sound.specs.Stands.{Standing, as_operand, as_source, chain_link_stands, chain_link_stands_layer, may_be, pick_stands, pick_stands_layer, select_stands, select_stands_layer, stands, stands_layer, when_stands, when_stands_layer}
-use Rattle.psm_checker_sound.proofs.Judging.{OnRow, row_type_at}
+use Rattle.psm_checker_sound.proofs.Judging.{OnRow, is_of_row_type, row_type_at}
 use Rattle.psm_checker_sound.proofs.Parts.{Part, as_condition-clean, neither, operand_source, tested}
 use Rattle.psm_checker_sound.proofs.Forms.{IsChainLink}
 use Rattle.psm_checker_sound.proofs.Choices.{IsWhen}

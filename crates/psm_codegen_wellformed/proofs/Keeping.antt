@@ -29,6 +29,7 @@ use Rattle.psm_codegen.proofs.Numbers.{known_functions}
 use Rattle.psm_typing.specs.TypingContext.{Begin, TypingContext, taken_by, with_taken}
 use Rattle.psm_typing.specs.TypingContext as typing_contexts
 use Rattle.psm_codegen_wellformed.specs.Kept.{FunctionTakes, Keeps, KeepsFunction, QueriesKeep}
+use Rattle.psm_wellformed.proofs.Queries.{query-letters}
 
 -- ---- parameters and slots
 

@@ -32,7 +32,7 @@ use Rattle.psm_typing.specs.TypingContext.{Among, Each, IsThere, TypingContext}
 use Rattle.psm_typing.specs.Statements.{AreArguments, IsCondition, IsDeclaration, IsMessage, IsRowFor, IsSeen, IsSignal, IsSimple, StatementScope, IsDefault, IsCursor}
 use Rattle.psm_wellformed.specs.Simples.{WellFormedSimple, WellFormedWhere}
 use Rattle.psm_wellformed.specs.Statements.{Letters}
-use Rattle.psm_wellformed.proofs.Outside.{as-many, stands-outside}
+use Rattle.psm_wellformed.proofs.Outside.{as-many, exprs-outside, stands-outside}
 use Rattle.psm_wellformed.proofs.Queries.{known_in, query-known}
 
 -- ---- what a statement sees, as it is checked and as code can stand for it

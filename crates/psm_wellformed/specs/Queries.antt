@@ -13,7 +13,7 @@ use Rattle.psm_resolved.specs.RowType.{row_type_of}
 use Rattle.psm_code.specs.PlanRules.{counts_rows, is_due}
 use Rattle.psm_code.specs.Rules.{is_some}
 use Rattle.psm_exprgen.specs.declared.known.Known.{Known}
-use Rattle.psm_exprgen.specs.Queries.{Layer, is_query, item_letters, letter_of_row_type}
+use Rattle.psm_exprgen.specs.Queries.{Layer, is_query, letter_of_row_type}
 use Rattle.psm_exprgen.specs.Written.{letters_at}
 
 -- ---- set functions
