@@ -97,7 +97,7 @@ holds-apart : {e : TypingContext} {m : Meaning} (r : ResolvedRoutine) (h : IsRou
 holds-apart {e = e} {m = m} r h parts ds f = record {
   well = λ st s.
       let d = m.done (Do r.body) (body_eval_context r) (begun r ds st) in
-      let g = (parts.part outermost (body_eval_context r) r.body (body-eval_context e.file r h) h.body).done (begun r ds st) (state-begun e r h ds st s f) in
+      let g = (parts.part outermost (body_eval_context r) r.body (body-eval_context e.file r h) h.body_typed).done (begun r ds st) (state-begun e r h ds st s f) in
       ending-well e m r h d.outcome st d.state s g.state g.end;
 }
 

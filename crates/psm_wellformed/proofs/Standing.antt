@@ -1,8 +1,7 @@
--- Code can stand for well-formed statements: what they name is in scope, and their expressions stand outside of rows.
-use Rattle.std.proofs.Common.{◌≡◌, ℕ, suc, ◌<◌, true, false, List, [], ◌∷◌, zero, length, nat_eq, slice_get, Option, Some, None, sym, ap, ◌∙◌, subst, arith}
+-- Code can stand for well-typed statements: what they name is in scope, and their expressions stand outside of rows.
+use Rattle.std.proofs.Common.{◌≡◌, ℕ, suc, ◌<◌, true, List, [], ◌∷◌, zero, length, nat_eq, slice_get, Option, Some, None, sym, ap, ◌∙◌, subst, arith, refl}
 use Rattle.std.specs.List.{list_all}
 use Rattle.std.specs.Prelude.{find}
-use Rattle.std.proofs.lemmas.Bool.{false≢true}
 use Rattle.psm_exprcode.specs.declared.op.Letter.{Letter}
 use Rattle.psm_resolved.specs.declared.expr.ResolvedExpr.{ResolvedExpr}
 use Rattle.psm_resolved.specs.declared.file.ResolvedParameter.{ResolvedParameter}
@@ -20,20 +19,22 @@ use Rattle.psm_resolved.specs.declared.statement.ResolvedSimple.TheVariants as s
 use Rattle.psm_resolved.specs.declared.statement.ResolvedWhere.{ResolvedWhere}
 use Rattle.psm_resolved.specs.declared.statement.ResolvedWhere.TheVariants as which
 use Rattle.psm_simulation.specs.Scheme.{AreFor}
-use Rattle.psm_exprgen.specs.declared.known.Known.{Known}
 use Rattle.psm_exprgen.specs.Queries.{is_set, is_test}
-use Rattle.psm_exprgen.specs.Written.{letters_at}
-use Rattle.psm_codegen.specs.Files.{known_of}
 use Rattle.psm_codegen.specs.Outside.{ArgumentsOutside, DefaultsOutside, PerhapsOutside, RowsOutside}
 use Rattle.psm_codegen.specs.Outside as outside
 use Rattle.psm_codegen.specs.Standing as fit
 use Rattle.psm_codegen.specs.Standing.{ConditionFits, CursorsFit, SeesCursor, SignalFits, SimpleFits, WhereFits, is_among}
-use Rattle.psm_typing.specs.TypingContext.{Among, Each, IsThere, TypingContext}
-use Rattle.psm_typing.specs.Statements.{AreArguments, IsCondition, IsDeclaration, IsMessage, IsRowFor, IsSeen, IsSignal, IsSimple, StatementScope, IsDefault, IsCursor}
-use Rattle.psm_wellformed.specs.Simples.{WellFormedSimple, WellFormedWhere}
-use Rattle.psm_wellformed.specs.Statements.{Letters}
+use Rattle.psm_typing.specs.TypingContext.{Among, Each, IsThere, TypingContext, columns_of, variables_of}
+use Rattle.psm_typing.specs.Statements.{AreArguments, IsCondition, IsDeclaration, IsMessage, IsSeen, IsSignal, IsSimple, StatementScope, IsDefault, IsCursor, IsChange, IsWhere}
 use Rattle.psm_wellformed.proofs.Outside.{as-many, exprs-outside, stands-outside}
-use Rattle.psm_wellformed.proofs.Queries.{known_in, query-known}
+use Rattle.psm_wellformed.proofs.Queries.{known_in, query-known, columns_there}
+use Rattle.psm_typing.specs.Expressions.{AreExprs}
+use Rattle.psm_resolved.specs.declared.statement.ResolvedSet.{ResolvedSet}
+use Rattle.psm_resolved.specs.declared.file.ResolvedTable.{ResolvedTable}
+use Rattle.psm_exprcode.proofs.Standing.{both_true}
+use Rattle.psm_resolved.specs.RowType.{goes_as, row_type_of}
+use Rattle.psm_resolved.specs.Written.{letter_or}
+use Rattle.psm_typing.proofs.Assigning.{of-length}
 
 -- ---- what a statement sees, as it is checked and as code can stand for it
 
@@ -76,13 +77,21 @@ module _ (e : TypingContext) where
   arguments-stand (arguments.InOut slot ∷ xs) (p ∷ ps) h = arguments-stand xs ps h.1
   arguments-stand (x ∷ xs) [] h = absurd h
 
-  rows-stand : (columns : List ℕ) (rows : List (List ResolvedExpr)) → Each (IsRowFor e columns) rows → RowsOutside e.file (known_in e) (length columns) rows
-  rows-stand columns [] hs = tt
-  rows-stand columns (es ∷ rows) hs = (as-many hs.0.exprs ∙ sym hs.0.many, exprs-outside hs.0.exprs, rows-stand columns rows hs.1)
+  rows-stand : (columns : List ℕ) (ks : List Letter) (rows : List (List ResolvedExpr)) → length columns ≡ length ks → Each (λ es. AreExprs e true es ks) rows → RowsOutside e.file (known_in e) (length columns) rows
+  rows-stand columns ks [] l hs = tt
+  rows-stand columns ks (es ∷ rows) l hs = (as-many hs.0 ∙ sym l, exprs-outside hs.0, rows-stand columns ks rows l hs.1)
 
   pub cursors-fit : (xs : List ResolvedCursor) → Each (IsCursor e) xs → CursorsFit e.file e.routine xs
   cursors-fit [] hs = tt
   cursors-fit (x ∷ xs) hs = ((query-known e x.query hs.0.letters hs.0.query).is, cursors-fit xs hs.1)
+
+  -- the columns of a table that are set
+  change-is : (t : ResolvedTable) (set : ResolvedSet) → IsChange e t set → is_set (columns_of t) (variables_of e) set ≡ true
+  change-is t set h = subst (λ k. goes_as k (row_type_of (columns_of t) (variables_of e) set.source) ≡ true) (sym (ap letter_or h.1)) h.2
+
+  changes-are : (t : ResolvedTable) (sets : List ResolvedSet) → Each (IsChange e t) sets → list_all (is_set (columns_of t) (variables_of e)) sets ≡ true
+  changes-are t [] h = refl
+  changes-are t (set ∷ sets) h = both_true (is_set (columns_of t) (variables_of e) set) (list_all (is_set (columns_of t) (variables_of e)) sets) (change-is t set h.0) (changes-are t sets h.1)
 
 -- ---- what is in scope
 
@@ -104,33 +113,36 @@ sees-cursor s t see n h = seen-by (find (λ x. nat_eq x.number n) s.cursors) (fi
 
 -- ---- simple statements
 
-module _ (e : TypingContext) (known : Known) (s : StatementScope) (t : fit.BlockScope) (is : known ≡ known_of e.file e.routine) (see : Sees s t) where
+module _ (e : TypingContext) (s : StatementScope) (t : fit.BlockScope) (see : Sees s t) where
   signal-fits : (x : ResolvedSignal) → IsSignal e x → SignalFits e.file e.routine x
   signal-fits x h = (condition-fits e x.condition h.0, message-stands e x.message h.1)
 
-  where-fits : (table : ℕ) (x : ResolvedWhere) → WellFormedWhere known s table x → WhereFits e.file e.routine t table x
-  where-fits table which.All p = tt
-  where-fits table (which.Test x) p = subst (λ k. is_test (letters_at k.columns table) k.variables x ≡ true) is p
-  where-fits table (which.Current cursor) p = (p.x, ap (λ xs. find (λ y. nat_eq y.number cursor) xs) see.cursors ∙ p.seen, p.over)
+  where-fits : (table : ℕ) (u : ResolvedTable) (x : ResolvedWhere) → slice_get e.file.tables table ≡ Some u → IsWhere e s table u x → WhereFits e.file e.routine t table x
+  where-fits table u which.All q h = tt
+  where-fits table u (which.Test x) q h = subst (λ cs. is_test cs (variables_of e) x ≡ true) (sym (columns_there e table u q)) h
+  where-fits table u (which.Current cursor) q h = (h.x, ap (λ xs. find (λ y. nat_eq y.number cursor) xs) see.cursors ∙ h.seen, h.over)
 
-  pub simple-fits : (letters : Letters) (x : ResolvedSimple) → IsSimple e s x → WellFormedSimple e known letters s x → SimpleFits e.file e.routine t x
-  simple-fits letters (simples.Set slot x) h p = stands-outside h.source
-  simple-fits letters (simples.Call procedure args) (r, q, h) p = (r, q, arguments-for e args r.parameters h, arguments-stand e args r.parameters h)
-  simple-fits letters (simples.Return x) (type, q, h) p = stands-outside h
-  simple-fits letters (simples.Leave level) h p = see.labels level h
-  simple-fits letters (simples.Iterate level) h p = see.loops level h
-  simple-fits letters (simples.Signal x) h p = signal-fits x h
-  simple-fits letters (simples.Resignal None) h p = tt
-  simple-fits letters (simples.Resignal (Some x)) h p = signal-fits x h
-  simple-fits letters (simples.GetDiagnostics (diagnostics.Statement area [])) h p = absurd (false≢true p.0)
-  simple-fits letters (simples.GetDiagnostics (diagnostics.Statement area (i ∷ items))) h p = tt
-  simple-fits letters (simples.GetDiagnostics (diagnostics.Condition area number [])) h p = absurd (false≢true p.0)
-  simple-fits letters (simples.GetDiagnostics (diagnostics.Condition area number (i ∷ items))) h p = tt
-  simple-fits letters (simples.SelectInto query slots) h p = (query-known e query h.0 h.1).is
-  simple-fits letters (simples.Insert table columns (given.Values rows)) (u, q, h) p = rows-stand e columns rows h
-  simple-fits letters (simples.Insert table columns (given.Query query)) (u, q, h) p = (query-known e query h.0 h.1).is
-  simple-fits letters (simples.Update table sets x) h p = (subst (λ k. list_all (is_set (letters_at k.columns table) k.variables) sets ≡ true) is p.1.1, where-fits table x p.2)
-  simple-fits letters (simples.Delete table x) h p = where-fits table x p.1
-  simple-fits letters (simples.Open cursor) h p = sees-cursor s t see cursor h
-  simple-fits letters (simples.Fetch cursor slots) h p = sees-cursor s t see cursor h.0
-  simple-fits letters (simples.Close cursor) h p = sees-cursor s t see cursor h
+  pub simple-fits : (x : ResolvedSimple) → IsSimple e s x → SimpleFits e.file e.routine t x
+  simple-fits (simples.Set slot x) h = stands-outside h.source
+  simple-fits (simples.Call procedure args) h = (h.0, h.1, arguments-for e args h.0.parameters h.2, arguments-stand e args h.0.parameters h.2)
+  simple-fits (simples.Return x) h = stands-outside h.2
+  simple-fits (simples.Leave level) h = see.labels level h
+  simple-fits (simples.Iterate level) h = see.loops level h
+  simple-fits (simples.Signal x) h = signal-fits x h
+  simple-fits (simples.Resignal None) h = tt
+  simple-fits (simples.Resignal (Some x)) h = signal-fits x h
+  simple-fits (simples.GetDiagnostics (diagnostics.Statement area [])) h = absurd h.0
+  simple-fits (simples.GetDiagnostics (diagnostics.Statement area (i ∷ items))) h = tt
+  simple-fits (simples.GetDiagnostics (diagnostics.Condition area number [])) h = absurd h.0
+  simple-fits (simples.GetDiagnostics (diagnostics.Condition area number (i ∷ items))) h = tt
+  simple-fits (simples.SelectInto query slots) h = (query-known e query h.0 h.1).is
+  simple-fits (simples.Insert table columns (given.Values rows)) h = rows-stand e columns h.2 rows (of-length (columns_of h.0) columns h.2 h.3) h.4
+  simple-fits (simples.Insert table columns (given.Query query)) h = (query-known e query h.2 h.4).is
+  simple-fits (simples.Update table sets x) h = (
+    subst (λ cs. list_all (is_set cs (variables_of e)) sets ≡ true) (sym (columns_there e table h.0 h.1)) (changes-are e h.0 sets h.2),
+    where-fits table h.0 x h.1 h.3,
+  )
+  simple-fits (simples.Delete table x) h = where-fits table h.0 x h.1 h.2
+  simple-fits (simples.Open cursor) h = sees-cursor s t see cursor h
+  simple-fits (simples.Fetch cursor slots) h = sees-cursor s t see cursor h.0
+  simple-fits (simples.Close cursor) h = sees-cursor s t see cursor h

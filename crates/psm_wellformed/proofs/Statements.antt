@@ -1,8 +1,7 @@
--- Code can stand for well-formed statements, routines and files.
-use Rattle.std.proofs.Common.{◌≡◌, ℕ, suc, ◌<◌, ◌≤◌, inl, inr, Bool, true, false, List, [], ◌∷◌, ◌++◌, zero, map, nat_eq, slice_get, Option, Some, None, refl, sym, ap, ◌∙◌, subst, arith, eqb-true, eq-eqb}
+-- Code can stand for well-typed statements, and for well-formed routines and files.
+use Rattle.std.proofs.Common.{◌≡◌, ℕ, suc, ◌<◌, ◌≤◌, inl, inr, Bool, true, false, List, [], ◌∷◌, ◌++◌, zero, map, nat_eq, slice_get, Option, Some, None, refl, sym, ap, ◌∙◌, subst, arith, eqb-true, eq-eqb, not}
 use Rattle.std.specs.Prelude.{◌||◌}
 use Rattle.std.specs.List.{list_all}
-use Rattle.std.proofs.lemmas.Bool.{false≢true}
 use Rattle.std.proofs.lemmas.Option.{none-some}
 use Rattle.psm_value.specs.declared.sqltype.SqlType.{SqlType}
 use Rattle.psm_resolved.specs.declared.file.ResolvedFile.{ResolvedFile}
@@ -15,22 +14,21 @@ use Rattle.psm_resolved.specs.declared.statement.ResolvedCursor.{ResolvedCursor}
 use Rattle.psm_resolved.specs.declared.statement.ResolvedHandler.{ResolvedHandler, out-ResolvedHandler}
 use Rattle.psm_resolved.specs.declared.statement.ResolvedStatement.{ResolvedStatement, out-ResolvedStatement}
 use Rattle.psm_exprcode.specs.declared.op.Letter.{Letter}
-use Rattle.psm_code.specs.Rules.{is_some}
-use Rattle.psm_exprgen.specs.declared.known.Known.{Known}
 use Rattle.psm_exprgen.specs.Queries.{column_letters, is_test}
-use Rattle.psm_codegen.specs.Files.{known_of}
 use Rattle.psm_codegen.specs.Outside as outside
 use Rattle.psm_codegen.specs.Standing as fit
-use Rattle.psm_codegen.specs.Standing.{AllFit, BranchesFit, CanStand, Fits, HandlersFit, HasSome, IsNewLevel, LayerFits, RoutineFits, RoutinesFit, in_action, in_block, in_for, in_loop, is_among}
-use Rattle.psm_typing.specs.TypingContext.{Among, Begin, Each, TypingContext}
+use Rattle.psm_codegen.specs.Standing.{AllFit, BranchesFit, CanStand, Fits, HandlersFit, IsNewLevel, LayerFits, RoutineFits, RoutinesFit, in_action, in_block, in_for, in_loop, is_among}
+use Rattle.psm_typing.specs.TypingContext.{Among, Begin, Each, HasSome, TypingContext}
 use Rattle.psm_typing.specs.Statements as well_typed
-use Rattle.psm_typing.specs.Statements.{StatementScope}
-use Rattle.psm_wellformed.specs.Files.{WellFormedFile, WellFormedRoutine, WellFormedTable, body, typing_context_of}
-use Rattle.psm_wellformed.specs.Statements as well_formed
-use Rattle.psm_wellformed.specs.Statements.{AreActions, AreWellFormed, IsWellFormed, Letters, MayHandle}
+use Rattle.psm_typing.specs.Statements.{AreHandlers, AreStatements, IsStatement, MayHandle, MayUndo, StatementScope}
+use Rattle.psm_typing.specs.Files.{body, typing_context_of}
+use Rattle.psm_wellformed.specs.Files.{WellFormedFile, WellFormedRoutine, WellFormedTable}
 use Rattle.psm_wellformed.proofs.Outside.{stands-outside}
 use Rattle.psm_wellformed.proofs.Standing.{AreBelow, Sees, cursors-fit, defaults-stand, simple-fits}
 use Rattle.psm_wellformed.proofs.Queries.{query-known}
+use Rattle.psm_cond.specs.declared.handlers.HandlerKind.{HandlerKind}
+use Rattle.psm_code.specs.RoutineRules.{is_undo}
+use Rattle.psm_cond.specs.declared.handlers.HandlerKind.TheVariants as kinds
 
 -- ---- levels
 
@@ -95,48 +93,50 @@ in-for s t level x see = record { blocks = see.blocks; labels = among-more level
 new-level : (s : StatementScope) (t : fit.BlockScope) (level : ℕ) → s.bound ≤ level → Sees s t → IsNewLevel level t
 new-level s t level low see = not-among level t.blocks (below-more s.bound level t.blocks low see.blocks)
 
-has-some : {A : Type 0} (xs : List A) → is_some xs ≡ true → HasSome xs
-has-some [] h = absurd (false≢true h)
-has-some (x ∷ xs) h = tt
-
 -- ---- statements
 
-module _ (e : TypingContext) (known : Known) (letters : Letters) (is : known ≡ known_of e.file e.routine) where
+has-undo : (atomic : Bool) (kind : HandlerKind) → MayUndo atomic kind → not (is_undo kind) || atomic ≡ true
+has-undo atomic kinds.Continue h = refl
+has-undo atomic kinds.Exit h = refl
+has-undo atomic kinds.Undo h = h
+
+values-some : {A : Type 0} (xs : List A) → HasSome xs → fit.HasSome xs
+values-some [] h = absurd h
+values-some (x ∷ xs) h = tt
+
+module _ (e : TypingContext) where
   layered : (t : fit.BlockScope) (x : ResolvedStatement) (layer : fit.Layer) → out-ResolvedStatement x ≡ layer → LayerFits e.file e.routine t layer → Fits e.file e.routine t x
   layered t x layer h f = fit.fits (subst (LayerFits e.file e.routine t) (sym h) f)
 
   mutual
-    pub statement-fits : (s : StatementScope) (t : fit.BlockScope) → Sees s t → (x : ResolvedStatement) → IsWellFormed e known letters s x → Fits e.file e.routine t x
-    statement-fits s t see x (well_formed.simple y h well_typed p) = layered t x _ h (fit.simple (simple-fits e known s t is see letters y well_typed p))
-    statement-fits s t see x (well_formed.compound level block h low xs ps cursors qs apart may actions all) = layered t x _ h (fit.compound (new-level s t level low see)
-        (defaults-stand e (out-ResolvedBlock block).declarations xs)
-        (cursors-fit e (out-ResolvedBlock block).cursors cursors)
+    pub statement-fits : (s : StatementScope) (t : fit.BlockScope) → Sees s t → (x : ResolvedStatement) → IsStatement e s x → Fits e.file e.routine t x
+    statement-fits s t see x (well_typed.simple y h p) = layered t x _ h (fit.simple (simple-fits e s t see y p))
+    statement-fits s t see x (well_typed.compound level block h low xs cursors apart may actions all) = layered t x _ h (fit.compound (new-level s t level low see)
+        (defaults-stand e (out-ResolvedBlock block).declarations xs) (cursors-fit e (out-ResolvedBlock block).cursors cursors)
         (handlers-fit level ((out-ResolvedBlock block).cursors ++ s.cursors) (in_action (out-ResolvedBlock block).cursors t) (out-ResolvedBlock block).atomic (in-action s t level (out-ResolvedBlock block).cursors low see) (out-ResolvedBlock block).handlers may actions)
         (all-fit _ _ (in-block s t level (out-ResolvedBlock block).cursors low see) (out-ResolvedBlock block).statements all))
-    statement-fits s t see x (well_formed.loop level xs h all) = layered t x _ h (fit.loop (all-fit _ _ (in-loop s t level see) xs all))
-    statement-fits s t see x (well_formed.while level test xs h p all) = layered t x _ h (fit.while (stands-outside p) (all-fit _ _ (in-loop s t level see) xs all))
-    statement-fits s t see x (well_formed.repeat level xs until h all p) = layered t x _ h (fit.repeat (all-fit _ _ (in-loop s t level see) xs all) (stands-outside p))
-    statement-fits s t see x (well_formed.for_each level head xs h low cursor q items slots all) =
+    statement-fits s t see x (well_typed.loop level xs h all) = layered t x _ h (fit.loop (all-fit _ _ (in-loop s t level see) xs all))
+    statement-fits s t see x (well_typed.while level test xs h p all) = layered t x _ h (fit.while (stands-outside p) (all-fit _ _ (in-loop s t level see) xs all))
+    statement-fits s t see x (well_typed.repeat level xs until h all p) = layered t x _ h (fit.repeat (all-fit _ _ (in-loop s t level see) xs all) (stands-outside p))
+    statement-fits s t see x (well_typed.for_each level head xs h low cursor items all) =
         layered t x _ h (fit.for_ (new-level s t level low see) (query-known e head.cursor.query cursor.letters cursor.query).is (all-fit _ _ (in-for s t level head.cursor see) xs all))
-    statement-fits s t see x (well_formed.if branches otherwise h bs all) = layered t x _ h (fit.if_ (branches-fit s t see branches bs) (all-fit s t see otherwise all))
-    statement-fits s t see x (well_formed.searched branches otherwise h bs all) = layered t x _ h (fit.case outside.nothing (branches-fit s t see branches bs) (all-fit s t see otherwise all))
-    statement-fits s t see x (well_formed.compared operand branches otherwise h v p bs all) =
-        layered t x _ h (fit.case (outside.just (stands-outside p)) (branches-fit s t see branches bs) (all-fit s t see otherwise all))
+    statement-fits s t see x (well_typed.if branches otherwise h bs all) = layered t x _ h (fit.if_ (branches-fit s t see branches bs) (all-fit s t see otherwise all))
+    statement-fits s t see x (well_typed.searched branches otherwise h bs all) = layered t x _ h (fit.case outside.nothing (branches-fit s t see branches bs) (all-fit s t see otherwise all))
+    statement-fits s t see x (well_typed.compared operand branches otherwise h v p bs all) = layered t x _ h (fit.case (outside.just (stands-outside p)) (branches-fit s t see branches bs) (all-fit s t see otherwise all))
 
-    all-fit : (s : StatementScope) (t : fit.BlockScope) → Sees s t → (xs : List ResolvedStatement) → AreWellFormed e known letters s xs → AllFit e.file e.routine t xs
-    all-fit s t see [] well_formed.none = fit.none
-    all-fit s t see (x ∷ xs) (well_formed.more p ps) = fit.more (statement-fits s t see x p) (all-fit s t see xs ps)
+    all-fit : (s : StatementScope) (t : fit.BlockScope) → Sees s t → (xs : List ResolvedStatement) → AreStatements e s xs → AllFit e.file e.routine t xs
+    all-fit s t see [] well_typed.none = fit.none
+    all-fit s t see (x ∷ xs) (well_typed.more p ps) = fit.more (statement-fits s t see x p) (all-fit s t see xs ps)
 
-    branches-fit : (s : StatementScope) (t : fit.BlockScope) → Sees s t → (bs : List ResolvedBranch) {k : Letter} → well_formed.AreBranches e known letters s bs k → BranchesFit e.file e.routine t bs
-    branches-fit s t see [] well_formed.no_branch = fit.no_branch
-    branches-fit s t see (b ∷ bs) (well_formed.and_branch p all ps) =
-        fit.branch (stands-outside p) (all-fit s t see (out-ResolvedBranch b).statements all) (branches-fit s t see bs ps)
+    branches-fit : (s : StatementScope) (t : fit.BlockScope) → Sees s t → (bs : List ResolvedBranch) {k : Letter} → well_typed.AreBranches e s bs k → BranchesFit e.file e.routine t bs
+    branches-fit s t see [] well_typed.no_branch = fit.no_branch
+    branches-fit s t see (b ∷ bs) (well_typed.and_branch p all ps) = fit.branch (stands-outside p) (all-fit s t see (out-ResolvedBranch b).statements all) (branches-fit s t see bs ps)
 
-    handlers-fit : (level : ℕ) (cursors : List ResolvedCursor) (t : fit.BlockScope) (atomic : Bool) → Sees (well_typed.in_action level cursors) t → (hs : List ResolvedHandler) → Each (MayHandle e atomic) hs → AreActions e known letters level cursors hs
+    handlers-fit : (level : ℕ) (cursors : List ResolvedCursor) (t : fit.BlockScope) (atomic : Bool) → Sees (well_typed.in_action level cursors) t → (hs : List ResolvedHandler) → Each (MayHandle e atomic) hs → AreHandlers e level cursors hs
         → HandlersFit e.file e.routine t atomic hs
-    handlers-fit level cursors t atomic see [] may well_formed.no_handler = fit.no_handler
-    handlers-fit level cursors t atomic see (h ∷ hs) may (well_formed.and_handler p ps) =
-        fit.handler (has-some (out-ResolvedHandler h).values may.0.some) may.0.undo (statement-fits (well_typed.in_action level cursors) t see (out-ResolvedHandler h).action p) (handlers-fit level cursors t atomic see hs may.1 ps)
+    handlers-fit level cursors t atomic see [] may well_typed.no_handler = fit.no_handler
+    handlers-fit level cursors t atomic see (h ∷ hs) may (well_typed.and_handler p ps) =
+        fit.handler (values-some (out-ResolvedHandler h).values may.0.some) (has-undo atomic (out-ResolvedHandler h).kind may.0.undo) (statement-fits (well_typed.in_action level cursors) t see (out-ResolvedHandler h).action p) (handlers-fit level cursors t atomic see hs may.1 ps)
 
 -- ---- routines and files
 
@@ -156,11 +156,11 @@ nothing-seen : Sees body fit.outermost
 nothing-seen = record { blocks = tt; labels = λ n a. absurd a; loops = λ n a. absurd a; cursors = refl }
 
 routine-fits : (file : ResolvedFile) (r : ResolvedRoutine) → WellFormedRoutine file r → RoutineFits file r
-routine-fits file r p = let rest = rest-of r.parameters r.slots p.begin in record {
+routine-fits file r p = let rest = rest-of r.parameters r.slots p.typed.parameters in record {
   variables = rest.variables;
   slots = rest.are;
   cursors = p.cursors;
-  body = statement-fits (typing_context_of file r p.shapes) (known_of file r) p.letters refl body fit.outermost nothing-seen r.body p.well_formed;
+  body = statement-fits (typing_context_of file r p.typed.shapes) body fit.outermost nothing-seen r.body p.typed.body_typed;
 }
 
 routines-fit : (file : ResolvedFile) (rs : List ResolvedRoutine) → Each (WellFormedRoutine file) rs → RoutinesFit file rs

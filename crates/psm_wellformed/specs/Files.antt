@@ -1,5 +1,5 @@
 -- Module files as they are checked (ISO/IEC 9075-4:1996, module definitions, and 9075:1992, 11.3 and 11.8): tables and routines of which
--- no two are of one name where that is forbidden, with columns, keys and parameters that may be theirs, and well-formed bodies.
+-- no two are of one name where that is forbidden, with columns, keys and parameters that may be theirs, and well-typed bodies.
 use Rattle.std.specs.List.{list_all}
 use Rattle.std.specs.Prelude.{◌≡◌, ◌≤◌, ◌&&◌, ◌||◌, ℕ, Bool, true, false, not, List, [], ◌∷◌, ◌++◌, length, map, nat_eq, slice_get, None, Option, Some}
 use Rattle.psm_exprcode.specs.WellFormed.{is_type}
@@ -14,11 +14,10 @@ use Rattle.psm_code.specs.TableRules.{are_in_turn, column_fault, key_fault, pair
 use Rattle.psm_code.specs.declared.rule.CodeRule.{CodeRule}
 use Rattle.psm_simulation.specs.Simulation.{parameter_of}
 use Rattle.psm_exprgen.specs.Queries.{column_letters, is_test}
-use Rattle.psm_codegen.specs.Files.{gives_back, is_function, known_of}
+use Rattle.psm_codegen.specs.Files.{gives_back, is_function}
 use Rattle.psm_codegen.specs.Standing.{CountsUp, cursors_of}
-use Rattle.psm_typing.specs.TypingContext.{Begin, Each, TypingContext, Shape}
-use Rattle.psm_typing.specs.Statements.{StatementScope}
-use Rattle.psm_wellformed.specs.Statements.{IsWellFormed, Letters}
+use Rattle.psm_typing.specs.TypingContext.{Each}
+use Rattle.psm_typing.specs.Files.{IsRoutine}
 
 -- ---- names
 
@@ -72,25 +71,13 @@ AreApart before (r ∷ rs) = (list_all (is_apart_from r) before ≡ true) × Are
 abbrev pub is_passed : Bool → ResolvedParameter → Bool
 is_passed of_function p = not (of_function && gives_back p.mode)
 
--- the body of a routine sees no cursor, and nothing can be left
-abbrev pub body : StatementScope
-body = record { cursors = []; bound = 0; leaves = []; iterates = [] }
-
-abbrev pub typing_context_of : ResolvedFile → ResolvedRoutine → List Shape → TypingContext
-typing_context_of file routine shapes = record { file = file; routine = routine; shapes = shapes }
-
 pub record WellFormedRoutine (file : ResolvedFile) (routine : ResolvedRoutine) : Type 0 where
   pub names : are_new_names [] (map (λ p. p.name) routine.parameters) ≡ true
   pub modes : list_all (is_passed (is_function routine)) routine.parameters ≡ true
-  pub begin : Begin routine.parameters routine.slots
   pub types : list_all is_type routine.slots ≡ true
   pub returns : where_there routine.returns is_type ≡ true
-  pub shapes : List Shape
-  pub shaped : length shapes ≡ routine.cursors
-  pub letters : Letters
-  pub lettered : length letters ≡ routine.cursors
   pub cursors : CountsUp 0 (cursors_of routine.body) routine.cursors
-  pub well_formed : IsWellFormed (typing_context_of file routine shapes) (known_of file routine) letters body routine.body
+  pub typed : IsRoutine file routine
 
 -- ---- files
 
