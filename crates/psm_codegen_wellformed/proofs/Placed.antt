@@ -107,9 +107,9 @@ simple-lawful e letters (simple.call a) t k = lawful-none
 simple-lawful e letters (simple.return x) t k = lawful-none
 simple-lawful e letters simple.leave t k = lawful-none
 simple-lawful e letters simple.iterate t k = lawful-none
-simple-lawful e letters {r = r} (simple.signal {s = s} {p = p} m) t k = condition-lawful r s.condition p t.1.0 k.declared
+simple-lawful e letters {r = r} (simple.signal {s = s} {p = p} m) t k = condition-lawful r s.condition p t.1 k.declared
 simple-lawful e letters simple.resignal t k = lawful-none
-simple-lawful e letters {r = r} (simple.resignal_condition {s = s} {p = p} m) t k = condition-lawful r s.condition p t.1.0 k.declared
+simple-lawful e letters {r = r} (simple.resignal_condition {s = s} {p = p} m) t k = condition-lawful r s.condition p t.1 k.declared
 simple-lawful e letters simple.diagnostics_of_statement t k = lawful-none
 simple-lawful e letters simple.diagnostics_of_condition t k = lawful-none
 simple-lawful e letters (simple.select_into m) t k = lawful-none
