@@ -1,6 +1,6 @@
 -- The queries, cursors and plans that a simple statement adds to its routine are well-formed.
 use Rattle.std.specs.Prelude.{slice_get}
-use Rattle.std.proofs.Common.{◌≡◌, ◌++◌, ℕ, Bool, true, false, List, [], ◌∷◌, Option, Some, None, length, nat_eq, if◌then◌else◌, refl, sym, subst}
+use Rattle.std.proofs.Common.{◌≡◌, ◌++◌, ℕ, Bool, true, false, List, [], ◌∷◌, Option, Some, None, length, nat_eq, if◌then◌else◌, refl, sym, subst, map}
 use Rattle.psm_cond.specs.declared.item.ConditionItem.{ConditionItem}
 use Rattle.psm_cond.specs.declared.item.DiagnosticsArea.{DiagnosticsArea}
 use Rattle.psm_cond.specs.declared.item.StatementItem.{StatementItem}
@@ -38,14 +38,15 @@ use Rattle.psm_codegen.specs.Simples.{CallArguments, Declares, Default, Deletes,
 use Rattle.psm_codegen.specs.Simples as written
 use Rattle.psm_codegen.proofs.Growing.{Grown}
 use Rattle.psm_codegen.proofs.There.{there_at}
-use Rattle.psm_wellformed.specs.Simples.{AreSets, WellFormedSimple, WellFormedWhere, RowOf}
-use Rattle.psm_typing.specs.TypingContext.{Each, TypingContext}
-use Rattle.psm_typing.specs.Statements.{AreArguments, IsDeclaration, IsDefault, IsMessage, IsSimple, StatementScope}
+use Rattle.psm_typing.specs.TypingContext.{Each, TypingContext, columns_of}
+use Rattle.psm_typing.specs.Expressions.{AreExprs}
+use Rattle.psm_typing.specs.Statements.{AreArguments, IsDeclaration, IsDefault, IsMessage, IsSimple, IsWhere, StatementScope}
 use Rattle.psm_typing.proofs.Answers.{each-append}
 use Rattle.psm_codegen_wellformed.proofs.Asked.{Clear, arguments-clear, asked-clear, writes-clear}
 use Rattle.psm_codegen_wellformed.proofs.Faultless.{Faultless}
-use Rattle.psm_codegen_wellformed.proofs.PlansWellFormed.{IsHere, delete-faultless, delete_all-faultless, delete_at-faultless, insert-faultless, insert_query-faultless, update-faultless, update_at-faultless}
+use Rattle.psm_codegen_wellformed.proofs.PlansWellFormed.{AreNamed, IsHere, delete-faultless, delete_all-faultless, delete_at-faultless, insert-faultless, insert_query-faultless, update-faultless, update_at-faultless}
 use Rattle.psm_codegen_wellformed.proofs.QueriesWellFormed.{Holds}
+use Rattle.psm_codegen_wellformed.proofs.RulesHold.{all-there, changes-there, column_list-holds, letters-known}
 use Rattle.psm_codegen_wellformed.proofs.TypedOperands.{exprs-well_typed}
 
 -- ---- lines that leave the queries as they are
@@ -137,7 +138,7 @@ module _ {e : TypingContext} {known : Known} {code : RawCode} {r : RawRoutine} (
     signals-clear written.no_message t c = c
     signals-clear (written.message a) t c = writes-clear holds a (true, T, t) c
 
-    rows-clear : (ks : List Letter) {letters : List Letter} {rows : List (List ResolvedExpr)} {w v : Written} → WritesRows known context resume letters rows w v → Each (RowOf e ks) rows → Clear code r w → Clear code r v
+    rows-clear : (ks : List Letter) {letters : List Letter} {rows : List (List ResolvedExpr)} {w v : Written} → WritesRows known context resume letters rows w v → Each (λ xs. AreExprs e true xs ks) rows → Clear code r w → Clear code r v
     rows-clear ks written.no_row p c = c
     rows-clear ks (written.row a rest) p c = rows-clear ks rest p.1 (arguments-clear holds a (exprs-well_typed p.0) c)
 
@@ -147,12 +148,12 @@ module _ {e : TypingContext} {known : Known} {code : RawCode} {r : RawRoutine} (
   no-test table = record { is = λ h. tt; fits = tt }
 
   updates-faultless : (s : StatementScope) (table : ℕ) (t : ResolvedTable) (sets : List ResolvedSet) (x : ResolvedWhere) (plan : Plan) → slice_get e.file.tables table ≡ Some t → Each (IsHere known r) s.cursors → Updates known table sets x plan
-      → AreSets e known table sets → WellFormedWhere known s table x → Faultless (plan_faults code r plan)
+      → AreNamed t (map (λ y. y.column) sets) → IsWhere e s table t x → Faultless (plan_faults code r plan)
   updates-faultless s table t sets x plan at each (written.update_all {coded = coded} m) a p = update-faultless holds table t at sets coded None None m a (no-test table)
   updates-faultless s table t sets x plan at each (written.update_where {e = y} {coded = coded} {test = test} m k) a p = update-faultless holds table t at sets coded (Some y) test m a k
   updates-faultless s table t sets x plan at each (written.update_current {cursor = cursor} {coded = coded} m) a p = update_at-faultless holds s table cursor t sets coded at each p m a
 
-  deletes-faultless : (s : StatementScope) (table : ℕ) (t : ResolvedTable) (x : ResolvedWhere) (plan : Plan) → slice_get e.file.tables table ≡ Some t → Each (IsHere known r) s.cursors → Deletes known table x plan → WellFormedWhere known s table x
+  deletes-faultless : (s : StatementScope) (table : ℕ) (t : ResolvedTable) (x : ResolvedWhere) (plan : Plan) → slice_get e.file.tables table ≡ Some t → Each (IsHere known r) s.cursors → Deletes known table x plan → IsWhere e s table t x
       → Faultless (plan_faults code r plan)
   deletes-faultless s table t x plan at each written.delete_all p = delete_all-faultless holds table t at
   deletes-faultless s table t x plan at each (written.delete_where {e = y} {test = test} k) p = delete-faultless holds table t at (Some y) test k
@@ -163,38 +164,43 @@ module _ {e : TypingContext} {known : Known} {code : RawCode} {r : RawRoutine} (
 
   -- ---- simple statements
 
-  pub simple-fine : (letters : List (List Letter)) (s : StatementScope) → Each (IsHere known r) s.cursors → {context resume : ℕ} {enclosing : List EnclosingBlock} {x : ResolvedSimple} {p q : FunctionBuilder} → WritesSimple known context resume enclosing x p q
-      → IsSimple e s x → WellFormedSimple e known letters s x → Inside q r → Fine code r p → Fine code r q
-  simple-fine letters s each (written.set a) t y k f = (writes-clear holds a (_, _, t.source) f.0, f.1, f.2)
-  simple-fine letters s each {context = context} {resume = resume} (written.call {procedure = procedure} {args = args} {p = p} {w = w} a) t y k f =
+  pub simple-fine : (s : StatementScope) → Each (IsHere known r) s.cursors → {context resume : ℕ} {enclosing : List EnclosingBlock} {x : ResolvedSimple} {p q : FunctionBuilder} → WritesSimple known context resume enclosing x p q
+      → IsSimple e s x → Inside q r → Fine code r p → Fine code r q
+  simple-fine s each (written.set a) t k f = (writes-clear holds a (_, _, t.source) f.0, f.1, f.2)
+  simple-fine s each {context = context} {resume = resume} (written.call {procedure = procedure} {args = args} {p = p} {w = w} a) t k f =
       let n = procedure_number known procedure in
       let after = puts context resume (instruction.Call n) (more_operands p w) (letters_at known.gives n) w in
       (clear-as code r w (queries-stored context resume (λ slot. instruction.Store slot) (slots_given args) after) (call-clear t.0.parameters a t.2 f.0), f.1, f.2)
-  simple-fine letters s each (written.return a) t y k f = (writes-clear holds a (_, _, t.2) f.0, f.1, f.2)
-  simple-fine letters s each {context = context} {enclosing = enclosing} (written.leave {level = level} {p = p}) t y k f = (clear-as code r p.code (queries-leaves enclosing level context p.code) f.0, f.1, f.2)
-  simple-fine letters s each {context = context} {enclosing = enclosing} (written.iterate {level = level} {p = p}) t y k f = (clear-as code r p.code (queries-iterates enclosing level context p.code) f.0, f.1, f.2)
-  simple-fine letters s each (written.signal m) t y k f = (signals-clear m t.1 f.0, f.1, f.2)
-  simple-fine letters s each written.resignal t y k f = f
-  simple-fine letters s each (written.resignal_condition m) t y k f = (signals-clear m t.1 f.0, f.1, f.2)
-  simple-fine letters s each {context = context} {resume = resume} (written.diagnostics_of_statement {area = area} {is = is} {p = p}) t y k f = (clear-as code r p.code (queries-statement context resume area is p.code) f.0, f.1, f.2)
-  simple-fine letters s each {context = context} {resume = resume} (written.diagnostics_of_condition {area = area} {number = number} {is = is} {p = p}) t y k f =
+  simple-fine s each (written.return a) t k f = (writes-clear holds a (_, _, t.2) f.0, f.1, f.2)
+  simple-fine s each {context = context} {enclosing = enclosing} (written.leave {level = level} {p = p}) t k f = (clear-as code r p.code (queries-leaves enclosing level context p.code) f.0, f.1, f.2)
+  simple-fine s each {context = context} {enclosing = enclosing} (written.iterate {level = level} {p = p}) t k f = (clear-as code r p.code (queries-iterates enclosing level context p.code) f.0, f.1, f.2)
+  simple-fine s each (written.signal m) t k f = (signals-clear m t.1 f.0, f.1, f.2)
+  simple-fine s each written.resignal t k f = f
+  simple-fine s each (written.resignal_condition m) t k f = (signals-clear m t.1 f.0, f.1, f.2)
+  simple-fine s each {context = context} {resume = resume} (written.diagnostics_of_statement {area = area} {is = is} {p = p}) t k f = (clear-as code r p.code (queries-statement context resume area is p.code) f.0, f.1, f.2)
+  simple-fine s each {context = context} {resume = resume} (written.diagnostics_of_condition {area = area} {number = number} {is = is} {p = p}) t k f =
       (clear-as code r p.code (queries-condition context resume area is (applied context resume (number_op number) 0 N p.code)) f.0, f.1, f.2)
-  simple-fine letters s each {context = context} {resume = resume} (written.select_into {query = query} {slots = slots} {p = p} {code = made} m) t y k f =
+  simple-fine s each {context = context} {resume = resume} (written.select_into {query = query} {slots = slots} {p = p} {code = made} m) t k f =
       let asked = with_query made (cleared context p) in
       let row = puts context resume (instruction.Row (length p.code.queries)) 0 (item_letters known query) asked in
       (clear-as code r asked (queries-stored context resume (λ slot. instruction.FetchStore slot) slots row) (asked-clear holds (cleared context p) f.0 m t.1), f.1, f.2)
-  simple-fine letters s each (written.insert {table = table} {columns = columns} {rows = rows} {p = p} w) t y k f =
-      (rows-clear _ w y.2 f.0, f.1, with-plan (plans.Insert table columns (length rows)) p.plans f.2 (insert-faultless holds table t.0 t.1 columns (length rows) y.1))
-  simple-fine letters s each {context = context} (written.insert_query {table = table} {columns = columns} {p = p} {code = made} m) t y k f =
-      let number = length p.code.queries in (
-        asked-clear holds (cleared context p) f.0 m t.2.1,
+  simple-fine s each (written.insert {table = table} {columns = columns} {rows = rows} {p = p} w) t k f =
+      let named : AreNamed t.0 columns = record { list = column_list-holds columns t.5; there = all-there t.0.definition.columns columns t.2 t.3 } in
+      (rows-clear _ w t.4 f.0, f.1, with-plan (plans.Insert table columns (length rows)) p.plans f.2 (insert-faultless holds table t.0 t.1 columns (length rows) named))
+  simple-fine s each {context = context} (written.insert_query {table = table} {columns = columns} {query = query} {p = p} {code = made} m) t k f =
+      let number = length p.code.queries in
+      let named : AreNamed t.0 columns = record { list = column_list-holds columns t.5; there = all-there t.0.definition.columns columns t.2 t.3 } in
+      let same = holds.items query t.2 t.4 ∙ sym (letters-known known table (columns_of t.0) (holds.columns table t.0 t.1) columns t.2 t.3) in (
+        asked-clear holds (cleared context p) f.0 m t.4,
         f.1,
-        with-plan (plans.InsertQuery table columns number) p.plans f.2 (insert_query-faultless holds table t.0 t.1 columns number y.1 m (there_at p.code.queries k.asked) y.2),
+        with-plan (plans.InsertQuery table columns number) p.plans f.2 (insert_query-faultless holds table t.0 t.1 columns number named m (there_at p.code.queries k.asked) same),
       )
-  simple-fine letters s each (written.update {table = table} {sets = sets} {rows = x} {p = p} {plan = plan} u) t y k f = (f.0, f.1, with-plan plan p.plans f.2 (updates-faultless s table t.0 sets x plan t.1 each u y.1 y.2))
-  simple-fine letters s each (written.delete {table = table} {rows = x} {p = p} {plan = plan} d) t y k f = (f.0, f.1, with-plan plan p.plans f.2 (deletes-faultless s table t.0 x plan t.1 each d y.1))
-  simple-fine letters s each written.open_ t y k f = f
-  simple-fine letters s each {context = context} {resume = resume} (written.fetch_ {cursor = cursor} {slots = slots} {p = p}) t y k f =
+  simple-fine s each (written.update {table = table} {sets = sets} {rows = x} {p = p} {plan = plan} u) t k f =
+      let named : AreNamed t.0 (map (λ y. y.column) sets) = record { list = column_list-holds (map (λ y. y.column) sets) t.4; there = changes-there e t.0 sets t.2 } in
+      (f.0, f.1, with-plan plan p.plans f.2 (updates-faultless s table t.0 sets x plan t.1 each u named t.3))
+  simple-fine s each (written.delete {table = table} {rows = x} {p = p} {plan = plan} d) t k f = (f.0, f.1, with-plan plan p.plans f.2 (deletes-faultless s table t.0 x plan t.1 each d t.2))
+  simple-fine s each written.open_ t k f = f
+  simple-fine s each {context = context} {resume = resume} (written.fetch_ {cursor = cursor} {slots = slots} {p = p}) t k f =
       let row = puts context resume (instruction.Fetch cursor) 0 (letters_at p.letters cursor) (cleared context p) in
       (clear-as code r p.code (queries-stored context resume (λ slot. instruction.FetchStore slot) slots row) f.0, f.1, f.2)
-  simple-fine letters s each written.close_ t y k f = f
+  simple-fine s each written.close_ t k f = f

@@ -1,4 +1,4 @@
--- The queries, cursors and plans that a well-typed, well-formed statement adds to its routine are well-formed.
+-- The queries, cursors and plans that a well-typed statement adds to its routine are well-formed.
 use Rattle.std.proofs.Common.{◌≡◌, ◌++◌, ℕ, suc, false, List, [], ◌∷◌, None, length, ap, sym, subst, ◌∙◌, arith}
 use Rattle.std.specs.Prelude.{slice_get}
 use Rattle.psm_exprcode.specs.declared.op.Letter.{Letter}
@@ -7,8 +7,7 @@ use Rattle.psm_resolved.specs.declared.statement.ResolvedBlock.{out-ResolvedBloc
 use Rattle.psm_resolved.specs.declared.statement.ResolvedBranch.{ResolvedBranch}
 use Rattle.psm_resolved.specs.declared.statement.ResolvedCursor.{ResolvedCursor}
 use Rattle.psm_resolved.specs.declared.statement.ResolvedHandler.{ResolvedHandler}
-use Rattle.psm_resolved.specs.declared.statement.ResolvedStatement.{ResolvedStatement, out-ResolvedStatement}
-use Rattle.psm_resolved.specs.declared.statement.ResolvedStatement.TheOpen as layers
+use Rattle.psm_resolved.specs.declared.statement.ResolvedStatement.{ResolvedStatement}
 use Rattle.psm_code.specs.declared.code.RawCode.{RawCode}
 use Rattle.psm_code.specs.declared.code.RawRoutine.{RawRoutine}
 use Rattle.psm_code.specs.declared.instruction.Instruction.TheVariants as instruction
@@ -20,55 +19,23 @@ use Rattle.psm_exprgen.specs.Written.{letters_at, puts}
 use Rattle.psm_exprgen.proofs.Growth.{begins-before, grows-writes}
 use Rattle.psm_codegen.specs.declared.enclosing.EnclosingBlock.{EnclosingBlock}
 use Rattle.psm_codegen.specs.FunctionBuilder.{FunctionBuilder, at, block_entered, next_context}
-use Rattle.psm_codegen.specs.Standing.{CountsUp, Layer, cursors_of, numbers_of}
+use Rattle.psm_codegen.specs.Standing.{CountsUp, cursors_of, numbers_of}
 use Rattle.psm_codegen.specs.Statements.{WritesBranches, WritesComparisons, WritesCursors, WritesElse, WritesHandlers, WritesStatement, WritesStatements, opened, passed, with_cursor}
 use Rattle.psm_codegen.specs.Statements as written
 use Rattle.psm_codegen.proofs.Growing.{grown-cursors, grown-passed, length-snoc, no_context}
 use Rattle.psm_codegen.proofs.GrowingAll.{grown-all, grown-branches, grown-comparisons, grown-else, grown-handlers}
 use Rattle.psm_codegen.proofs.Numbering.{block_cursors-out, branch_cursors-out, counted, counted-all, counted-branches, counted-comparisons, counted-cursors, counted-handlers, counts-split, cursors-out, cursors_in, cursors_in_branches, cursors_in_handlers, cursors_of_branch, cursors_of_handler, handler_cursors-out, passed-cursors}
 use Rattle.psm_codegen.proofs.There.{there_at}
-use Rattle.psm_wellformed.specs.Statements.{AreActions, AreBranches, AreWellFormed, IsWellFormed, Letters, WellFormedCursor}
-use Rattle.psm_wellformed.specs.Statements as of
 use Rattle.psm_typing.specs.TypingContext.{Each, TypingContext}
-use Rattle.psm_typing.specs.Statements.{IsCursor, StatementScope}
+use Rattle.psm_typing.specs.Statements.{AreBranches, AreHandlers, AreStatements, IsCursor, IsStatement, StatementScope}
 use Rattle.psm_typing.proofs.Answers.{each-append}
 use Rattle.psm_codegen_wellformed.proofs.Asked.{asked-clear, writes-clear}
 use Rattle.psm_codegen_wellformed.proofs.Adding.{Fine, Inside, clear-as, declares-clear, inside-earlier, queries-stored, simple-fine}
 use Rattle.psm_codegen_wellformed.proofs.PlansWellFormed.{IsHere}
 use Rattle.psm_codegen_wellformed.proofs.WellFormedForms.{of_branch, of_compared, of_compound, of_for, of_handler, of_if, of_loop, of_more, of_repeat, of_searched, of_simple, of_while, parted}
 use Rattle.psm_codegen_wellformed.proofs.QueriesWellFormed.{Holds, cursor-faultless}
+use Rattle.psm_codegen_wellformed.proofs.RulesHold.{rows-hold}
 use Rattle.psm_codegen_wellformed.proofs.Walking.{counts-as}
-
--- ---- cursors that a statement declares
-
-abbrev declared_cursors : Layer → List ResolvedCursor
-declared_cursors (layers.Compound level block) = (out-ResolvedBlock block).cursors
-declared_cursors (layers.Loop level xs) = []
-declared_cursors (layers.While level test xs) = []
-declared_cursors (layers.Repeat level xs until) = []
-declared_cursors (layers.For level head xs) = head.cursor ∷ []
-declared_cursors (layers.If branches otherwise) = []
-declared_cursors (layers.Case operand branches otherwise) = []
-declared_cursors (layers.Simple y) = []
-
--- they are well-typed
-abbrev Declared : TypingContext → Layer → Type 0
-Declared e layer = Each (IsCursor e) (declared_cursors layer)
-
-module _ {e : TypingContext} {known : Known} {letters : Letters} {s : StatementScope} where
-  declared : {x : ResolvedStatement} → IsWellFormed e known letters s x → Declared e (out-ResolvedStatement x)
-  declared (of.simple y n t o) = subst (Declared e) (sym n) tt
-  declared (of.compound level block n bound declarations well_formed cursors right apart may actions statements) = subst (Declared e) (sym n) cursors
-  declared (of.loop level xs n all) = subst (Declared e) (sym n) tt
-  declared (of.while level test xs n t all) = subst (Declared e) (sym n) tt
-  declared (of.repeat level xs until n all t) = subst (Declared e) (sym n) tt
-  declared (of.for_each level head xs n bound is cursor items slots all) = subst (Declared e) (sym n) (is, tt)
-  declared (of.if bs ss n branches all) = subst (Declared e) (sym n) tt
-  declared (of.searched bs ss n branches all) = subst (Declared e) (sym n) tt
-  declared (of.compared operand bs ss n value t branches all) = subst (Declared e) (sym n) tt
-
-  declared-in : {x : ResolvedStatement} {layer : Layer} → IsWellFormed e known letters s x → out-ResolvedStatement x ≡ layer → Declared e layer
-  declared-in p n = subst (Declared e) n (declared p)
 
 -- ---- cursors by their numbers
 
@@ -84,22 +51,22 @@ cursors-here {known} {r} to (written.cursor {x = x} {xs = xs} {p = p} made m oth
       cursors-here to others i (subst (λ k. CountsUp k (numbers_of xs) to) (sym longer) n.1),
     )
 
-module _ {e : TypingContext} {known : Known} {code : RawCode} {r : RawRoutine} (holds : Holds e known code r) (letters : Letters) where
+module _ {e : TypingContext} {known : Known} {code : RawCode} {r : RawRoutine} (holds : Holds e known code r) where
   -- they are over queries that have rows
-  cursors-fine : {xs : List ResolvedCursor} {p q : FunctionBuilder} → WritesCursors known xs p q → Each (IsCursor e) xs → Each (WellFormedCursor known letters) xs → Inside q r → Fine code r p → Fine code r q
-  cursors-fine written.no_cursor is well_formed i f = f
-  cursors-fine (written.cursor {x = x} {p = p} made m others) is well_formed i f =
+  cursors-fine : {xs : List ResolvedCursor} {p q : FunctionBuilder} → WritesCursors known xs p q → Each (IsCursor e) xs → Inside q r → Fine code r p → Fine code r q
+  cursors-fine written.no_cursor is i f = f
+  cursors-fine (written.cursor {x = x} {p = p} made m others) is i f =
       let c = cursor_of x (length p.code.queries) in
       let here : Inside (with_cursor known x made p) r = inside-earlier {but = no_context} (grown-cursors others) i in
-      let mine : cursor_fault r c ≡ None = cursor-faultless holds c m well_formed.0.rows (there_at p.code.queries here.asked) in
-      cursors-fine others is.1 well_formed.1 i (asked-clear holds p.code f.0 m is.0.query, each-append (λ y. cursor_fault r y ≡ None) p.cursors (c ∷ []) f.1 (mine, tt), f.2)
+      let mine : cursor_fault r c ≡ None = cursor-faultless holds c m (rows-hold x.query is.0.rows) (there_at p.code.queries here.asked) in
+      cursors-fine others is.1 i (asked-clear holds p.code f.0 m is.0.query, each-append (λ y. cursor_fault r y ≡ None) p.cursors (c ∷ []) f.1 (mine, tt), f.2)
 
   passed-fine : (context start : ℕ) (hs : List ResolvedHandler) (p : FunctionBuilder) → Fine code r p → Fine code r (passed context start hs p)
   passed-fine context start [] p f = f
   passed-fine context start (h ∷ hs) p f = f
 
   mutual
-    pub statement-fine : {s : StatementScope} {context : ℕ} {enclosing : List EnclosingBlock} {x : ResolvedStatement} {p q : FunctionBuilder} → Each (IsHere known r) s.cursors → WritesStatement known context enclosing x p q → IsWellFormed e known letters s x
+    pub statement-fine : {s : StatementScope} {context : ℕ} {enclosing : List EnclosingBlock} {x : ResolvedStatement} {p q : FunctionBuilder} → Each (IsHere known r) s.cursors → WritesStatement known context enclosing x p q → IsStatement e s x
         → Inside q r → CountsUp (length p.cursors) (cursors_of x) (length q.cursors) → Fine code r p → Fine code r q
     statement-fine {s = s} {context = context} {x = x} each (written.compound {p = p} {w = w} {a = a} {b = b} {c = c} level block n declarations cursors handlers statements) well_formed i count f =
         let o = out-ResolvedBlock block in
@@ -115,7 +82,7 @@ module _ {e : TypingContext} {known : Known} {code : RawCode} {r : RawRoutine} (
         let others = counts-split (length started.cursors) (cursors_in_handlers o.handlers) (cursors_in o.statements) (length c.cursors) mine.1 (length b.cursors) (counted-handlers handlers) in
         let own = cursors-here (length started.cursors) cursors i_a mine.0 in
         let seen = each-append (IsHere known r) o.cursors s.cursors own each in
-        let first = cursors-fine cursors (declared-in well_formed n) parts.cursors i_a (declares-clear holds declarations parts.declared f.0, f.1, f.2) in
+        let first = cursors-fine cursors parts.cursors i_a (declares-clear holds declarations parts.declared f.0, f.1, f.2) in
         let actions = handlers-fine seen handlers parts.actions i_b others.0 (passed-fine k (at b) o.handlers entered first) in
         all-fine seen statements parts.statements i others.1 actions
     statement-fine {x = x} each (written.loop {p = p} {c = c} level ss n all) well_formed i count f = all-fine each all (of_loop (parted well_formed n)) i (counts-as (length p.cursors) (length c.cursors) (cursors-out x n) count) f
@@ -151,11 +118,11 @@ module _ {e : TypingContext} {known : Known} {code : RawCode} {r : RawRoutine} (
         let i_a : Inside a r = record { asked = subst (λ qs. BeginsWith qs r.queries) same i_fetched.asked; declared = i_fetched.declared } in
         let split = counts-split (length p.cursors) (number ∷ []) (cursors_in ss) (length c.cursors) (counts-as (length p.cursors) (length c.cursors) (cursors-out x n) count) (length a.cursors) (counted-cursors cursors) in
         let own = cursors-here (length a.cursors) cursors i_a split.0 in
-        let first = cursors-fine cursors (declared-in well_formed n) (parts.cursor, tt) i_a f in
+        let first = cursors-fine cursors (parts.cursor, tt) i_a f in
         all-fine (own.0, each) all parts.statements i split.1 (clear-as code r a.code same first.0, first.1, first.2)
-    statement-fine {s = s} each (written.simple y n a) well_formed i count f = let parts = of_simple (parted well_formed n) in simple-fine holds letters s each a parts.0 parts.1 i f
+    statement-fine {s = s} each (written.simple y n a) well_formed i count f = simple-fine holds s each a (of_simple (parted well_formed n)) i f
 
-    pub all-fine : {s : StatementScope} {context : ℕ} {enclosing : List EnclosingBlock} {xs : List ResolvedStatement} {p q : FunctionBuilder} → Each (IsHere known r) s.cursors → WritesStatements known context enclosing xs p q → AreWellFormed e known letters s xs
+    pub all-fine : {s : StatementScope} {context : ℕ} {enclosing : List EnclosingBlock} {xs : List ResolvedStatement} {p q : FunctionBuilder} → Each (IsHere known r) s.cursors → WritesStatements known context enclosing xs p q → AreStatements e s xs
         → Inside q r → CountsUp (length p.cursors) (cursors_in xs) (length q.cursors) → Fine code r p → Fine code r q
     all-fine each written.none well_formed i count f = f
     all-fine each (written.more {s = x} {ss = xs} {p = p} {b = b} {c = c} a rest) well_formed i count f =
@@ -163,7 +130,7 @@ module _ {e : TypingContext} {known : Known} {code : RawCode} {r : RawRoutine} (
         let parts = of_more well_formed in
         all-fine each rest parts.1 i split.1 (statement-fine each a parts.0 (inside-earlier (grown-all rest) i) split.0 f)
 
-    branches-fine : {s : StatementScope} {context out : ℕ} {enclosing : List EnclosingBlock} {k : Letter} {bs : List ResolvedBranch} {p q : FunctionBuilder} → Each (IsHere known r) s.cursors → WritesBranches known context enclosing out bs p q → AreBranches e known letters s bs k
+    branches-fine : {s : StatementScope} {context out : ℕ} {enclosing : List EnclosingBlock} {k : Letter} {bs : List ResolvedBranch} {p q : FunctionBuilder} → Each (IsHere known r) s.cursors → WritesBranches known context enclosing out bs p q → AreBranches e s bs k
         → Inside q r → CountsUp (length p.cursors) (cursors_in_branches bs) (length q.cursors) → Fine code r p → Fine code r q
     branches-fine each written.no_branch well_formed i count f = f
     branches-fine {k = k} each (written.branch {x = x} {xs = xs} {p = p} {b = b} {c = c} t all bs) well_formed i count f =
@@ -174,7 +141,7 @@ module _ {e : TypingContext} {known : Known} {code : RawCode} {r : RawRoutine} (
         branches-fine each bs parts.2 i split.1 body
 
     comparisons-fine : {s : StatementScope} {context out : ℕ} {enclosing : List EnclosingBlock} {k : Letter} {bs : List ResolvedBranch} {p q : FunctionBuilder} → Each (IsHere known r) s.cursors → WritesComparisons known context enclosing out bs p q
-        → AreBranches e known letters s bs k → Inside q r → CountsUp (length p.cursors) (cursors_in_branches bs) (length q.cursors) → Fine code r p → Fine code r q
+        → AreBranches e s bs k → Inside q r → CountsUp (length p.cursors) (cursors_in_branches bs) (length q.cursors) → Fine code r p → Fine code r q
     comparisons-fine each written.no_comparison well_formed i count f = f
     comparisons-fine {k = k} each (written.comparison {x = x} {xs = xs} {p = p} {b = b} {c = c} t all bs) well_formed i count f =
         let split = counts-split (length p.cursors) (cursors_of_branch x) (cursors_in_branches xs) (length c.cursors) count (length b.cursors) (omega (arith, ap length (branch_cursors-out x), counted-all all)) in
@@ -183,12 +150,12 @@ module _ {e : TypingContext} {known : Known} {code : RawCode} {r : RawRoutine} (
         let body = all-fine each all parts.1 i_b (counts-as (length p.cursors) (length b.cursors) (branch_cursors-out x) split.0) (writes-clear holds t (false, k, parts.0) f.0, f.1, f.2) in
         comparisons-fine each bs parts.2 i split.1 body
 
-    else-fine : {s : StatementScope} {context : ℕ} {enclosing : List EnclosingBlock} {xs : List ResolvedStatement} {p q : FunctionBuilder} → Each (IsHere known r) s.cursors → WritesElse known context enclosing xs p q → AreWellFormed e known letters s xs
+    else-fine : {s : StatementScope} {context : ℕ} {enclosing : List EnclosingBlock} {xs : List ResolvedStatement} {p q : FunctionBuilder} → Each (IsHere known r) s.cursors → WritesElse known context enclosing xs p q → AreStatements e s xs
         → Inside q r → CountsUp (length p.cursors) (cursors_in xs) (length q.cursors) → Fine code r p → Fine code r q
     else-fine each written.no_else well_formed i count f = f
     else-fine each (written.else_all all) well_formed i count f = all-fine each all well_formed i count f
 
-    handlers-fine : {level context : ℕ} {cursors : List ResolvedCursor} {hs : List ResolvedHandler} {p q : FunctionBuilder} → Each (IsHere known r) cursors → WritesHandlers known context hs p q → AreActions e known letters level cursors hs
+    handlers-fine : {level context : ℕ} {cursors : List ResolvedCursor} {hs : List ResolvedHandler} {p q : FunctionBuilder} → Each (IsHere known r) cursors → WritesHandlers known context hs p q → AreHandlers e level cursors hs
         → Inside q r → CountsUp (length p.cursors) (cursors_in_handlers hs) (length q.cursors) → Fine code r p → Fine code r q
     handlers-fine each written.no_handler well_formed i count f = f
     handlers-fine each (written.handler {h = h} {hs = hs} {p = p} {b = b} {c = c} action others) well_formed i count f =

@@ -22,17 +22,17 @@ use Rattle.psm_codegen.proofs.Growing.{Grown, grown-code, grown-on, grown-plain,
 use Rattle.psm_codegen.proofs.GrowingAll.{grown-all, grown-branches, grown-comparisons, grown-else, grown-handlers, grown-statement}
 use Rattle.psm_codegen.proofs.Numbering.{block_cursors-out, branch_cursors-out, cursors-out, cursors_in, cursors_in_branches, cursors_in_handlers, cursors_of_branch, cursors_of_handler, handler_cursors-out}
 use Rattle.psm_typing.specs.TypingContext.{Each, TypingContext}
-use Rattle.psm_wellformed.specs.Statements.{Letters, MayHandle}
+use Rattle.psm_typing.specs.Statements.{MayHandle}
 use Rattle.psm_codegen_wellformed.proofs.HandlerRules.{BlockAt, NamesDeclared}
 use Rattle.psm_codegen_wellformed.proofs.HandlerValues.{AreNew}
 use Rattle.psm_codegen_wellformed.proofs.Lawful.{Lawful, counts, lawful-none, lawful-on}
-use Rattle.psm_codegen_wellformed.proofs.WellFormedInside.{WellFormedActions, WellFormedBranches, WellFormedList, WellFormedOne, action-of, branch-of, first-of, inside-of}
+use Rattle.psm_codegen_wellformed.proofs.WellFormedInside.{TypedActions, TypedBranches, TypedList, TypedOne, action-of, branch-of, first-of, inside-of}
 use Rattle.psm_codegen_wellformed.proofs.BlocksLawful.{action-lawful, compound-lawful, for-lawful}
 use Rattle.psm_codegen_wellformed.proofs.Placed.{AllBare, ContextPosition, place-following, place-first, place-part, simple-lawful, there-as, there-first, there-rest}
 
-module _ (e : TypingContext) (known : Known) (letters : Letters) (r : RawRoutine) (bare : AllBare r) (names : NamesDeclared e r) where
+module _ (e : TypingContext) (known : Known) (r : RawRoutine) (bare : AllBare r) (names : NamesDeclared e r) where
   mutual
-    pub statement-lawful : {context : ℕ} {enclosing : List EnclosingBlock} {s : ResolvedStatement} {p q : FunctionBuilder} → WritesStatement known context enclosing s p q → WellFormedOne e known letters s → are_there r.cursors (cursors_of s) ≡ true → ContextPosition r context p q
+    pub statement-lawful : {context : ℕ} {enclosing : List EnclosingBlock} {s : ResolvedStatement} {p q : FunctionBuilder} → WritesStatement known context enclosing s p q → TypedOne e s → are_there r.cursors (cursors_of s) ≡ true → ContextPosition r context p q
         → Lawful r (counts p) (counts q)
     statement-lawful {s = s} (written.compound {p = p} {w = w} {a = a} {b = b} {c = c} level block m declares cursors handlers statements) t h place =
         let o = out-ResolvedBlock block in
@@ -71,16 +71,16 @@ module _ (e : TypingContext) (known : Known) (letters : Letters) (r : RawRoutine
     statement-lawful {s = s} (written.for_ {p = p} {a = a} {c = c} level head ss m cursors all) t h place =
         let there = there-as r (cursors-out s m) h in
         for-lawful bare head p a c cursors (grown-all all) (there-first r (head.cursor.number ∷ []) (cursors_in ss) there) place (λ list. list-lawful all (inside-of t m) (there-rest r (head.cursor.number ∷ []) (cursors_in ss) there) list)
-    statement-lawful {s = s} (written.simple y m x) t h place = simple-lawful e letters x (inside-of t m) place.kept
+    statement-lawful {s = s} (written.simple y m x) t h place = simple-lawful e x (inside-of t m) place.kept
 
-    list-lawful : {context : ℕ} {enclosing : List EnclosingBlock} {ss : List ResolvedStatement} {p q : FunctionBuilder} → WritesStatements known context enclosing ss p q → WellFormedList e known letters ss → are_there r.cursors (cursors_in ss) ≡ true → ContextPosition r context p q
+    list-lawful : {context : ℕ} {enclosing : List EnclosingBlock} {ss : List ResolvedStatement} {p q : FunctionBuilder} → WritesStatements known context enclosing ss p q → TypedList e ss → are_there r.cursors (cursors_in ss) ≡ true → ContextPosition r context p q
         → Lawful r (counts p) (counts q)
     list-lawful written.none t h place = lawful-none
     list-lawful (written.more {s = s} {ss = ss} a rest) t h place =
         let both = first-of t in
         lawful-on (statement-lawful a both.0 (there-first r (cursors_of s) (cursors_in ss) h) (place-first (grown-all rest) place)) (list-lawful rest both.1 (there-rest r (cursors_of s) (cursors_in ss) h) (place-following (grown-statement a) place))
 
-    branches-lawful : {context out : ℕ} {enclosing : List EnclosingBlock} {bs : List ResolvedBranch} {p q : FunctionBuilder} → WritesBranches known context enclosing out bs p q → WellFormedBranches e known letters bs → are_there r.cursors (cursors_in_branches bs) ≡ true → ContextPosition r context p q
+    branches-lawful : {context out : ℕ} {enclosing : List EnclosingBlock} {bs : List ResolvedBranch} {p q : FunctionBuilder} → WritesBranches known context enclosing out bs p q → TypedBranches e bs → are_there r.cursors (cursors_in_branches bs) ≡ true → ContextPosition r context p q
         → Lawful r (counts p) (counts q)
     branches-lawful written.no_branch t h place = lawful-none
     branches-lawful {context} {out} (written.branch {x = x} {xs = xs} {p = p} {b = b} {w = w} a all rest) t h place =
@@ -90,7 +90,7 @@ module _ (e : TypingContext) (known : Known) (letters : Letters) (r : RawRoutine
         lawful-on (list-lawful all both.0 (there-as r (branch_cursors-out x) (there-first r (cursors_of_branch x) (cursors_in_branches xs) h)) (place-part tested (grown-on jump (grown-branches rest)) place))
         (branches-lawful rest both.1 (there-rest r (cursors_of_branch x) (cursors_in_branches xs) h) (place-following (grown-on tested (grown-on (grown-all all) jump)) place))
 
-    comparisons-lawful : {context out : ℕ} {enclosing : List EnclosingBlock} {bs : List ResolvedBranch} {p q : FunctionBuilder} → WritesComparisons known context enclosing out bs p q → WellFormedBranches e known letters bs → are_there r.cursors (cursors_in_branches bs) ≡ true
+    comparisons-lawful : {context out : ℕ} {enclosing : List EnclosingBlock} {bs : List ResolvedBranch} {p q : FunctionBuilder} → WritesComparisons known context enclosing out bs p q → TypedBranches e bs → are_there r.cursors (cursors_in_branches bs) ≡ true
         → ContextPosition r context p q → Lawful r (counts p) (counts q)
     comparisons-lawful written.no_comparison t h place = lawful-none
     comparisons-lawful {context} {out} (written.comparison {x = x} {xs = xs} {p = p} {b = b} {w = w} a all rest) t h place =
@@ -103,11 +103,11 @@ module _ (e : TypingContext) (known : Known) (letters : Letters) (r : RawRoutine
         lawful-on (list-lawful all both.0 (there-as r (branch_cursors-out x) (there-first r (cursors_of_branch x) (cursors_in_branches xs) h)) (place-part tested (grown-on left (grown-comparisons rest)) place))
         (comparisons-lawful rest both.1 (there-rest r (cursors_of_branch x) (cursors_in_branches xs) h) (place-following (grown-on tested (grown-on (grown-all all) left)) place))
 
-    else-lawful : {context : ℕ} {enclosing : List EnclosingBlock} {ss : List ResolvedStatement} {p q : FunctionBuilder} → WritesElse known context enclosing ss p q → WellFormedList e known letters ss → are_there r.cursors (cursors_in ss) ≡ true → ContextPosition r context p q → Lawful r (counts p) (counts q)
+    else-lawful : {context : ℕ} {enclosing : List EnclosingBlock} {ss : List ResolvedStatement} {p q : FunctionBuilder} → WritesElse known context enclosing ss p q → TypedList e ss → are_there r.cursors (cursors_in ss) ≡ true → ContextPosition r context p q → Lawful r (counts p) (counts q)
     else-lawful written.no_else t h place = lawful-none
     else-lawful (written.else_all all) t h place = list-lawful all t h place
 
-    handlers-lawful : {context : ℕ} {atomic : Bool} {hs : List ResolvedHandler} {p q : FunctionBuilder} → WritesHandlers known context hs p q → WellFormedActions e known letters hs → Each (MayHandle e atomic) hs → AreNew context p hs → BlockAt r context atomic
+    handlers-lawful : {context : ℕ} {atomic : Bool} {hs : List ResolvedHandler} {p q : FunctionBuilder} → WritesHandlers known context hs p q → TypedActions e hs → Each (MayHandle e atomic) hs → AreNew context p hs → BlockAt r context atomic
         → are_there r.cursors (cursors_in_handlers hs) ≡ true → ContextPosition r context p q → p.code.stack ≡ [] → Lawful r (counts p) (counts q)
     handlers-lawful written.no_handler t may new block h place q = lawful-none
     handlers-lawful {context} (written.handler {h = x} {hs = xs} {p = p} {b = b} {c = c} action rest) t may new block h place q =

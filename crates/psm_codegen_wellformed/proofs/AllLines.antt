@@ -20,7 +20,9 @@ use Rattle.psm_codegen.proofs.Growing.{length-snoc}
 use Rattle.psm_codegen.proofs.GrowingAll.{grown-statement}
 use Rattle.psm_codegen.proofs.There.{line_of}
 use Rattle.psm_typing.specs.TypingContext.{Each, TypingContext}
-use Rattle.psm_wellformed.specs.Files.{WellFormedFile, WellFormedRoutine, is_passed, typing_context_of}
+use Rattle.psm_typing.specs.Files.{typing_context_of}
+use Rattle.psm_wellformed.specs.Files.{WellFormedFile, WellFormedRoutine, is_passed}
+use Rattle.psm_wellformed.proofs.Queries.{columns_there}
 use Rattle.psm_codegen_wellformed.specs.Frame.{Follows, Free}
 use Rattle.psm_codegen_wellformed.specs.Kept.{FunctionTakes, QueriesKeep}
 use Rattle.psm_codegen_wellformed.proofs.Faultless.{each-at}
@@ -48,21 +50,22 @@ last-free (Some t) w first there b kind q = no_return-free first there w b kind 
 module _ (file : ResolvedFile) (code : RawCode) (routine : ResolvedRoutine) (r : RawRoutine) (made : FileWritten file code) (accepted : WellFormedFile file) (well_formed : WellFormedRoutine file routine) (w : RoutineWritten (known_of file routine) routine r)
     (queries : QueriesKeep (known_of file routine) code r) where
   abbrev typing_context : TypingContext
-  typing_context = typing_context_of file routine well_formed.shapes
+  typing_context = typing_context_of file routine well_formed.typed.shapes
 
   pub keeps-all : KeepsAll typing_context (known_of file routine) code r
   keeps-all =
-      let three = all-kept typing_context code r made w well_formed.begin (λ n q at. function-takes file q (each-at (WellFormedRoutine file) file.routines n q accepted.routines at)) queries in
+      let three = all-kept typing_context code r made w well_formed.typed.parameters (λ n q at. function-takes file q (each-at (WellFormedRoutine file) file.routines n q accepted.routines at)) queries in
       record {
         keeps = three.0;
         procedures = three.1;
         routine = three.2;
         tables = tables-kept typing_context code made.tables;
+        columns = columns_there typing_context;
         conditions = conditions-kept typing_context r (subst (BeginsWith (map (λ name. declares.Named name) routine.conditions)) (sym w.declared) (grown-statement w.body).declared);
       }
 
   body-good : Good code r 0 [] (no_parts routine) w.parts
-  body-good = statement-good keeps-all routine.cursors w.body well_formed.well_formed (record { named = record { leaves = refl; iterates = refl }; sees = record { even = refl; each = tt }; kept = parts-kept w; none = refl }) well_formed.cursors
+  body-good = statement-good keeps-all routine.cursors w.body well_formed.typed.body_typed (record { named = record { leaves = refl; iterates = refl }; sees = record { even = refl; each = tt }; kept = parts-kept w; none = refl }) well_formed.cursors
 
   pub routine-free : Free code r 0 (length r.lines)
   routine-free =

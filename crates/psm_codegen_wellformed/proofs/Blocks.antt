@@ -34,7 +34,6 @@ use Rattle.psm_typing.specs.TypingContext.{Each, TypingContext}
 use Rattle.psm_typing.specs.Statements.{IsDeclaration}
 use Rattle.psm_codegen_wellformed.specs.Frame.{Follows, Free}
 use Rattle.psm_codegen_wellformed.specs.Kept.{Keeps}
-use Rattle.psm_wellformed.specs.Statements.{WellFormedDeclaration}
 use Rattle.psm_codegen_wellformed.proofs.Declaring.{declares-stack, declares-starts}
 use Rattle.psm_codegen_wellformed.proofs.Frees.{free-as}
 use Rattle.psm_codegen_wellformed.proofs.Leavings.{EnclosingBlockWellFormed, enclosing-lower}
@@ -127,10 +126,10 @@ module _ {e : TypingContext} {known : Known} {code : RawCode} {r : RawRoutine} (
       → WritesHandlers known (next_context a) (out-ResolvedBlock block).handlers
       (passed (next_context a) (at b) (out-ResolvedBlock block).handlers (block_entered context (out-ResolvedBlock block).atomic (at c) (map (λ x. x.number) (out-ResolvedBlock block).cursors) a)) b
       → WritesStatements known (next_context a) (Block level (next_context a) context (at c) ∷ enclosing) (out-ResolvedBlock block).statements b c
-      → Each (IsDeclaration e) (out-ResolvedBlock block).declarations → Each WellFormedDeclaration (out-ResolvedBlock block).declarations
+      → Each (IsDeclaration e) (out-ResolvedBlock block).declarations
       → GoodActions code r (passed (next_context a) (at b) (out-ResolvedBlock block).handlers (block_entered context (out-ResolvedBlock block).atomic (at c) (map (λ x. x.number) (out-ResolvedBlock block).cursors) a)) b
       → Good code r (next_context a) (Block level (next_context a) context (at c) ∷ enclosing) b c → Good code r context enclosing p (with_plain (next_context a) (instruction.Exit (next_context a)) c)
-  compound-good {context} {enclosing} level block p a b c w q declares cursors handlers statements typed well_formed actions list =
+  compound-good {context} {enclosing} level block p a b c w q declares cursors handlers statements typed actions list =
       let inner = next_context a in
       let exit = instruction.Exit inner in
       let hs = (out-ResolvedBlock block).handlers in
@@ -163,7 +162,7 @@ module _ {e : TypingContext} {known : Known} {code : RawCode} {r : RawRoutine} (
             let entry = passed-entry {code = code} inner hs entered b handlers none begins_b (list.starts inside back) in
             let enclosing_list : EnclosingBlockWellFormed r (at c) inner (Block level inner context (at c) ∷ enclosing) = (refl, is, reaches-fall_through (omega arith) back, enclosing-lower r (at (with_plain inner exit c)) (at c) context enclosing (omega (arith, next)) enclosing_all) in
             let last_line : here w ≤ suc (at c) = omega (arith, same, enters, grows-after grown_p.code, grows-after grown_h.code, grows-after grown_b.code) in
-            free-join ((declares-well_formed keeps declares typed well_formed).free first there ends (begins_w k) last_line (enter_starts (before k)))
+            free-join ((declares-well_formed keeps declares typed).free first there ends (begins_w k) last_line (enter_starts (before k)))
             (free-join (free-as (enter-free first there inner a.code (before k).code.lines none is (follows-as entry.starts enters refl)) same (sym enters))
             (free-join (entry.free first is.known) (free-join (actions.free first begins_b) (free-join (list.free first is.known inside back enclosing_list)
             (free-as (exit-free first is.known inner context c.code k.code.lines list.stack refl is ends) refl (sym next))))));

@@ -22,20 +22,21 @@ use Rattle.psm_codegen.proofs.GrowthSimples.{grows-declares}
 use Rattle.psm_codegen.proofs.Placing.{kept-earlier}
 use Rattle.psm_codegen.proofs.There.{line_of, there_at}
 use Rattle.psm_typing.specs.TypingContext.{TypingContext}
-use Rattle.psm_wellformed.specs.Statements.{AreApart, MayHandle}
+use Rattle.psm_typing.specs.Statements.{HandleApart, MayHandle}
 use Rattle.psm_codegen_wellformed.specs.Frame.{Follows}
 use Rattle.psm_codegen_wellformed.proofs.FirstLines.{statement-starts}
 use Rattle.psm_codegen_wellformed.proofs.HandlerRules.{BlockAt, NamesDeclared, entered-block, entered-lawful, handler-lawful}
 use Rattle.psm_codegen_wellformed.proofs.HandlerValues.{AreNew, new-here, new-later, values-none, values_of_handlers}
 use Rattle.psm_codegen_wellformed.proofs.Lawful.{Lawful, counts, lawful-cursors, lawful-on, lawful-passed}
 use Rattle.psm_codegen_wellformed.proofs.Putting.{follows-as, line-starts}
+use Rattle.psm_codegen_wellformed.proofs.RulesHold.{new-holds, some-holds, undo-holds}
 use Rattle.psm_codegen_wellformed.proofs.Placed.{AllBare, ContextPosition, bare-stack, later-other, passed-stack, place-following, place-first, place-in, place-last, place-part}
 
 module _ {known : Known} {r : RawRoutine} (bare : AllBare r) where
   -- a compound statement, from what is said of its actions and of its statements
   pub compound-lawful : {context : ℕ} (block : ResolvedBlock) (p a b c : FunctionBuilder) (w : Written) → let o = out-ResolvedBlock block in let n = next_context a in let numbers = map (λ x. x.number) o.cursors in
       let begun = passed n (at b) o.handlers (block_entered context o.atomic (at c) numbers a) in
-      Declares known context (suc (at c)) o.declarations p.code w → WritesCursors known o.cursors (with_code w p) a → Grown (nat_eq n) begun b → Grown no_context b c → are_there r.cursors numbers ≡ true → AreApart o.handlers
+      Declares known context (suc (at c)) o.declarations p.code w → WritesCursors known o.cursors (with_code w p) a → Grown (nat_eq n) begun b → Grown no_context b c → are_there r.cursors numbers ≡ true → HandleApart o.handlers
       → ContextPosition r context p (with_plain n (instruction.Exit n) c) → (BlockAt r n o.atomic → AreNew n begun o.handlers → ContextPosition r n begun b → begun.code.stack ≡ [] → Lawful r (counts begun) (counts b)) → (ContextPosition r n b c → Lawful r (counts b) (counts c))
       → Lawful r (counts p) (counts c)
   compound-lawful {context} block p a b c w declares cursors inner list named apart place handlers statements =
@@ -56,7 +57,7 @@ module _ {known : Known} {r : RawRoutine} (bare : AllBare r) where
       let empty : a.code.stack ≡ [] = bare-stack r bare context (instruction.Enter n) a.code refl kept.code.lines in
       let outside : ContextPosition r context a (with_plain n (instruction.Exit n) c) = place-following before place in
       let none : own_in n begun.handlers ≡ [] = pass.own n refl (inl (omega (arith, next-entered context o.atomic (at c) numbers a))) ∙ outside.low n (omega arith) in
-      let new : AreNew n begun o.handlers = ap (λ l. are_new l (values_of_handlers o.handlers)) (values-none n begun.handlers none) ∙ apart in
+      let new : AreNew n begun o.handlers = ap (λ l. are_new l (values_of_handlers o.handlers)) (values-none n begun.handlers none) ∙ new-holds (values_of_handlers o.handlers) apart in
       let following = place-last inner (later-other n (length b.contexts) (omega (arith, high, begins-length inner.contexts))) all in
       let block_lawful = entered-lawful r context (at c) o.atomic numbers a (line_of n None (instruction.Exit n) c.code) kept.contexts outside.inside named (there_at c.code.lines place.kept.code.lines) (eq-eqb n n refl) in
       lawful-on (lawful-cursors cursors) (lawful-on block_lawful (lawful-on (lawful-passed n (at b) o.handlers entered)
@@ -112,5 +113,5 @@ module _ {known : Known} {r : RawRoutine} (bare : AllBare r) where
       let here_action : ContextPosition r n begun b = place-first last (place-first grown_rest (place-in n (omega (arith, next)) (place-last add other place))) in
       let all : Grown (nat_eq context) p ended = grown-on add (grown-any (grown-on grown last)) in
       let following : ContextPosition r context ended c = place-last all (later-other context (length ended.contexts) (omega (arith, place.inside, begins-length all.contexts))) place in
-      lawful-on (handler-lawful r e names context o.kind o.values p kept.contexts kept.handlers block place.inside may.some may.values may.undo (new-here context p h hs new) first)
-      (lawful-on (inside here_action) (rest (new-later context p b h hs may.some place.inside grown new) following empty))
+      lawful-on (handler-lawful r e names context o.kind o.values p kept.contexts kept.handlers block place.inside (some-holds o.values may.some) may.values (undo-holds atomic o.kind may.undo) (new-here context p h hs new) first)
+      (lawful-on (inside here_action) (rest (new-later context p b h hs (some-holds o.values may.some) place.inside grown new) following empty))

@@ -19,11 +19,10 @@ use Rattle.psm_exprgen.specs.declared.known.Known.{Known}
 use Rattle.psm_exprgen.specs.Written.{Written, letters_at, puts, takes, with_query}
 use Rattle.psm_codegen.specs.FunctionBuilder.{FunctionBuilder, with_code}
 use Rattle.psm_codegen.specs.Simples.{WritesRows, changed, cleared, letters_of_columns, more_operands, retrieved}
-use Rattle.psm_typing.specs.TypingContext.{Each, TypingContext}
+use Rattle.psm_typing.specs.TypingContext.{AreOf, Each, TypingContext, variables_of}
+use Rattle.psm_typing.specs.Expressions.{AreExprs}
 use Rattle.psm_codegen_wellformed.specs.Frame.{WellFormedLines}
-use Rattle.psm_wellformed.specs.Slots.{AreSlots}
 use Rattle.psm_codegen_wellformed.specs.Kept.{Keeps, KeepsRoutine}
-use Rattle.psm_wellformed.specs.Simples.{RowOf}
 use Rattle.psm_codegen_wellformed.proofs.Lines.{Does}
 use Rattle.psm_codegen_wellformed.proofs.WellFormedSequences.{alone-well_formed, clear-well_formed, puts-well_formed, query-well_formed, well_formed-then}
 use Rattle.psm_codegen_wellformed.proofs.Simples.{rows-well_formed}
@@ -41,7 +40,7 @@ module _ {e : TypingContext} {known : Known} {code : RawCode} {r : RawRoutine} {
       (record { names = h; place = refl; fits = refl; value = N; other = B; is_value = refl; effect = refl }) (record { right = λ l. refl; following = λ l. refl; stays = refl }) q)
 
   -- the items of the cursor are of these letters
-  pub fetch-well_formed : (cursor : ℕ) (slots : List ℕ) (p : FunctionBuilder) → is_there r.cursors cursor ≡ true → cursor_letters code r cursor ≡ Some (letters_at p.letters cursor) → AreSlots e slots (letters_at p.letters cursor) → p.code.stack ≡ []
+  pub fetch-well_formed : (cursor : ℕ) (slots : List ℕ) (p : FunctionBuilder) → is_there r.cursors cursor ≡ true → cursor_letters code r cursor ≡ Some (letters_at p.letters cursor) → AreOf (variables_of e) slots (letters_at p.letters cursor) → p.code.stack ≡ []
       → WellFormedLines code r context resume p.code (retrieved context resume slots (puts context resume (instruction.Fetch cursor) 0 (letters_at p.letters cursor) (cleared context p))) []
   fetch-well_formed cursor slots p h items s q =
       let ks = letters_at p.letters cursor in
@@ -69,7 +68,7 @@ module _ {e : TypingContext} {known : Known} {code : RawCode} {r : RawRoutine} {
 
   -- INSERT of values, where the columns are of the letters that are known
   pub insert-well_formed : (table : ℕ) (columns : List ℕ) (rows : List (List ResolvedExpr)) (p : FunctionBuilder) (w : Written) → WritesRows known context resume (letters_of_columns known table columns) rows (cleared context p) w
-      → slice_get r.plans (length p.plans) ≡ Some (plans.Insert table columns (length rows)) → letters_in columns (table_letters code table) ≡ Some (letters_of_columns known table columns) → Each (RowOf e (letters_of_columns known table columns)) rows
+      → slice_get r.plans (length p.plans) ≡ Some (plans.Insert table columns (length rows)) → letters_in columns (table_letters code table) ≡ Some (letters_of_columns known table columns) → Each (λ xs. AreExprs e true xs (letters_of_columns known table columns)) rows
       → e.routine.returns ≡ None → p.code.stack ≡ [] → WellFormedLines code r context resume p.code (takes context resume (instruction.Data (length p.plans)) (more_operands p w) w) []
   insert-well_formed table columns rows p w a at letters values none q =
       let ls = letters_of_columns known table columns in

@@ -6,7 +6,8 @@ use Rattle.psm_code.specs.declared.code.RawCode.{RawCode}
 use Rattle.psm_code.specs.declared.code.RawRoutine.{RawRoutine}
 use Rattle.psm_code.specs.RoutineRules.{first_fault, line_faults}
 use Rattle.psm_codegen.specs.Files.{FileWritten, RoutineWritten, known_of}
-use Rattle.psm_wellformed.specs.Files.{WellFormedFile, WellFormedRoutine, typing_context_of}
+use Rattle.psm_typing.specs.Files.{typing_context_of}
+use Rattle.psm_wellformed.specs.Files.{WellFormedFile, WellFormedRoutine}
 use Rattle.psm_codegen_wellformed.specs.Kept.{Keeps}
 use Rattle.psm_codegen_wellformed.proofs.AllLines.{keeps-all, lines-well_formed}
 use Rattle.psm_codegen_wellformed.proofs.ContextsWellFormed.{bare-lines, contexts-well_formed}
@@ -23,5 +24,5 @@ code-well_formed file code made accepted =
 
 -- such code keeps the letters of the file
 pub letters-kept : (file : ResolvedFile) (code : RawCode) (n : ℕ) (routine : ResolvedRoutine) (r : RawRoutine) → FileWritten file code → WellFormedFile file → (well_formed : WellFormedRoutine file routine) → slice_get file.routines n ≡ Some routine
-    → RoutineWritten (known_of file routine) routine r → Keeps (typing_context_of file routine well_formed.shapes) (known_of file routine) code r
+    → RoutineWritten (known_of file routine) routine r → Keeps (typing_context_of file routine well_formed.typed.shapes) (known_of file routine) code r
 letters-kept file code n routine r made accepted well_formed at w = (keeps-all file code routine r made accepted well_formed w (queries-well_formed file code routine r n made accepted at w)).keeps

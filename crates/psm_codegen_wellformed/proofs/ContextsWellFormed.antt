@@ -21,7 +21,8 @@ use Rattle.psm_codegen.proofs.Numbering.{counted, counts-to}
 use Rattle.psm_codegen.proofs.Placing.{kept-earlier}
 use Rattle.psm_typing.specs.TypingContext.{Each}
 use Rattle.psm_typing.proofs.Answers.{each-append}
-use Rattle.psm_wellformed.specs.Files.{WellFormedRoutine, body, typing_context_of}
+use Rattle.psm_typing.specs.Files.{body, typing_context_of}
+use Rattle.psm_wellformed.specs.Files.{WellFormedRoutine}
 use Rattle.psm_codegen_wellformed.proofs.AllLawful.{statement-lawful}
 use Rattle.psm_codegen_wellformed.proofs.Lawful.{DeclaredWellFormed, Lawful, Pass, counts, pass-on}
 use Rattle.psm_codegen_wellformed.proofs.Lines.{both}
@@ -104,7 +105,7 @@ contexts-well_formed file routine r well_formed w bare =
     let place : ContextPosition r 0 (no_parts routine) w.parts = record { kept = kept; inside = omega arith; low = λ k l. refl } in
     let count : routine.cursors ≡ length r.cursors = omega (arith, counts-to 0 (cursors_of routine.body) routine.cursors well_formed.cursors, counted w.body, ap length w.cursors) in
     let there = counts-there r.cursors 0 (cursors_of routine.body) routine.cursors well_formed.cursors (omega (arith, count)) in
-    let lawful : Lawful r (counts (no_parts routine)) (counts w.parts) = statement-lawful (typing_context_of file routine well_formed.shapes) (known_of file routine) well_formed.letters r bare first.declared w.body (body, well_formed.well_formed) there place in
+    let lawful : Lawful r (counts (no_parts routine)) (counts w.parts) = statement-lawful (typing_context_of file routine well_formed.typed.shapes) (known_of file routine) r bare first.declared w.body (body, well_formed.typed.body_typed) there place in
     let named : Pass DeclaredWellFormed r.handlers.declared 0 (length (no_parts routine).declared) = record { each = λ n d low high q. named-well_formed routine.conditions first.declared.more n d high (ap (λ l. slice_get l n) (sym first.declared.is) ∙ q) } in
     let declared = pass-all (pass-on named lawful.declared) (ap length w.declared) in
     let contexts = pass-all lawful.contexts (ap length w.contexts) in (

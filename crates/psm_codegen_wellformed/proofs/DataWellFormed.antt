@@ -11,7 +11,8 @@ use Rattle.psm_code.specs.PlanRules.{cursor_fault, plan_faults, query_faults}
 use Rattle.psm_codegen.specs.Files.{FileWritten, RoutineWritten, known_of}
 use Rattle.psm_codegen.specs.Standing.{CountsUp, cursors_of}
 use Rattle.psm_codegen.proofs.Numbering.{counted, counts-to}
-use Rattle.psm_wellformed.specs.Files.{WellFormedFile, WellFormedRoutine, typing_context_of}
+use Rattle.psm_typing.specs.Files.{typing_context_of}
+use Rattle.psm_wellformed.specs.Files.{WellFormedFile, WellFormedRoutine}
 use Rattle.psm_typing.specs.TypingContext.{Begin, Each}
 use Rattle.psm_codegen_wellformed.proofs.Adding.{Fine}
 use Rattle.psm_codegen_wellformed.proofs.AddingAll.{statement-fine}
@@ -22,7 +23,7 @@ use Rattle.psm_codegen_wellformed.proofs.PartsKept.{parts-kept}
 use Rattle.psm_codegen_wellformed.proofs.QueryLetters.{Knows, columns-made, queries-keep}
 use Rattle.psm_codegen_wellformed.proofs.QueriesWellFormed.{Holds}
 use Rattle.psm_codegen_wellformed.specs.Kept.{QueriesKeep}
-use Rattle.psm_wellformed.proofs.Queries.{query-known}
+use Rattle.psm_wellformed.proofs.Queries.{columns_there, query-known, query-letters}
 
 -- ---- a routine
 
@@ -38,19 +39,21 @@ pub queries-well_formed : (file : ResolvedFile) (code : RawCode) (routine : Reso
     → QueriesKeep (known_of file routine) code r
 queries-well_formed file code routine r n made accepted at w =
     let well_formed = each-at (WellFormedRoutine file) file.routines n routine accepted.routines at in
-    queries-keep (knows-written file code routine r made w well_formed.begin)
+    queries-keep (knows-written file code routine r made w well_formed.typed.parameters)
 
 -- all that is written for such a routine
 parts-fine : (file : ResolvedFile) (code : RawCode) (routine : ResolvedRoutine) (r : RawRoutine) → FileWritten file code → WellFormedRoutine file routine → (w : RoutineWritten (known_of file routine) routine r) → Fine code r w.parts
 parts-fine file code routine r made well_formed w =
-    let e = typing_context_of file routine well_formed.shapes in
+    let e = typing_context_of file routine well_formed.typed.shapes in
     let holds : Holds e (known_of file routine) code r = record {
-      knows = knows-written file code routine r made w well_formed.begin;
+      knows = knows-written file code routine r made w well_formed.typed.parameters;
       tables = λ n t at. let u = table-made file.tables code.tables n t made.tables at in record { table = u.0; there = u.1; same = u.2 };
       asks = query-known e;
+      items = query-letters e;
+      columns = columns_there e;
     } in
     let many : routine.cursors ≡ length w.parts.cursors = omega (arith, counts-to 0 (cursors_of routine.body) routine.cursors well_formed.cursors, counted w.body) in
-    statement-fine holds well_formed.letters tt w.body well_formed.well_formed (record { asked = (parts-kept w).code.queries; declared = (parts-kept w).cursors }) (subst (λ n. CountsUp 0 (cursors_of routine.body) n) many well_formed.cursors) (tt, tt, tt)
+    statement-fine holds tt w.body well_formed.typed.body_typed (record { asked = (parts-kept w).code.queries; declared = (parts-kept w).cursors }) (subst (λ n. CountsUp 0 (cursors_of routine.body) n) many well_formed.cursors) (tt, tt, tt)
 
 pub data-well_formed : (file : ResolvedFile) (code : RawCode) (routine : ResolvedRoutine) (r : RawRoutine) (n : ℕ) → FileWritten file code → WellFormedFile file → slice_get file.routines n ≡ Some routine → RoutineWritten (known_of file routine) routine r
     → Each (λ f. f ≡ None) (flat_map (query_faults code r) r.queries) × Each (λ f. f ≡ None) (map (cursor_fault r) r.cursors) × Each (λ f. f ≡ None) (flat_map (plan_faults code r) r.plans)

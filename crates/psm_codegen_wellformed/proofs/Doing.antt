@@ -1,7 +1,6 @@
 -- A simple statement that is written is well-formed.
-use Rattle.std.proofs.Common.{arith, ◌≡◌, ◌≤◌, ◌++◌, ℕ, true, List, [], ◌∷◌, length, Some, ap, refl, sym, ◌∙◌}
+use Rattle.std.proofs.Common.{arith, ◌≡◌, ◌≤◌, ◌++◌, ℕ, true, List, [], ◌∷◌, length, Some, ap, refl, sym, subst, ◌∙◌}
 use Rattle.psm_cond.specs.declared.handlers.Declared.{Declared}
-use Rattle.psm_exprcode.specs.declared.op.Letter.{Letter}
 use Rattle.psm_resolved.specs.declared.statement.ResolvedCondition.{ResolvedCondition}
 use Rattle.psm_resolved.specs.declared.statement.ResolvedCondition.TheVariants as conditions
 use Rattle.psm_resolved.specs.declared.statement.ResolvedSet.{ResolvedSet}
@@ -27,13 +26,14 @@ use Rattle.psm_codegen.specs.Standing.{is_among}
 use Rattle.psm_codegen.proofs.GrowthSimples.{grows-retrieved}
 use Rattle.psm_codegen.proofs.Placing.{Kept}
 use Rattle.psm_codegen.proofs.There.{there_at}
-use Rattle.psm_typing.specs.TypingContext.{TypingContext}
+use Rattle.psm_typing.specs.TypingContext.{AreOf, Each, TypingContext, columns_of, variables_of}
+use Rattle.psm_typing.specs.Expressions.{AreExprs}
 use Rattle.psm_typing.specs.Statements.{IsSimple, StatementScope}
 use Rattle.psm_codegen_wellformed.specs.Frame.{Ends, Follows, Free, WellFormedLines}
-use Rattle.psm_codegen_wellformed.specs.Kept.{Keeps, KeepsProcedures, KeepsRoutine}
-use Rattle.psm_wellformed.specs.Simples.{WellFormedSimple}
+use Rattle.psm_codegen_wellformed.specs.Kept.{Keeps, KeepsProcedures, KeepsRoutine, KnowsColumns}
 use Rattle.psm_codegen_wellformed.proofs.Leavings.{EnclosingBlockWellFormed, Goes, iterates-well_formed, leaves-well_formed}
 use Rattle.psm_codegen_wellformed.proofs.Putting.{follows-as}
+use Rattle.psm_codegen_wellformed.proofs.RulesHold.{letters-known}
 use Rattle.psm_codegen_wellformed.proofs.Seeing.{Named, among-is}
 use Rattle.psm_codegen_wellformed.proofs.SimpleRequirements.{ConditionThere, TypeChecks}
 use Rattle.psm_codegen_wellformed.proofs.Changing.{changed-well_formed, changed_query-well_formed, close-well_formed, fetch-well_formed, insert-well_formed, open-well_formed}
@@ -74,29 +74,31 @@ stays h a = record {
 goes : {code : RawCode} {r : RawRoutine} {context resume : ℕ} {enclosing : List EnclosingBlock} {p q : FunctionBuilder} → p.code.stack ≡ [] → Goes code r (at q) (EnclosingBlockWellFormed r (at q) context enclosing) context p.code q.code → GoodSimple code r context resume enclosing p q
 goes h a = record { stack = a.stack h; starts = λ k f. a.starts h k.code; free = λ first there ends k before f enclosing. a.free enclosing first there h k.code (omega arith) }
 
-module _ {e : TypingContext} {known : Known} {code : RawCode} {r : RawRoutine} {context resume : ℕ} (keeps : Keeps e known code r) (is : KeepsRoutine e known r) (procedures : KeepsProcedures e known code) (letters : List (List Letter)) where
-  pub simple-good : {enclosing : List EnclosingBlock} {x : ResolvedSimple} {p q : FunctionBuilder} (s : StatementScope) → WritesSimple known context resume enclosing x p q → IsSimple e s x → WellFormedSimple e known letters s x → TypeChecks e known code r p x → Named enclosing s → Kept q r → p.code.stack ≡ []
+module _ {e : TypingContext} {known : Known} {code : RawCode} {r : RawRoutine} {context resume : ℕ} (keeps : Keeps e known code r) (is : KeepsRoutine e known r) (procedures : KeepsProcedures e known code) (columns_known : KnowsColumns e known) where
+  pub simple-good : {enclosing : List EnclosingBlock} {x : ResolvedSimple} {p q : FunctionBuilder} (s : StatementScope) → WritesSimple known context resume enclosing x p q → IsSimple e s x → TypeChecks e known code r p x → Named enclosing s → Kept q r → p.code.stack ≡ []
       → GoodSimple code r context resume enclosing p q
-  simple-good {p = p} block_scope (written.set {slot = slot} {e = x} {w = w} a) t o u n k h = stays h (set-well_formed keeps is slot x p w a t h)
-  simple-good {p = p} block_scope (written.call {procedure = procedure} {args = args} {w = w} a) t o u n k h =
-      stays h (call-statement keeps is (procedure_number known procedure) args t.0.parameters p w a (procedures procedure t.0 t.1) o.0 t.2 (o.1 t.0 t.1) h)
-  simple-good {p = p} block_scope (written.return {e = x} {w = w} a) t o u n k h = stays h (return-well_formed keeps is x t.0 p.code w a t.1 t.2 h)
-  simple-good {enclosing} {p = p} {q = q} block_scope (written.leave {level = level}) t o u n k h = goes h (leaves-well_formed {bound = at q} enclosing level context p.code (ap (is_among level) n.leaves ∙ among-is level block_scope.leaves t))
-  simple-good {enclosing} {p = p} {q = q} block_scope (written.iterate {level = level}) t o u n k h = goes h (iterates-well_formed {bound = at q} enclosing level context p.code (ap (is_among level) n.iterates ∙ among-is level block_scope.iterates t))
-  simple-good {p = p} block_scope (written.signal {s = s} {w = w} a) t o u n k h = stays h (signal-well_formed keeps is (condition_number s.condition p.declared) s.message p w a (condition-there r s.condition p.declared k.declared u) t.1 h)
-  simple-good {p = p} block_scope written.resignal t o u n k h = stays h (resignal-well_formed keeps is p h)
-  simple-good {p = p} block_scope (written.resignal_condition {s = s} {w = w} a) t o u n k h =
+  simple-good {p = p} block_scope (written.set {slot = slot} {e = x} {w = w} a) t u n k h = stays h (set-well_formed keeps is slot x p w a t h)
+  simple-good {p = p} block_scope (written.call {procedure = procedure} {args = args} {w = w} a) t u n k h =
+      stays h (call-statement keeps is (procedure_number known procedure) args t.0.parameters p w a (procedures procedure t.0 t.1) t.3 t.2 h)
+  simple-good {p = p} block_scope (written.return {e = x} {w = w} a) t u n k h = stays h (return-well_formed keeps is x t.0 p.code w a t.1 t.2 h)
+  simple-good {enclosing} {p = p} {q = q} block_scope (written.leave {level = level}) t u n k h = goes h (leaves-well_formed {bound = at q} enclosing level context p.code (ap (is_among level) n.leaves ∙ among-is level block_scope.leaves t))
+  simple-good {enclosing} {p = p} {q = q} block_scope (written.iterate {level = level}) t u n k h = goes h (iterates-well_formed {bound = at q} enclosing level context p.code (ap (is_among level) n.iterates ∙ among-is level block_scope.iterates t))
+  simple-good {p = p} block_scope (written.signal {s = s} {w = w} a) t u n k h = stays h (signal-well_formed keeps is (condition_number s.condition p.declared) s.message p w a (condition-there r s.condition p.declared k.declared u) t.1 h)
+  simple-good {p = p} block_scope written.resignal t u n k h = stays h (resignal-well_formed keeps is p h)
+  simple-good {p = p} block_scope (written.resignal_condition {s = s} {w = w} a) t u n k h =
       stays h (resignal_condition-well_formed keeps is (condition_number s.condition p.declared) s.message p w a (condition-there r s.condition p.declared k.declared u) t.1 h)
-  simple-good {p = p} block_scope (written.diagnostics_of_statement {area = area} {is = items}) t o u n k h = stays h (statement_diagnostics-well_formed keeps is area items p.code o.1 h)
-  simple-good {p = p} block_scope (written.diagnostics_of_condition {area = area} {number = number} {is = items}) t o u n k h = stays h (condition_diagnostics-well_formed keeps is area number items p.code o.0 o.1 o.2 h)
-  simple-good {p = p} block_scope (written.select_into {query = query} {slots = slots} {code = made} m) t o u n k h =
+  simple-good {p = p} block_scope (written.diagnostics_of_statement {area = area} {is = items}) t u n k h = stays h (statement_diagnostics-well_formed keeps is area items p.code t.1 h)
+  simple-good {p = p} block_scope (written.diagnostics_of_condition {area = area} {number = number} {is = items}) t u n k h = stays h (condition_diagnostics-well_formed keeps is area number items p.code t.0 t.1 t.2 h)
+  simple-good {p = p} block_scope (written.select_into {query = query} {slots = slots} {code = made} m) t u n k h =
       let asked = puts context resume (instruction.Row (length p.code.queries)) 0 (item_letters known query) (with_query made (cleared context p)) in
       let begins : BeginsWith (p.code.queries ++ made ∷ []) r.queries = begins-before (grows-retrieved context resume slots asked).queries k.code.queries in
-      stays h (select_into-well_formed keeps is query made slots p m (there_at p.code.queries begins) o h)
-  simple-good {p = p} block_scope (written.insert {table = table} {columns = columns} {rows = rows} {w = w} a) t o u n k h = stays h (insert-well_formed keeps is table columns rows p w a (there_at p.plans k.plans) u o.2 o.0 h)
-  simple-good {p = p} block_scope (written.insert_query {code = made} m) t o u n k h = stays h (changed_query-well_formed keeps is made _ p (there_at p.plans k.plans) refl o.0 h)
-  simple-good {p = p} block_scope (written.update {plan = plan} d) t o u n k h = stays h (changed-well_formed keeps is plan p (there_at p.plans k.plans) (updates-none code d) o.0 h)
-  simple-good {p = p} block_scope (written.delete {plan = plan} d) t o u n k h = stays h (changed-well_formed keeps is plan p (there_at p.plans k.plans) (deletes-none code d) o.0 h)
-  simple-good {p = p} block_scope (written.open_ {cursor = cursor}) t o u n k h = stays h (open-well_formed keeps is cursor p u.0 h)
-  simple-good {p = p} block_scope (written.fetch_ {cursor = cursor} {slots = slots}) t o u n k h = stays h (fetch-well_formed keeps is cursor slots p u.0.0 u.0.1 u.1 h)
-  simple-good {p = p} block_scope (written.close_ {cursor = cursor}) t o u n k h = stays h (close-well_formed keeps is cursor p u.0 h)
+      stays h (select_into-well_formed keeps is query made slots p m (there_at p.code.queries begins) (subst (AreOf (variables_of e) slots) (sym (keeps.items query t.0 t.1)) t.2) h)
+  simple-good {p = p} block_scope (written.insert {table = table} {columns = columns} {rows = rows} {w = w} a) t u n k h =
+      let known_letters = letters-known known table (columns_of t.0) (columns_known table t.0 t.1) columns t.2 t.3 in
+      stays h (insert-well_formed keeps is table columns rows p w a (there_at p.plans k.plans) u (subst (λ ks. Each (λ xs. AreExprs e true xs ks) rows) (sym known_letters) t.4) t.6 h)
+  simple-good {p = p} block_scope (written.insert_query {code = made} m) t u n k h = stays h (changed_query-well_formed keeps is made _ p (there_at p.plans k.plans) refl t.6 h)
+  simple-good {p = p} block_scope (written.update {plan = plan} d) t u n k h = stays h (changed-well_formed keeps is plan p (there_at p.plans k.plans) (updates-none code d) t.5 h)
+  simple-good {p = p} block_scope (written.delete {plan = plan} d) t u n k h = stays h (changed-well_formed keeps is plan p (there_at p.plans k.plans) (deletes-none code d) t.3 h)
+  simple-good {p = p} block_scope (written.open_ {cursor = cursor}) t u n k h = stays h (open-well_formed keeps is cursor p u.0 h)
+  simple-good {p = p} block_scope (written.fetch_ {cursor = cursor} {slots = slots}) t u n k h = stays h (fetch-well_formed keeps is cursor slots p u.0.0 u.0.1 u.1 h)
+  simple-good {p = p} block_scope (written.close_ {cursor = cursor}) t u n k h = stays h (close-well_formed keeps is cursor p u.0 h)

@@ -30,7 +30,8 @@ use Rattle.psm_codegen.proofs.Growing.{begins-length, length-snoc}
 use Rattle.psm_codegen.proofs.Placing.{context-there}
 use Rattle.psm_codegen.proofs.There.{there_at}
 use Rattle.psm_typing.specs.TypingContext.{Each, IsThere, TypingContext}
-use Rattle.psm_wellformed.specs.Statements.{WellFormedValue}
+use Rattle.psm_typing.specs.Statements.{IsValue}
+use Rattle.psm_codegen_wellformed.proofs.RulesHold.{condition-holds}
 use Rattle.psm_codegen_wellformed.specs.Frame.{Follows}
 use Rattle.psm_codegen_wellformed.proofs.HandlerValues.{values-there}
 use Rattle.psm_codegen_wellformed.proofs.Lawful.{Lawful, counts, pass-none, pass-one}
@@ -100,17 +101,17 @@ named-at [] n h = absurd h
 named-at (m ∷ names) zero h = (m, refl)
 named-at (m ∷ names) (suc n) h = named-at names n h
 
-value-well_formed : (r : RawRoutine) (e : TypingContext) → NamesDeclared e r → (v : ConditionValue) → WellFormedValue e v → (value_there r v ≡ true) × (is_value_well_formed r v ≡ true)
+value-well_formed : (r : RawRoutine) (e : TypingContext) → NamesDeclared e r → (v : ConditionValue) → IsValue e v → (value_there r v ≡ true) × (is_value_well_formed r v ≡ true)
 value-well_formed r e names (values.Named n) h =
     let named = named-at e.routine.conditions n h in
     let at_place = ap (λ ds. slice_get ds n) names.is ∙ there-more (map (λ m. declares.Named m) e.routine.conditions) names.more n (declares.Named named.0) named.1 in
     (ap there at_place, ap (λ o. where_there o is_named) at_place)
-value-well_formed r e names (values.State s) h = (refl, h)
+value-well_formed r e names (values.State s) h = (refl, condition-holds s h)
 value-well_formed r e names values.SqlException h = (refl, refl)
 value-well_formed r e names values.SqlWarning h = (refl, refl)
 value-well_formed r e names values.NotFound h = (refl, refl)
 
-values-well_formed : (r : RawRoutine) (e : TypingContext) → NamesDeclared e r → (vs : List ConditionValue) → Each (WellFormedValue e) vs → (list_all (value_there r) vs ≡ true) × (list_all (is_value_well_formed r) vs ≡ true)
+values-well_formed : (r : RawRoutine) (e : TypingContext) → NamesDeclared e r → (vs : List ConditionValue) → Each (IsValue e) vs → (list_all (value_there r) vs ≡ true) × (list_all (is_value_well_formed r) vs ≡ true)
 values-well_formed r e names [] h = (refl, refl)
 values-well_formed r e names (v ∷ vs) h =
     let one = value-well_formed r e names v h.0 in
@@ -135,7 +136,7 @@ module _ (r : RawRoutine) (e : TypingContext) (names : NamesDeclared e r) (conte
       both (ap (λ k. is_action_context (length p.handlers) (context_at r.handlers k)) f.inside ∙ ap (is_action_context (length p.handlers)) (context-is r p.contexts _ contexts) ∙ eq-eqb (length p.handlers) (length p.handlers) refl)
       (none-stated f.line.stack f.states)
 
-  handler-well_formed : {atomic : Bool} → BlockAt r context atomic → is_some vs ≡ true → Each (WellFormedValue e) vs → (not (is_undo kind) || atomic) ≡ true → are_new (values_in context p.handlers) vs ≡ true → Follows r (at p) (next_context p) []
+  handler-well_formed : {atomic : Bool} → BlockAt r context atomic → is_some vs ≡ true → Each (IsValue e) vs → (not (is_undo kind) || atomic) ≡ true → are_new (values_in context p.handlers) vs ≡ true → Follows r (at p) (next_context p) []
       → Each (λ x. x ≡ None) (handler_fault r p.handlers (record { context = context; kind = kind; pc = at p; values = several_values vs }))
   handler-well_formed block some well_formed undo new f =
       let same = values-there vs some in
@@ -147,7 +148,7 @@ module _ (r : RawRoutine) (e : TypingContext) (names : NamesDeclared e r) (conte
         tt,
       )
 
-  pub handler-lawful : {atomic : Bool} → BlockAt r context atomic → context ≤ length p.contexts → is_some vs ≡ true → Each (WellFormedValue e) vs → (not (is_undo kind) || atomic) ≡ true → are_new (values_in context p.handlers) vs ≡ true
+  pub handler-lawful : {atomic : Bool} → BlockAt r context atomic → context ≤ length p.contexts → is_some vs ≡ true → Each (IsValue e) vs → (not (is_undo kind) || atomic) ≡ true → are_new (values_in context p.handlers) vs ≡ true
       → Follows r (at p) (next_context p) [] → Lawful r (counts p) (counts (with_handler context kind vs p))
   handler-lawful block low some well_formed undo new f =
       let h : Handler = record { context = context; kind = kind; pc = at p; values = several_values vs } in

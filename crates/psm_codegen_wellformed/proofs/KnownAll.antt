@@ -1,4 +1,4 @@
--- All that code keeps of a file where it is written for one of its routines, and that simple statements which are well-formed type-check over it.
+-- All that code keeps of a file where it is written for one of its routines, and that well-typed simple statements type-check over it.
 use Rattle.std.proofs.Common.{◌≡◌, ◌++◌, ℕ, zero, suc, true, List, [], ◌∷◌, map, Option, Some, None, option_map, ap, ap₂, refl, sym, ◌∙◌}
 use Rattle.std.specs.Prelude.{slice_get}
 use Rattle.std.proofs.lemmas.Bool.{false≢true}
@@ -33,10 +33,9 @@ use Rattle.psm_codegen.specs.FunctionBuilder.{FunctionBuilder}
 use Rattle.psm_codegen.specs.Simples.{letters_of_columns}
 use Rattle.psm_typing.specs.TypingContext.{IsThere, TypingContext}
 use Rattle.psm_typing.specs.Statements.{IsCondition, IsSimple, StatementScope}
-use Rattle.psm_wellformed.specs.Simples.{WellFormedSimple}
-use Rattle.psm_wellformed.specs.Statements.{Letters}
-use Rattle.psm_codegen_wellformed.specs.Kept.{Keeps, KeepsProcedures, KeepsRoutine}
-use Rattle.psm_codegen_wellformed.proofs.Seeing.{Sees, cursor-slots, cursor-there}
+use Rattle.psm_codegen_wellformed.specs.Kept.{Keeps, KeepsProcedures, KeepsRoutine, KnowsColumns}
+use Rattle.psm_codegen_wellformed.proofs.RulesHold.{all-there}
+use Rattle.psm_codegen_wellformed.proofs.Seeing.{Sees, cursor-slots, cursor-there, letters_of_shapes}
 use Rattle.psm_codegen_wellformed.proofs.SimpleRequirements.{ConditionThere, TypeChecks}
 
 -- the columns of a table, in the code, are of the letters that are known
@@ -53,6 +52,7 @@ pub record KeepsAll (e : TypingContext) (known : Known) (code : RawCode) (r : Ra
   pub procedures : KeepsProcedures e known code
   pub routine : KeepsRoutine e known r
   pub tables : KeepsTables e known code
+  pub columns : KnowsColumns e known
   pub conditions : KeepsConditions e r
 
 -- ---- simple statements
@@ -62,24 +62,24 @@ module _ {e : TypingContext} {known : Known} {code : RawCode} {r : RawRoutine} (
   condition-kept (conditions.State s) h = tt
   condition-kept (conditions.Own n) h = all.conditions n h
 
-  pub type_checks : {letters : Letters} (s : StatementScope) (p : FunctionBuilder) (x : ResolvedSimple) → IsSimple e s x → WellFormedSimple e known letters s x → Sees code r letters p s.cursors → TypeChecks e known code r p x
-  type_checks s p (simples.Set slot x) t o sees = tt
-  type_checks s p (simples.Call procedure args) t o sees = tt
-  type_checks s p (simples.Return x) t o sees = tt
-  type_checks s p (simples.Leave level) t o sees = tt
-  type_checks s p (simples.Iterate level) t o sees = tt
-  type_checks s p (simples.Signal x) t o sees = condition-kept x.condition t.0
-  type_checks s p (simples.Resignal None) t o sees = tt
-  type_checks s p (simples.Resignal (Some x)) t o sees = condition-kept x.condition t.0
-  type_checks s p (simples.GetDiagnostics d) t o sees = tt
-  type_checks s p (simples.SelectInto query slots) t o sees = tt
-  type_checks s p (simples.Insert table columns (given.Values rows)) t o sees = all.tables table t.0 columns t.1 (o.1.there t.0 t.1)
-  type_checks s p (simples.Insert table columns (given.Query query)) t o sees = tt
-  type_checks s p (simples.Update table sets x) t o sees = tt
-  type_checks s p (simples.Delete table x) t o sees = tt
-  type_checks s p (simples.Open cursor) t o sees = cursor-there p s cursor t sees
-  type_checks s p (simples.Fetch cursor slots) t o sees = (cursor-there p s cursor t.0 sees, cursor-slots e p s cursor slots t.0 sees o)
-  type_checks s p (simples.Close cursor) t o sees = cursor-there p s cursor t sees
+  pub type_checks : (s : StatementScope) (p : FunctionBuilder) (x : ResolvedSimple) → IsSimple e s x → Sees code r (letters_of_shapes e) p s.cursors → TypeChecks e known code r p x
+  type_checks s p (simples.Set slot x) t sees = tt
+  type_checks s p (simples.Call procedure args) t sees = tt
+  type_checks s p (simples.Return x) t sees = tt
+  type_checks s p (simples.Leave level) t sees = tt
+  type_checks s p (simples.Iterate level) t sees = tt
+  type_checks s p (simples.Signal x) t sees = condition-kept x.condition t.0
+  type_checks s p (simples.Resignal None) t sees = tt
+  type_checks s p (simples.Resignal (Some x)) t sees = condition-kept x.condition t.0
+  type_checks s p (simples.GetDiagnostics d) t sees = tt
+  type_checks s p (simples.SelectInto query slots) t sees = tt
+  type_checks s p (simples.Insert table columns (given.Values rows)) t sees = all.tables table t.0 columns t.1 (all-there t.0.definition.columns columns t.2 t.3)
+  type_checks s p (simples.Insert table columns (given.Query query)) t sees = tt
+  type_checks s p (simples.Update table sets x) t sees = tt
+  type_checks s p (simples.Delete table x) t sees = tt
+  type_checks s p (simples.Open cursor) t sees = cursor-there p s cursor t sees
+  type_checks s p (simples.Fetch cursor slots) t sees = (cursor-there p s cursor t.0 sees, cursor-slots e p s cursor slots t.0 sees t.1)
+  type_checks s p (simples.Close cursor) t sees = cursor-there p s cursor t sees
 
 -- ---- conditions
 

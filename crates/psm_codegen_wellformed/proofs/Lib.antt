@@ -10,6 +10,7 @@ pub mod Keeping
 pub mod Sources
 pub mod WellFormedSequences
 pub mod Slots
+pub mod RulesHold
 pub mod Simples
 pub mod SimpleRequirements
 pub mod Procedures

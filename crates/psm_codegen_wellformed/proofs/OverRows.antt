@@ -23,8 +23,7 @@ use Rattle.psm_codegen.specs.Statements.{WritesCursors, fetched, jumped, opened}
 use Rattle.psm_codegen.proofs.Growing.{Grown, grown-fetched, grown-opened, grown-plain, no_context}
 use Rattle.psm_codegen.proofs.Placing.{Kept, kept-earlier}
 use Rattle.psm_codegen.proofs.There.{line_of}
-use Rattle.psm_typing.specs.TypingContext.{TypingContext}
-use Rattle.psm_wellformed.specs.Slots.{AreSlots}
+use Rattle.psm_typing.specs.TypingContext.{AreOf, TypingContext, variables_of}
 use Rattle.psm_codegen_wellformed.specs.Frame.{Ends, Follows, Free, WellFormedLines}
 use Rattle.psm_codegen_wellformed.specs.Kept.{Keeps}
 use Rattle.psm_codegen_wellformed.proofs.Blocks.{block-in, cursors-here, cursors-stack}
@@ -55,7 +54,7 @@ module _ {e : TypingContext} {known : Known} {code : RawCode} {r : RawRoutine} (
     pub turns : {bound : ℕ} → Kept begun r → Reaches r bound context again
     pub free : Follows r 0 0 [] → context_there r context ≡ true → Ends r exit context → Kept begun r → at begun < exit → Follows r (at begun) context [] → Free code r (at entered) (at begun)
 
-  pub turning : (context exit : ℕ) (head : ResolvedFor) (p : FunctionBuilder) → p.code.stack ≡ [] → CursorThere code r p head.cursor.number → AreSlots e head.slots (letters_at p.letters head.cursor.number)
+  pub turning : (context exit : ℕ) (head : ResolvedFor) (p : FunctionBuilder) → p.code.stack ≡ [] → CursorThere code r p head.cursor.number → AreOf (variables_of e) head.slots (letters_at p.letters head.cursor.number)
       → Turning context exit (suc (at p)) p (fetched context exit head (opened context exit head.cursor p))
   turning context exit head p q is slots =
       let number = head.cursor.number in
@@ -88,7 +87,7 @@ module _ {e : TypingContext} {known : Known} {code : RawCode} {r : RawRoutine} (
             (store.free first there ends k.code (omega (arith, before)) (follows-as f refl (sym store.stack)))));
       }
 
-  pub for-good : {context : ℕ} {enclosing : List EnclosingBlock} (level : ℕ) (head : ResolvedFor) (p a c : FunctionBuilder) → p.code.stack ≡ [] → WritesCursors known (head.cursor ∷ []) p a → CursorThere code r a head.cursor.number → AreSlots e head.slots (letters_at a.letters head.cursor.number)
+  pub for-good : {context : ℕ} {enclosing : List EnclosingBlock} (level : ℕ) (head : ResolvedFor) (p a c : FunctionBuilder) → p.code.stack ≡ [] → WritesCursors known (head.cursor ∷ []) p a → CursorThere code r a head.cursor.number → AreOf (variables_of e) head.slots (letters_at a.letters head.cursor.number)
       → Grown no_context (fetched (next_context a) (suc (at c)) head (opened (next_context a) (suc (at c)) head.cursor (block_entered context false (suc (at c)) (head.cursor.number ∷ []) a))) c
       → Good code r (next_context a) (Loop level (suc (at c)) (suc (suc (at p))) ∷ Rows (next_context a) context ∷ enclosing)
       (fetched (next_context a) (suc (at c)) head (opened (next_context a) (suc (at c)) head.cursor (block_entered context false (suc (at c)) (head.cursor.number ∷ []) a))) c

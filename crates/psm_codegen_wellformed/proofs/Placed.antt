@@ -31,8 +31,8 @@ use Rattle.psm_codegen.proofs.Growing.{Grown, begins-length, no_context, own_in}
 use Rattle.psm_codegen.proofs.Placing.{Kept, kept-earlier}
 use Rattle.psm_codegen.proofs.There.{line_of, there_at}
 use Rattle.psm_typing.specs.TypingContext.{TypingContext}
-use Rattle.psm_wellformed.specs.Simples.{WellFormedCondition, WellFormedSimple}
-use Rattle.psm_wellformed.specs.Statements.{Letters}
+use Rattle.psm_typing.specs.Statements.{IsCondition, IsSimple}
+use Rattle.psm_codegen_wellformed.proofs.RulesHold.{condition-holds}
 use Rattle.psm_codegen_wellformed.proofs.Lawful.{Lawful, counts, lawful-none, pass-none, pass-one}
 
 -- ---- places
@@ -97,26 +97,26 @@ module _ (r : RawRoutine) where
 
 -- ---- simple statements
 
-condition-lawful : (r : RawRoutine) (c : ResolvedCondition) (p : FunctionBuilder) → WellFormedCondition c → BeginsWith (declared_with c p.declared) r.handlers.declared → Lawful r (counts p) (record (counts p) { declared = length (declared_with c p.declared) })
-condition-lawful r (conditions.State s) p h b = record { contexts = pass-none; handlers = pass-none; declared = pass-one p.declared _ b (ap (λ x. unless x Definition) h) }
-condition-lawful r (conditions.Own n) p h b = lawful-none
+condition-lawful : (e : TypingContext) (r : RawRoutine) (c : ResolvedCondition) (p : FunctionBuilder) → IsCondition e c → BeginsWith (declared_with c p.declared) r.handlers.declared → Lawful r (counts p) (record (counts p) { declared = length (declared_with c p.declared) })
+condition-lawful e r (conditions.State s) p h b = record { contexts = pass-none; handlers = pass-none; declared = pass-one p.declared _ b (ap (λ x. unless x Definition) (condition-holds s h)) }
+condition-lawful e r (conditions.Own n) p h b = lawful-none
 
-pub simple-lawful : (e : TypingContext) (letters : Letters) {known : Known} {r : RawRoutine} {context resume : ℕ} {enclosing : List EnclosingBlock} {s : ResolvedSimple} {p q : FunctionBuilder} → WritesSimple known context resume enclosing s p q → (block_scope : _) × WellFormedSimple e known letters block_scope s → Kept q r → Lawful r (counts p) (counts q)
-simple-lawful e letters (simple.set x) t k = lawful-none
-simple-lawful e letters (simple.call a) t k = lawful-none
-simple-lawful e letters (simple.return x) t k = lawful-none
-simple-lawful e letters simple.leave t k = lawful-none
-simple-lawful e letters simple.iterate t k = lawful-none
-simple-lawful e letters {r = r} (simple.signal {s = s} {p = p} m) t k = condition-lawful r s.condition p t.1 k.declared
-simple-lawful e letters simple.resignal t k = lawful-none
-simple-lawful e letters {r = r} (simple.resignal_condition {s = s} {p = p} m) t k = condition-lawful r s.condition p t.1 k.declared
-simple-lawful e letters simple.diagnostics_of_statement t k = lawful-none
-simple-lawful e letters simple.diagnostics_of_condition t k = lawful-none
-simple-lawful e letters (simple.select_into m) t k = lawful-none
-simple-lawful e letters (simple.insert rows) t k = lawful-none
-simple-lawful e letters (simple.insert_query m) t k = lawful-none
-simple-lawful e letters (simple.update u) t k = lawful-none
-simple-lawful e letters (simple.delete d) t k = lawful-none
-simple-lawful e letters simple.open_ t k = lawful-none
-simple-lawful e letters simple.fetch_ t k = lawful-none
-simple-lawful e letters simple.close_ t k = lawful-none
+pub simple-lawful : (e : TypingContext) {known : Known} {r : RawRoutine} {context resume : ℕ} {enclosing : List EnclosingBlock} {s : ResolvedSimple} {p q : FunctionBuilder} → WritesSimple known context resume enclosing s p q → (block_scope : _) × IsSimple e block_scope s → Kept q r → Lawful r (counts p) (counts q)
+simple-lawful e (simple.set x) t k = lawful-none
+simple-lawful e (simple.call a) t k = lawful-none
+simple-lawful e (simple.return x) t k = lawful-none
+simple-lawful e simple.leave t k = lawful-none
+simple-lawful e simple.iterate t k = lawful-none
+simple-lawful e {r = r} (simple.signal {s = s} {p = p} m) t k = condition-lawful e r s.condition p t.1.0 k.declared
+simple-lawful e simple.resignal t k = lawful-none
+simple-lawful e {r = r} (simple.resignal_condition {s = s} {p = p} m) t k = condition-lawful e r s.condition p t.1.0 k.declared
+simple-lawful e simple.diagnostics_of_statement t k = lawful-none
+simple-lawful e simple.diagnostics_of_condition t k = lawful-none
+simple-lawful e (simple.select_into m) t k = lawful-none
+simple-lawful e (simple.insert rows) t k = lawful-none
+simple-lawful e (simple.insert_query m) t k = lawful-none
+simple-lawful e (simple.update u) t k = lawful-none
+simple-lawful e (simple.delete d) t k = lawful-none
+simple-lawful e simple.open_ t k = lawful-none
+simple-lawful e simple.fetch_ t k = lawful-none
+simple-lawful e simple.close_ t k = lawful-none

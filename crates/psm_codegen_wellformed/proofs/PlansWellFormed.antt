@@ -1,4 +1,4 @@
--- Plans of well-typed, well-formed changes are well-formed.
+-- Plans of well-typed changes are well-formed.
 use Rattle.std.proofs.Common.{◌≡◌, ◌++◌, ℕ, Bool, true, false, ◌&&◌, not, List, [], ◌∷◌, map, nat_eq, Option, Some, None, option_map, if◌then◌else◌, ap, refl, sym, subst, ◌∙◌}
 use Rattle.std.specs.Prelude.{slice_get}
 use Rattle.std.proofs.lemmas.Bool.{eqb-true, eq-eqb, false≢true}
@@ -25,9 +25,8 @@ use Rattle.psm_exprgen.specs.declared.known.Known.{Known}
 use Rattle.psm_exprgen.specs.Queries.{QueryMade, RowTestFits, SetsMade, SourcesFit, TestMade, cursor_of, item_letters}
 use Rattle.psm_exprgen.specs.Written.{letter_at, letters_at}
 use Rattle.psm_codegen.specs.Simples.{letters_of_columns}
-use Rattle.psm_wellformed.specs.Simples.{AreColumns, AreSets, MayChange}
 use Rattle.psm_typing.specs.TypingContext.{Each, TypingContext}
-use Rattle.psm_typing.specs.Statements.{StatementScope}
+use Rattle.psm_typing.specs.Statements.{MayChange, StatementScope}
 use Rattle.psm_typing.proofs.Fetching.{find-each}
 use Rattle.psm_codegen_wellformed.proofs.Faultless.{Faultless, faultless-append}
 use Rattle.psm_codegen_wellformed.proofs.Lines.{both}
@@ -37,6 +36,11 @@ use Rattle.psm_codegen_wellformed.proofs.RowLines.{fit-faultless, none_of-two, n
 use Rattle.psm_codegen_wellformed.proofs.Tables.{all-columns-there, column-letter, column-there, columns-letters, table-there}
 
 -- ---- columns that are named once
+
+-- columns of a table, none of them twice
+pub record AreNamed (t : ResolvedTable) (columns : List ℕ) : Type 0 where
+  pub list : is_column_list columns ≡ true
+  pub there : are_there t.definition.columns columns ≡ true
 
 or-else-true : (b c : Bool) → c ≡ true → (if b then true else c) ≡ true
 or-else-true true c h = refl
@@ -87,10 +91,10 @@ module _ {e : TypingContext} {known : Known} {code : RawCode} {r : RawRoutine} (
       let next = sets-from (before ++ c ∷ []) ss cs h.2 (and_second (is_there t.definition.columns s.column) (are_there t.definition.columns others) a) (ap are_distinct (move-one (λ b. b.column) before c others) ∙ distinct) in
       (line, faultless-append (expr_in code r table (is_column_letter (slice_get columns c.column)) c.source) (each_after (set_faults code r table) (before ++ c ∷ []) cs) source next)
 
-  pub sets-faultless : (sets : List ResolvedSet) (coded : List SetItem) → SetsMade known table sets coded → AreSets e known table sets → Faultless (sets_in code r table coded)
+  pub sets-faultless : (sets : List ResolvedSet) (coded : List SetItem) → SetsMade known table sets coded → AreNamed t (map (λ s. s.column) sets) → Faultless (sets_in code r table coded)
   sets-faultless sets coded m p =
       let names = map (λ s. s.column) sets in
-      sets-from [] sets coded (as-known holds (λ cs vs. SourcesFit cs vs sets coded) table m.fit) (p.0.there t at) (and_second (is_some names) (are_distinct names) p.0.list)
+      sets-from [] sets coded (as-known holds (λ cs vs. SourcesFit cs vs sets coded) table m.fit) (p.there) (and_second (is_some names) (are_distinct names) p.list)
 
   pub test-well_formed : (test : Option ResolvedExpr) (coded : Option (List Line)) → TestMade known table test coded → Faultless (test_in code r table coded)
   test-well_formed test coded m = test-faultless code r table test coded (as-known holds (λ cs vs. RowTestFits cs vs test coded) table m.fits)
@@ -115,30 +119,30 @@ pub record IsHere (known : Known) (r : RawRoutine) (x : ResolvedCursor) : Type 0
 
 module _ {e : TypingContext} {known : Known} {code : RawCode} {r : RawRoutine} (holds : Holds e known code r) where
   module _ (table : ℕ) (t : ResolvedTable) (at : slice_get e.file.tables table ≡ Some t) where
-    pub insert-faultless : (columns : List ℕ) (rows : ℕ) → AreColumns e table columns → Faultless (plan_faults code r (plans.Insert table columns rows))
+    pub insert-faultless : (columns : List ℕ) (rows : ℕ) → AreNamed t columns → Faultless (plan_faults code r (plans.Insert table columns rows))
     insert-faultless columns rows p = (
       none_of-two (is_there code.tables table && columns_there code table columns) (is_column_list columns) Range Definition
-          (both (table-there holds table t at) (all-columns-there holds table t at columns (p.there t at))) p.list,
+          (both (table-there holds table t at) (all-columns-there holds table t at columns (p.there))) p.list,
       tt,
     )
 
-    pub insert_query-faultless : {query : ResolvedQuery} {made : Query} (columns : List ℕ) (number : ℕ) → AreColumns e table columns → QueryMade known query made → slice_get r.queries number ≡ Some made
+    pub insert_query-faultless : {query : ResolvedQuery} {made : Query} (columns : List ℕ) (number : ℕ) → AreNamed t columns → QueryMade known query made → slice_get r.queries number ≡ Some made
         → item_letters known query ≡ letters_of_columns known table columns → Faultless (plan_faults code r (plans.InsertQuery table columns number))
     insert_query-faultless {query} {made} columns number p m there_is same =
         let letters = letters_of_columns known table columns in
         let fits : fits_columns code r table columns made ≡ true =
-        ap (λ o. are_items o (letters_of_query code r made)) (columns-letters holds table t at columns (p.there t at)) ∙ ap (are_items (Some letters)) (made-letters holds.knows m ∙ same) ∙ same_stack-self letters in (
+        ap (λ o. are_items o (letters_of_query code r made)) (columns-letters holds table t at columns (p.there)) ∙ ap (are_items (Some letters)) (made-letters holds.knows m ∙ same) ∙ same_stack-self letters in (
           none_of-two (is_there code.tables table && (columns_there code table columns && is_there r.queries number)) (is_column_list columns && where_there (slice_get r.queries number) (fits_columns code r table columns)) Range Definition
-              (both (table-there holds table t at) (both (all-columns-there holds table t at columns (p.there t at)) (ap there there_is)))
+              (both (table-there holds table t at) (both (all-columns-there holds table t at columns (p.there)) (ap there there_is)))
               (both p.list (ap (λ o. where_there o (fits_columns code r table columns)) there_is ∙ fits)),
           tt,
         )
 
-    pub update-faultless : (sets : List ResolvedSet) (coded : List SetItem) (test : Option ResolvedExpr) (coded_test : Option (List Line)) → SetsMade known table sets coded → AreSets e known table sets → TestMade known table test coded_test
+    pub update-faultless : (sets : List ResolvedSet) (coded : List SetItem) (test : Option ResolvedExpr) (coded_test : Option (List Line)) → SetsMade known table sets coded → AreNamed t (map (λ s. s.column) sets) → TestMade known table test coded_test
         → Faultless (plan_faults code r (plans.Update table coded coded_test))
     update-faultless sets coded test coded_test m p k =
         let names = map (λ s. s.column) sets in
-        let some : is_some coded ≡ true = sets-some (letters_at known.columns table) known.variables sets coded m.fit (and_first (is_some names) (are_distinct names) p.0.list) in (
+        let some : is_some coded ≡ true = sets-some (letters_at known.columns table) known.variables sets coded m.fit (and_first (is_some names) (are_distinct names) p.list) in (
           none_of-two (is_there code.tables table) (is_some coded) Range Definition (table-there holds table t at) some,
           faultless-append (sets_in code r table coded) (test_in code r table coded_test) (sets-faultless holds table t at sets coded m p) (test-well_formed holds table t at test coded_test k),
         )
@@ -167,11 +171,11 @@ module _ {e : TypingContext} {known : Known} {code : RawCode} {r : RawRoutine} (
       }
 
   pub update_at-faultless : (s : StatementScope) (table cursor : ℕ) (t : ResolvedTable) (sets : List ResolvedSet) (coded : List SetItem) → slice_get e.file.tables table ≡ Some t → Each (IsHere known r) s.cursors → MayChange s table cursor
-      → SetsMade known table sets coded → AreSets e known table sets → Faultless (plan_faults code r (plans.UpdateAt cursor coded))
+      → SetsMade known table sets coded → AreNamed t (map (λ s. s.column) sets) → Faultless (plan_faults code r (plans.UpdateAt cursor coded))
   update_at-faultless s table cursor t sets coded at each may m p =
       let names = map (λ s. s.column) sets in
       let x = positioned s table cursor each may in
-      let some : is_some coded ≡ true = sets-some (letters_at known.columns table) known.variables sets coded m.fit (and_first (is_some names) (are_distinct names) p.0.list) in (
+      let some : is_some coded ≡ true = sets-some (letters_at known.columns table) known.variables sets coded m.fit (and_first (is_some names) (are_distinct names) p.list) in (
         none_of-two (is_there r.cursors cursor) (is_some coded && is_positioned r cursor) Range Definition x.there (both some x.right),
         subst (λ n. Faultless (sets_in code r n coded)) (sym x.over) (sets-faultless holds table t at sets coded m p),
       )

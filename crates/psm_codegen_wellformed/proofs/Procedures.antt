@@ -24,12 +24,10 @@ use Rattle.psm_meaning.specs.Calls.{procedure_at, returns}
 use Rattle.psm_exprgen.specs.Written.{letters_or}
 use Rattle.psm_codegen.specs.Simples.{procedure_number}
 use Rattle.psm_codegen.proofs.Numbers.{known_procedures}
-use Rattle.psm_typing.specs.TypingContext.{Begin, TypingContext, taken_by}
+use Rattle.psm_typing.specs.TypingContext.{AreOf, Begin, TypingContext, taken_by, variables_of}
 use Rattle.psm_typing.specs.TypingContext as typing_contexts
 use Rattle.psm_typing.specs.Statements.{AreArguments}
-use Rattle.psm_wellformed.specs.Slots.{AreSlots}
 use Rattle.psm_codegen_wellformed.specs.Kept.{FunctionTakes, Keeps, KeepsProcedure, KeepsProcedures, KeepsRoutine, QueriesKeep, letters_given}
-use Rattle.psm_wellformed.specs.Simples.{WellFormedArguments}
 use Rattle.psm_codegen_wellformed.proofs.Keeping.{keeps-written, routine-written, taken-letters}
 
 taking-one : (m : ParameterMode) (p : Parameter) (kept : List Parameter) (q : ResolvedParameter) (others : List ResolvedParameter) → letter_of p.kind ≡ letter_of q.kind → parameter_letters kept ≡ map (λ x. letter_of x.kind) others
@@ -73,23 +71,23 @@ routine-kept e r w = record { returns = w.returns; kind = w.kind; result = refl 
 
 -- ---- the variables that values come back to
 
-back-one : (e : TypingContext) (slot : ℕ) (slots : List ℕ) (m : ParameterMode) (p : ResolvedParameter) (others : List ResolvedParameter) → gives_back m ≡ true → AreSlots e (slot ∷ slots) (letter_of p.kind ∷ map (λ x. letter_of x.kind) others)
-    → AreSlots e (slot ∷ slots) (map (λ x. letter_of x.kind) (if gives_back m then p ∷ others else others))
-back-one e slot slots m p others g h = subst (λ b. AreSlots e (slot ∷ slots) (map (λ x. letter_of x.kind) (if b then p ∷ others else others))) (sym g) h
+back-one : (e : TypingContext) (slot : ℕ) (slots : List ℕ) (m : ParameterMode) (p : ResolvedParameter) (others : List ResolvedParameter) → gives_back m ≡ true → AreOf (variables_of e) (slot ∷ slots) (letter_of p.kind ∷ map (λ x. letter_of x.kind) others)
+    → AreOf (variables_of e) (slot ∷ slots) (map (λ x. letter_of x.kind) (if gives_back m then p ∷ others else others))
+back-one e slot slots m p others g h = subst (λ b. AreOf (variables_of e) (slot ∷ slots) (map (λ x. letter_of x.kind) (if b then p ∷ others else others))) (sym g) h
 
-none-back : (e : TypingContext) (slots : List ℕ) (m : ParameterMode) (p : ResolvedParameter) (others : List ResolvedParameter) → gives_back m ≡ false → AreSlots e slots (map (λ x. letter_of x.kind) others)
-    → AreSlots e slots (map (λ x. letter_of x.kind) (if gives_back m then p ∷ others else others))
-none-back e slots m p others g h = subst (λ b. AreSlots e slots (map (λ x. letter_of x.kind) (if b then p ∷ others else others))) (sym g) h
+none-back : (e : TypingContext) (slots : List ℕ) (m : ParameterMode) (p : ResolvedParameter) (others : List ResolvedParameter) → gives_back m ≡ false → AreOf (variables_of e) slots (map (λ x. letter_of x.kind) others)
+    → AreOf (variables_of e) slots (map (λ x. letter_of x.kind) (if gives_back m then p ∷ others else others))
+none-back e slots m p others g h = subst (λ b. AreOf (variables_of e) slots (map (λ x. letter_of x.kind) (if b then p ∷ others else others))) (sym g) h
 
-pub slots-back : (e : TypingContext) (args : List ResolvedArgument) (ps : List ResolvedParameter) → AreArguments e args ps → WellFormedArguments e args ps → AreSlots e (slots_given args) (letters_given ps)
-slots-back e [] [] t p = tt
-slots-back e [] (q ∷ ps) t p = absurd t
-slots-back e (arguments.In x ∷ others) [] t p = absurd t
-slots-back e (arguments.Out slot ∷ others) [] t p = absurd t
-slots-back e (arguments.InOut slot ∷ others) [] t p = absurd t
-slots-back e (arguments.In x ∷ others) (q ∷ ps) t p = none-back e (slots_given others) q.mode q (filter (λ y. gives_back y.mode) ps) (ap gives_back t.0.0) (slots-back e others ps t.1 p)
-slots-back e (arguments.Out slot ∷ others) (q ∷ ps) t p = back-one e slot (slots_given others) q.mode q (filter (λ y. gives_back y.mode) ps) (ap gives_back t.0.0) (p.0, slots-back e others ps t.1 p.1)
-slots-back e (arguments.InOut slot ∷ others) (q ∷ ps) t p = back-one e slot (slots_given others) q.mode q (filter (λ y. gives_back y.mode) ps) (ap gives_back t.0.0) (p.0, slots-back e others ps t.1 p.1)
+pub slots-back : (e : TypingContext) (args : List ResolvedArgument) (ps : List ResolvedParameter) → AreArguments e args ps → AreOf (variables_of e) (slots_given args) (letters_given ps)
+slots-back e [] [] t = tt
+slots-back e [] (q ∷ ps) t = absurd t
+slots-back e (arguments.In x ∷ others) [] t = absurd t
+slots-back e (arguments.Out slot ∷ others) [] t = absurd t
+slots-back e (arguments.InOut slot ∷ others) [] t = absurd t
+slots-back e (arguments.In x ∷ others) (q ∷ ps) t = none-back e (slots_given others) q.mode q (filter (λ y. gives_back y.mode) ps) (ap gives_back t.0.0) (slots-back e others ps t.1)
+slots-back e (arguments.Out slot ∷ others) (q ∷ ps) t = back-one e slot (slots_given others) q.mode q (filter (λ y. gives_back y.mode) ps) (ap gives_back t.0.0) (t.0.1, slots-back e others ps t.1)
+slots-back e (arguments.InOut slot ∷ others) (q ∷ ps) t = back-one e slot (slots_given others) q.mode q (filter (λ y. gives_back y.mode) ps) (ap gives_back t.0.0) (t.0.1, slots-back e others ps t.1)
 
 -- ---- the procedures of a file
 

@@ -28,7 +28,7 @@ use Rattle.psm_code.specs.Instructions.{columns_at, variables_of}
 use Rattle.psm_code.specs.PlanRules.{cursor_fault, expr_in, has_items, has_operand, has_rows, is_due, item_in, items_in, operand_in, query_faults, set_in, test_in}
 use Rattle.psm_code.specs.Rules.{is_some, is_there, there, where_there}
 use Rattle.psm_exprgen.specs.declared.known.Known.{Known}
-use Rattle.psm_exprgen.specs.Queries.{AggregatesFit, ExprsFit, ItemsFit, Layer, OperandFits, QueryMade, RowTestFits, are_items, is_test_perhaps, is_value_of, letter_of_row_type}
+use Rattle.psm_exprgen.specs.Queries.{AggregatesFit, ExprsFit, ItemsFit, Layer, OperandFits, QueryMade, RowTestFits, are_items, is_test_perhaps, is_value_of, letter_of_row_type, item_letters}
 use Rattle.psm_exprgen.specs.Written.{letters_at}
 use Rattle.psm_wellformed.specs.Queries.{WellFormedQuery, are_well_formed, is_operand, is_set_function, items_of}
 use Rattle.psm_wellformed.specs.Queries as well_formed
@@ -37,6 +37,7 @@ use Rattle.psm_typing.specs.TypingContext.{TypingContext}
 use Rattle.psm_codegen_wellformed.proofs.Faultless.{Faultless, faultless-append}
 use Rattle.psm_codegen_wellformed.proofs.QueryLetters.{Knows, made-items}
 use Rattle.psm_codegen_wellformed.proofs.RowLines.{fit-faultless, none_of-two, none_unless}
+use Rattle.psm_codegen_wellformed.specs.Kept.{KnowsColumns}
 
 -- ---- items
 
@@ -130,6 +131,8 @@ pub record Holds (e : TypingContext) (known : Known) (code : RawCode) (r : RawRo
   pub knows : Knows known code r
   pub tables : (n : ℕ) (t : ResolvedTable) → slice_get e.file.tables n ≡ Some t → IsTable code n t
   pub asks : (query : ResolvedQuery) (ks : List Letter) → IsQuery e query ks → WellFormedQuery known query
+  pub items : (query : ResolvedQuery) (ks : List Letter) → IsQuery e query ks → item_letters known query ≡ ks
+  pub columns : KnowsColumns e known
 
 -- ---- queries and cursors
 

@@ -1,8 +1,9 @@
 -- What a statement sees, in the tree and in the code: the cursors, with the letters of their items, and what LEAVE and ITERATE can name.
 use Rattle.std.proofs.Common.{◌≡◌, ◌||◌, ℕ, zero, suc, Bool, true, false, inl, inr, nat_eq, List, [], ◌∷◌, ◌++◌, find, length, if◌then◌else◌, Some, option_map, ap, refl, sym, subst, ◌∙◌, append-nil}
-use Rattle.std.specs.Prelude.{slice_get}
+use Rattle.std.specs.Prelude.{map, slice_get}
 use Rattle.std.proofs.lemmas.Bool.{eq-eqb}
 use Rattle.std.proofs.lemmas.Bool.Decides.{eqb_tells}
+use Rattle.std.proofs.lemmas.Option.{slice_get-map}
 use Rattle.psm_exprcode.specs.declared.op.Letter.{Letter}
 use Rattle.psm_resolved.specs.declared.statement.ResolvedCursor.{ResolvedCursor}
 use Rattle.psm_code.specs.declared.code.CodeCursor.{CodeCursor}
@@ -23,11 +24,9 @@ use Rattle.psm_codegen.proofs.Growing.{grown-cursors, length-snoc, no_context}
 use Rattle.psm_codegen.proofs.Placing.{Kept, kept-earlier}
 use Rattle.psm_codegen.proofs.Scoping.{labels_of, loops_of}
 use Rattle.psm_codegen.proofs.There.{there_at}
-use Rattle.psm_typing.specs.TypingContext.{Among, Each, IsThere, TypingContext}
-use Rattle.psm_typing.specs.Statements.{IsSeen, StatementScope}
-use Rattle.psm_wellformed.specs.Slots.{AreSlots}
-use Rattle.psm_wellformed.specs.Statements.{Letters, WellFormedCursor}
-use Rattle.psm_codegen_wellformed.specs.Kept.{QueriesKeep}
+use Rattle.psm_typing.specs.TypingContext.{Among, AreOf, Each, IsThere, TypingContext, variables_of}
+use Rattle.psm_typing.specs.Statements.{AreForItems, IsCursor, IsSeen, StatementScope}
+use Rattle.psm_codegen_wellformed.specs.Kept.{Keeps}
 use Rattle.psm_codegen_wellformed.proofs.Lettering.{Lettering, lettered-cursors}
 use Rattle.psm_codegen_wellformed.proofs.SimpleRequirements.{CursorThere}
 
@@ -48,8 +47,12 @@ pub record Named (enclosing : List EnclosingBlock) (s : StatementScope) : Type 0
 
 -- ---- cursors
 
+-- the letters of the items of each cursor of a routine, by its number
+abbrev pub letters_of_shapes : TypingContext → List (List Letter)
+letters_of_shapes e = map (λ s. s.letters) e.shapes
+
 -- the letters ls of the items of the cursor of a number are those that the tree has, those that are written, and those of the code
-pub record HasLetters (code : RawCode) (r : RawRoutine) (letters : Letters) (made : List (List Letter)) (number : ℕ) : Type 0 where
+pub record HasLetters (code : RawCode) (r : RawRoutine) (letters : List (List Letter)) (made : List (List Letter)) (number : ℕ) : Type 0 where
   pub items : List Letter
   pub tree : slice_get letters number ≡ Some items
   pub parts : slice_get made number ≡ Some items
@@ -57,11 +60,11 @@ pub record HasLetters (code : RawCode) (r : RawRoutine) (letters : Letters) (mad
   pub coded : cursor_letters code r number ≡ Some items
 
 -- as many letters as cursors are written, and each cursor that is seen has its letters
-pub record Seeing (code : RawCode) (r : RawRoutine) (letters : Letters) (made : List (List Letter)) (written : List CodeCursor) (cursors : List ResolvedCursor) : Type 0 where
+pub record Seeing (code : RawCode) (r : RawRoutine) (letters : List (List Letter)) (made : List (List Letter)) (written : List CodeCursor) (cursors : List ResolvedCursor) : Type 0 where
   pub even : length made ≡ length written
   pub each : Each (λ x. HasLetters code r letters made x.number) cursors
 
-abbrev pub Sees : RawCode → RawRoutine → Letters → FunctionBuilder → List ResolvedCursor → Type 0
+abbrev pub Sees : RawCode → RawRoutine → List (List Letter) → FunctionBuilder → List ResolvedCursor → Type 0
 Sees code r letters p cursors = Seeing code r letters p.letters p.cursors cursors
 
 still-there : {A : Type 0} (xs ys : List A) (n : ℕ) (x : A) → slice_get xs n ≡ Some x → slice_get (xs ++ ys) n ≡ Some x
@@ -72,7 +75,7 @@ still-there (y ∷ xs) ys (suc n) x h = still-there xs ys n x h
 begins-there : {A : Type 0} {xs ys : List A} (n : ℕ) (x : A) → BeginsWith xs ys → slice_get xs n ≡ Some x → slice_get ys n ≡ Some x
 begins-there {xs = xs} n x b h = ap (λ l. slice_get l n) b.is ∙ still-there xs b.more n x h
 
-module _ (code : RawCode) (r : RawRoutine) (letters : Letters) where
+module _ (code : RawCode) (r : RawRoutine) (letters : List (List Letter)) where
   each-later : {made more : List (List Letter)} → BeginsWith made more → (xs : List ResolvedCursor) → Each (λ x. HasLetters code r letters made x.number) xs → Each (λ x. HasLetters code r letters more x.number) xs
   each-later b [] h = tt
   each-later b (x ∷ xs) h =
@@ -83,12 +86,17 @@ module _ (code : RawCode) (r : RawRoutine) (letters : Letters) where
   each-both made [] ys a b = b
   each-both made (x ∷ xs) ys a b = (a.0, each-both made xs ys a.1 b)
 
-  -- ---- cursors that are declared
+-- ---- cursors that are declared
 
-  pub declared-letters : {known : Known} {xs : List ResolvedCursor} {p q : FunctionBuilder} (to : ℕ) → QueriesKeep known code r → WritesCursors known xs p q → Kept q r → Each (WellFormedCursor known letters) xs → CountsUp (length p.cursors) (numbers_of xs) to → length p.letters ≡ length p.cursors
-      → Each (λ x. HasLetters code r letters q.letters x.number) xs
-  declared-letters to keep written.no_cursor k well_formed n even = tt
-  declared-letters {known} {q = q} to keep (written.cursor {x = x} {xs = xs} {p = p} made m others) k well_formed n even =
+module _ {e : TypingContext} {known : Known} {code : RawCode} {r : RawRoutine} (keeps : Keeps e known code r) where
+  -- what is known of a cursor has the letters of its query
+  shape-letters : (x : ResolvedCursor) → IsCursor e x → slice_get (letters_of_shapes e) x.number ≡ Some (item_letters known x.query)
+  shape-letters x c = slice_get-map (λ s. s.letters) e.shapes x.number ∙ ap (option_map (λ s. s.letters)) c.shape ∙ ap Some (sym (keeps.items x.query c.letters c.query))
+
+  pub declared-letters : {xs : List ResolvedCursor} {p q : FunctionBuilder} (to : ℕ) → WritesCursors known xs p q → Kept q r → Each (IsCursor e) xs → CountsUp (length p.cursors) (numbers_of xs) to → length p.letters ≡ length p.cursors
+      → Each (λ x. HasLetters code r (letters_of_shapes e) q.letters x.number) xs
+  declared-letters to written.no_cursor k typed n even = tt
+  declared-letters {q = q} to (written.cursor {x = x} {xs = xs} {p = p} made m others) k typed n even =
       let items = item_letters known x.query in
       let next = with_cursor known x made p in
       let here = kept-earlier {but = no_context} (grown-cursors others) k in
@@ -100,15 +108,15 @@ module _ (code : RawCode) (r : RawRoutine) (letters : Letters) where
       let letters_there : slice_get next.letters (length p.letters) ≡ Some items = there_at p.letters (record { more = []; is = sym (append-nil (p.letters ++ items ∷ [])) }) in (
         record {
           items = items;
-          tree = well_formed.0.items;
+          tree = shape-letters x typed.0;
           parts = ap (slice_get q.letters) (n.0 ∙ sym even) ∙ begins-there (length p.letters) items (lettered-cursors others).more letters_there;
           there = ap there at;
-          coded = ap (λ o. of_cursor (query_letters code r) (option_map (λ y. y.query) o)) at ∙ ap (option_map (letters_of_query code r)) query ∙ ap Some (keep x.query made (length p.code.queries) m query);
+          coded = ap (λ o. of_cursor (query_letters code r) (option_map (λ y. y.query) o)) at ∙ ap (option_map (letters_of_query code r)) query ∙ ap Some (keeps.queries x.query made (length p.code.queries) m query);
         },
-        declared-letters to keep others k well_formed.1 (subst (λ i. CountsUp i (numbers_of xs) to) (sym longer) n.1) (more ∙ ap suc even ∙ sym longer),
+        declared-letters to others k typed.1 (subst (λ i. CountsUp i (numbers_of xs) to) (sym longer) n.1) (more ∙ ap suc even ∙ sym longer),
       )
 
-module _ {code : RawCode} {r : RawRoutine} {letters : Letters} where
+module _ {code : RawCode} {r : RawRoutine} {letters : List (List Letter)} where
   pub sees-later : {ls ms : List (List Letter)} {cs ds : List CodeCursor} {xs : List ResolvedCursor} → Lettering ls cs ms ds → Seeing code r letters ls cs xs → Seeing code r letters ms ds xs
   sees-later {xs = xs} l s = record { even = l.even s.even; each = each-later code r letters l.more xs s.each }
 
@@ -130,6 +138,11 @@ module _ {code : RawCode} {r : RawRoutine} {letters : Letters} where
   pub cursor-there : (p : FunctionBuilder) (s : StatementScope) (number : ℕ) → IsSeen s number → Sees code r letters p s.cursors → CursorThere code r p number
   cursor-there p s number h sees = letters-there p (find-letters number s.cursors h sees.each)
 
-  -- and variables for the letters of its items are for those that are written
-  pub cursor-slots : (e : TypingContext) (p : FunctionBuilder) (s : StatementScope) (number : ℕ) (slots : List ℕ) → IsSeen s number → Sees code r letters p s.cursors → AreSlots e slots (letters_at letters number) → AreSlots e slots (letters_at p.letters number)
-  cursor-slots e p s number slots h sees a = let l = find-letters number s.cursors h sees.each in subst (AreSlots e slots) (ap letters_or (l.tree ∙ sym l.parts)) a
+-- variables for the items of the rows of a cursor are for those that are written
+pub slots-for : (e : TypingContext) {code : RawCode} {r : RawRoutine} {made : List (List Letter)} {number : ℕ} (slots : List ℕ) → HasLetters code r (letters_of_shapes e) made number → AreForItems e number slots → AreOf (variables_of e) slots (letters_at made number)
+slots-for e {number = number} slots l a =
+    let shape : slice_get (letters_of_shapes e) number ≡ Some a.shape.letters = slice_get-map (λ s. s.letters) e.shapes number ∙ ap (option_map (λ s. s.letters)) a.known in
+    subst (AreOf (variables_of e) slots) (ap letters_or (sym shape ∙ l.tree ∙ sym l.parts)) a.slots
+
+pub cursor-slots : (e : TypingContext) {code : RawCode} {r : RawRoutine} (p : FunctionBuilder) (s : StatementScope) (number : ℕ) (slots : List ℕ) → IsSeen s number → Sees code r (letters_of_shapes e) p s.cursors → AreForItems e number slots → AreOf (variables_of e) slots (letters_at p.letters number)
+cursor-slots e p s number slots h sees a = slots-for e slots (find-letters number s.cursors h sees.each) a

@@ -13,8 +13,7 @@ use Rattle.psm_exprgen.specs.declared.known.Known.{Known}
 use Rattle.psm_exprgen.specs.Written.{letters_at}
 use Rattle.psm_codegen.specs.FunctionBuilder.{FunctionBuilder}
 use Rattle.psm_codegen.specs.Simples.{letters_of_columns}
-use Rattle.psm_typing.specs.TypingContext.{TypingContext}
-use Rattle.psm_wellformed.specs.Slots.{AreSlots}
+use Rattle.psm_typing.specs.TypingContext.{AreOf, TypingContext, variables_of}
 
 abbrev pub ConditionThere : RawRoutine → ResolvedCondition → Type 0
 ConditionThere r (conditions.State s) = Unit {0}
@@ -29,6 +28,6 @@ TypeChecks e known code r p (simples.Signal s) = ConditionThere r s.condition
 TypeChecks e known code r p (simples.Resignal (Some s)) = ConditionThere r s.condition
 TypeChecks e known code r p (simples.Insert table columns (given.Values rows)) = letters_in columns (table_letters code table) ≡ Some (letters_of_columns known table columns)
 TypeChecks e known code r p (simples.Open cursor) = CursorThere code r p cursor
-TypeChecks e known code r p (simples.Fetch cursor slots) = CursorThere code r p cursor × AreSlots e slots (letters_at p.letters cursor)
+TypeChecks e known code r p (simples.Fetch cursor slots) = CursorThere code r p cursor × AreOf (variables_of e) slots (letters_at p.letters cursor)
 TypeChecks e known code r p (simples.Close cursor) = CursorThere code r p cursor
 TypeChecks e known code r p x = Unit {0}

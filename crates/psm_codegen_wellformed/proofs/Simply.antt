@@ -19,7 +19,7 @@ use Rattle.psm_code.specs.declared.code.RawRoutine.{RawRoutine}
 use Rattle.psm_code.specs.declared.instruction.Instruction.TheVariants as instruction
 use Rattle.psm_code.specs.Instructions.{last, letters_of_query, of_routine, parameter_letters, procedure_effect, putting}
 use Rattle.psm_code.specs.Parts.{giving, routine_at}
-use Rattle.psm_code.specs.Rules.{is_some, is_there, there, where_there}
+use Rattle.psm_code.specs.Rules.{is_there, there, where_there}
 use Rattle.psm_meaning.specs.Calls.{returns}
 use Rattle.psm_simulation.specs.Scheme.{slots_given}
 use Rattle.psm_exprgen.specs.declared.known.Known.{Known}
@@ -30,12 +30,10 @@ use Rattle.psm_codegen.specs.Files.{letter_of_result}
 use Rattle.psm_codegen.specs.FunctionBuilder.{FunctionBuilder}
 use Rattle.psm_codegen.specs.Simples.{CallArguments, Signals, cleared, condition_items, more_operands, number_op, retrieved, statement_items, stored}
 use Rattle.psm_typing.specs.Expressions.{IsExpr}
-use Rattle.psm_typing.specs.TypingContext.{TypingContext, letters_of, taken_by}
-use Rattle.psm_typing.specs.Statements.{AreArguments, IsFor, IsMessage}
+use Rattle.psm_typing.specs.TypingContext.{AreOf, Each, HasSome, TypingContext, letters_of, taken_by, variables_of}
+use Rattle.psm_typing.specs.Statements.{AreArguments, IsFor, IsMessage, IsNumber, SlotOf, condition_letter, statement_letter}
 use Rattle.psm_codegen_wellformed.specs.Frame.{WellFormedLines}
-use Rattle.psm_wellformed.specs.Slots.{AreSlots, SlotOf}
 use Rattle.psm_codegen_wellformed.specs.Kept.{Keeps, KeepsProcedure, KeepsRoutine, letters_given}
-use Rattle.psm_wellformed.specs.Simples.{ConditionSlots, NumberOf, WellFormedArguments, StatementSlots}
 use Rattle.psm_codegen_wellformed.proofs.Lines.{Does}
 use Rattle.psm_codegen_wellformed.proofs.Procedures.{slots-back}
 use Rattle.psm_codegen_wellformed.proofs.WellFormedSequences.{alone-well_formed, clear-well_formed, last-well_formed, puts-well_formed, query-well_formed, well_formed-then, source-part}
@@ -67,13 +65,13 @@ module _ {e : TypingContext} {known : Known} {code : RawCode} {r : RawRoutine} {
 
   -- CALL stands in a procedure
   pub call-statement : (n : ℕ) (args : List ResolvedArgument) (ps : List ResolvedParameter) (p : FunctionBuilder) (w : Written) → CallArguments known context resume (letters_at known.takes n) 0 args (cleared context p) w
-      → KeepsProcedure known code n (letters_of (taken_by ps)) (letters_given ps) → e.routine.returns ≡ None → AreArguments e args ps → WellFormedArguments e args ps → p.code.stack ≡ []
+      → KeepsProcedure known code n (letters_of (taken_by ps)) (letters_given ps) → e.routine.returns ≡ None → AreArguments e args ps → p.code.stack ≡ []
       → WellFormedLines code r context resume p.code (stored context resume (λ slot. instruction.Store slot) (slots_given args) (puts context resume (instruction.Call n) (more_operands p w) (letters_at known.gives n) w)) []
-  call-statement n args ps p w a kept none t o q =
+  call-statement n args ps p w a kept none t q =
       let ks = letters_of (taken_by ps) in
       let js = letters_given ps in
       let zero : WellFormedLines code r context resume p.code (cleared context p) [] = clear-well_formed p.code q in
-      let one = call-well_formed keeps a ps kept.takes t o in
+      let one = call-well_formed keeps a ps kept.takes t in
       let all : w.stack ≡ reverse ks ++ [] = one.stack ∙ ap (λ z. reverse ks ++ z) q in
       let many : length w.stack ≡ length (reverse ks) = ap length (all ∙ append-nil (reverse ks)) in
       let below : length p.code.stack ≡ 0 = ap length q in
@@ -89,7 +87,7 @@ module _ {e : TypingContext} {known : Known} {code : RawCode} {r : RawRoutine} {
       let called = puts context resume (instruction.Call n) (more_operands p w) (letters_at known.gives n) w in
       let two : WellFormedLines code r context resume w called (js ++ []) = subst (λ ls. WellFormedLines code r context resume w (puts context resume (instruction.Call n) (more_operands p w) ls w) (js ++ [])) (sym kept.gives)
       (puts-well_formed (instruction.Call n) (codes "CALL") (reverse ks) js [] (more_operands p w) w does (record { stands = refl; right = λ l. refl; following = λ l. refl }) refl (omega (arith, many, below)) all) in
-      well_formed-then zero (well_formed-then one (well_formed-then two (stored-well_formed keeps (slots_given args) js [] called (slots-back e args ps t o) two.stack)))
+      well_formed-then zero (well_formed-then one (well_formed-then two (stored-well_formed keeps (slots_given args) js [] called (slots-back e args ps t) two.stack)))
 
   -- ---- conditions, whose number is there
 
@@ -111,10 +109,10 @@ module _ {e : TypingContext} {known : Known} {code : RawCode} {r : RawRoutine} {
 
   -- ---- GET DIAGNOSTICS
 
-  pub statement_diagnostics-well_formed : (area : DiagnosticsArea) (items : List (ℕ × StatementItem)) (w : Written) → StatementSlots e items → w.stack ≡ [] → WellFormedLines code r context resume w (statement_items context resume area items w) []
+  pub statement_diagnostics-well_formed : (area : DiagnosticsArea) (items : List (ℕ × StatementItem)) (w : Written) → Each (λ i. SlotOf e i.0 (statement_letter i.1)) items → w.stack ≡ [] → WellFormedLines code r context resume w (statement_items context resume area items w) []
   statement_diagnostics-well_formed area items w h q = statement_items-well_formed keeps area items [] w h q
 
-  pub condition_diagnostics-well_formed : (area : DiagnosticsArea) (n : ResolvedNumber) (items : List (ℕ × ConditionItem)) (w : Written) → is_some items ≡ true → NumberOf e n → ConditionSlots e items → w.stack ≡ []
+  pub condition_diagnostics-well_formed : (area : DiagnosticsArea) (n : ResolvedNumber) (items : List (ℕ × ConditionItem)) (w : Written) → HasSome items → IsNumber e n → Each (λ i. SlotOf e i.0 (condition_letter i.1)) items → w.stack ≡ []
       → WellFormedLines code r context resume w (condition_items context resume area items (applied context resume (number_op n) 0 N w)) []
   condition_diagnostics-well_formed area n items w some h g q =
       let one = number-well_formed keeps n w h in
@@ -122,7 +120,7 @@ module _ {e : TypingContext} {known : Known} {code : RawCode} {r : RawRoutine} {
 
   -- ---- SELECT INTO, where the routine has the query at its number
 
-  pub select_into-well_formed : (query : ResolvedQuery) (made : Query) (slots : List ℕ) (p : FunctionBuilder) → QueryMade known query made → slice_get r.queries (length p.code.queries) ≡ Some made → AreSlots e slots (item_letters known query) → p.code.stack ≡ []
+  pub select_into-well_formed : (query : ResolvedQuery) (made : Query) (slots : List ℕ) (p : FunctionBuilder) → QueryMade known query made → slice_get r.queries (length p.code.queries) ≡ Some made → AreOf (variables_of e) slots (item_letters known query) → p.code.stack ≡ []
       → WellFormedLines code r context resume p.code (retrieved context resume slots (puts context resume (instruction.Row (length p.code.queries)) 0 (item_letters known query) (with_query made (cleared context p)))) []
   select_into-well_formed query made slots p m at h q =
       let n = length p.code.queries in

@@ -17,9 +17,9 @@ use Rattle.psm_code.specs.Parts.{slots_of}
 use Rattle.psm_exprgen.specs.declared.known.Known.{Known}
 use Rattle.psm_exprgen.specs.Written.{Written, applied, last_letter, takes}
 use Rattle.psm_codegen.specs.Simples.{copied, retrieved, stored}
-use Rattle.psm_typing.specs.TypingContext.{TypingContext}
+use Rattle.psm_typing.specs.TypingContext.{AreOf, Each, TypingContext, variables_of}
+use Rattle.psm_typing.specs.Statements.{SlotOf}
 use Rattle.psm_codegen_wellformed.specs.Frame.{WellFormedLines}
-use Rattle.psm_wellformed.specs.Slots.{AreSlots, EachOf, SlotOf}
 use Rattle.psm_codegen_wellformed.specs.Kept.{Keeps}
 use Rattle.psm_codegen_wellformed.proofs.Asking.{drop-does}
 use Rattle.psm_codegen_wellformed.proofs.Forms.{there-mapped}
@@ -54,7 +54,7 @@ module _ {e : TypingContext} {known : Known} {code : RawCode} {r : RawRoutine} (
     pub store-well_formed : (slot : ℕ) (k : Letter) (s : List Letter) (w : Written) → SlotOf e slot k → w.stack ≡ k ∷ s → WellFormedLines code r context resume w (takes context resume (instruction.Store slot) 1 w) s
     store-well_formed slot k s w h q = puts-well_formed (instruction.Store slot) (codes "STORE") (k ∷ []) [] s 1 w (store-does slot k h) (calm-store slot) refl refl q
 
-    pub stored-well_formed : (slots : List ℕ) (ks s : List Letter) (w : Written) → AreSlots e slots ks → w.stack ≡ ks ++ s → WellFormedLines code r context resume w (stored context resume (λ slot. instruction.Store slot) slots w) s
+    pub stored-well_formed : (slots : List ℕ) (ks s : List Letter) (w : Written) → AreOf (variables_of e) slots ks → w.stack ≡ ks ++ s → WellFormedLines code r context resume w (stored context resume (λ slot. instruction.Store slot) slots w) s
     stored-well_formed [] [] s w h q = well_formed-none q
     stored-well_formed [] (k ∷ ks) s w h q = absurd h
     stored-well_formed (slot ∷ slots) [] s w h q = absurd h
@@ -62,7 +62,7 @@ module _ {e : TypingContext} {known : Known} {code : RawCode} {r : RawRoutine} (
         let one : WellFormedLines code r context resume w (takes context resume (instruction.Store slot) 1 w) (ks ++ s) = store-well_formed slot k (ks ++ s) w h.0 q in
         well_formed-then one (stored-well_formed slots ks s (takes context resume (instruction.Store slot) 1 w) h.1 one.stack)
 
-    retrieved-each : (slots : List ℕ) (ks s : List Letter) (w : Written) → AreSlots e slots ks → w.stack ≡ ks ++ s → WellFormedLines code r context resume w (stored context resume (λ slot. instruction.FetchStore slot) slots w) s
+    retrieved-each : (slots : List ℕ) (ks s : List Letter) (w : Written) → AreOf (variables_of e) slots ks → w.stack ≡ ks ++ s → WellFormedLines code r context resume w (stored context resume (λ slot. instruction.FetchStore slot) slots w) s
     retrieved-each [] [] s w h q = well_formed-none q
     retrieved-each [] (k ∷ ks) s w h q = absurd h
     retrieved-each (slot ∷ slots) [] s w h q = absurd h
@@ -72,14 +72,14 @@ module _ {e : TypingContext} {known : Known} {code : RawCode} {r : RawRoutine} (
         well_formed-then one (retrieved-each slots ks s (takes context resume (instruction.FetchStore slot) 1 w) h.1 one.stack)
 
     -- the items of a row
-    pub retrieved-well_formed : (slots : List ℕ) (ks : List Letter) (w : Written) → AreSlots e slots ks → w.stack ≡ ks → WellFormedLines code r context resume w (retrieved context resume slots w) []
+    pub retrieved-well_formed : (slots : List ℕ) (ks : List Letter) (w : Written) → AreOf (variables_of e) slots ks → w.stack ≡ ks → WellFormedLines code r context resume w (retrieved context resume slots w) []
     retrieved-well_formed slots ks w h q =
         let all = retrieved-each slots ks [] w h (q ∙ sym (append-nil ks)) in
         well_formed-then all (alone-well_formed instruction.Warn (codes "WARN") [] (stored context resume (λ slot. instruction.FetchStore slot) slots w)
         (record { names = refl; place = refl; fits = refl; value = N; other = B; is_value = refl; effect = refl }) (record { right = λ l. refl; following = λ l. refl; stays = refl }) all.stack)
 
     -- the last operand goes into each of several variables of its letter
-    pub copied-well_formed : (slots : List ℕ) (k : Letter) (s : List Letter) (w : Written) → is_value k ≡ true → EachOf e slots k → w.stack ≡ k ∷ s → WellFormedLines code r context resume w (copied context resume slots w) s
+    pub copied-well_formed : (slots : List ℕ) (k : Letter) (s : List Letter) (w : Written) → is_value k ≡ true → Each (λ slot. SlotOf e slot k) slots → w.stack ≡ k ∷ s → WellFormedLines code r context resume w (copied context resume slots w) s
     copied-well_formed [] k s w v h q = puts-well_formed (instruction.Operation op.Drop) (codes "DROP") (k ∷ []) [] s 1 w (drop-does k v) (calm-operation op.Drop) refl refl q
     copied-well_formed (slot ∷ []) k s w v h q = store-well_formed slot k s w h.0 q
     copied-well_formed (slot ∷ t ∷ slots) k s w v h q =

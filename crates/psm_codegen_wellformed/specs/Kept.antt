@@ -8,6 +8,7 @@ use Rattle.psm_exprcode.specs.Kinds.{letter_of}
 use Rattle.psm_resolved.specs.declared.expr.ResolvedQuery.{ResolvedQuery}
 use Rattle.psm_resolved.specs.declared.file.ResolvedParameter.{ResolvedParameter}
 use Rattle.psm_resolved.specs.declared.file.ResolvedRoutine.{ResolvedRoutine}
+use Rattle.psm_resolved.specs.declared.file.ResolvedTable.{ResolvedTable}
 use Rattle.psm_meaning.specs.Calls.{function_at, procedure_at, returns}
 use Rattle.psm_code.specs.declared.code.RawCode.{RawCode}
 use Rattle.psm_code.specs.declared.code.RawRoutine.{RawRoutine}
@@ -46,6 +47,10 @@ FunctionTakes r = returns r.returns ≡ true → list_all (λ p. not (gives_back
 -- the items of each query of the routine are of the letters that are known of the query for which it is made
 abbrev pub QueriesKeep : Known → RawCode → RawRoutine → Type 0
 QueriesKeep known code r = (query : ResolvedQuery) (made : Query) (n : ℕ) → QueryMade known query made → slice_get r.queries n ≡ Some made → letters_of_query code r made ≡ item_letters known query
+
+-- the letters of the columns of tables are known
+abbrev pub KnowsColumns : TypingContext → Known → Type 0
+KnowsColumns e known = (table : ℕ) (t : ResolvedTable) → slice_get e.file.tables table ≡ Some t → letters_at known.columns table ≡ typing_contexts.columns_of t
 
 pub record Keeps (e : TypingContext) (known : Known) (code : RawCode) (r : RawRoutine) : Type 0 where
   pub variables : variables_of r ≡ known.variables

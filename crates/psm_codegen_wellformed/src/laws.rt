@@ -16,7 +16,8 @@ ghost use Rattle.psm_typing.specs.Expressions.{IsExpr};
 ghost use Rattle.psm_typing.specs.TypingContext.{TypingContext};
 ghost use Rattle.psm_codegen_wellformed.specs.Frame.{Ends, Follows, Free};
 ghost use Rattle.psm_codegen_wellformed.specs.Kept.{Keeps};
-ghost use Rattle.psm_wellformed.specs.Files.{WellFormedFile, WellFormedRoutine, typing_context_of};
+ghost use Rattle.psm_typing.specs.Files.{typing_context_of};
+ghost use Rattle.psm_wellformed.specs.Files.{WellFormedFile, WellFormedRoutine};
 
 /// The lines that are written for a well-typed expression are well-formed, in code that keeps the letters of its file: they stand in the
 /// context of their statement, in a routine whose first line is the routine's own, before a line at which a run goes on after a
@@ -30,7 +31,7 @@ pub fn expressions_break_no_rule()
 /// Code that is written for a well-formed file keeps the letters of the file: in each routine those of its variables, of the functions of
 /// the file and of the items of its queries are the letters that are known where its lines are written.
 pub fn written_code_keeps_letters()
-    ensures routines { (file : ResolvedFile) (code : RawCode) (n : ℕ) (routine : ResolvedRoutine) (r : RawRoutine) → FileWritten file code → WellFormedFile file → (well_formed : WellFormedRoutine file routine) → slice_get file.routines n ≡ Some routine → RoutineWritten (known_of file routine) routine r → Keeps (typing_context_of file routine well_formed.shapes) (known_of file routine) code r }
+    ensures routines { (file : ResolvedFile) (code : RawCode) (n : ℕ) (routine : ResolvedRoutine) (r : RawRoutine) → FileWritten file code → WellFormedFile file → (well_formed : WellFormedRoutine file routine) → slice_get file.routines n ≡ Some routine → RoutineWritten (known_of file routine) routine r → Keeps (typing_context_of file routine well_formed.typed.shapes) (known_of file routine) code r }
 {}
 
 /// Code that is written for a well-formed file is well-formed: neither its tables nor its routines, with all their parts, do.

@@ -23,7 +23,7 @@ use Rattle.psm_typing.specs.Statements.{AreForItems, IsCursor, IsSeen, IsSlot, S
 use Rattle.psm_typing.specs.States.{AreShaped, IsShaped, IsState}
 use Rattle.psm_typing.specs.EvalContexts.{IsEvalContext}
 use Rattle.psm_typing.proofs.Answers.{Perhaps, Right, Row, each-more, right-any, right-mapped, right-ok, right-then}
-use Rattle.psm_typing.proofs.Assigning.{holds-assign_all, holds-retrieve_all}
+use Rattle.psm_typing.proofs.Assigning.{holds-assign_all, holds-retrieve_all, of-length}
 use Rattle.psm_typing.proofs.Evaluating.{holds-answer_of, holds-table_now, some_same}
 use Rattle.psm_typing.proofs.Fitting.{row-length, shaped-at, shaped-closed, shaped-set}
 use Rattle.psm_typing.proofs.Holding.{Anything, Holds, holds-bind, holds-change, holds-cleared, holds-got, holds-present, holds-raises, holds-read, holds-there, holds-tried}
