@@ -9,8 +9,10 @@ use Rattle.psm_resolved.specs.declared.expr.ResolvedWhen.{ResolvedWhen}
 use Rattle.psm_value.specs.declared.sqltype.SqlType.{SqlType}
 use Rattle.psm_resolved.specs.declared.file.ParameterMode.{ParameterMode}
 use Rattle.psm_resolved.specs.declared.file.ParameterMode.TheVariants as modes
+use Rattle.psm_resolved.specs.declared.file.ResolvedFile.{ResolvedFile}
 use Rattle.psm_resolved.specs.declared.file.ResolvedParameter.{ResolvedParameter}
 use Rattle.psm_simulation.specs.Expressions.{Layer, wants}
+use Rattle.psm_exprgen.specs.declared.known.Known.{Known}
 use Rattle.psm_codegen.specs.Outside as outside
 use Rattle.psm_codegen.specs.Outside.{AllOutside, LayerOutside, ChainLinksOutside, Outside, PerhapsOutside, WhensOutside}
 use Rattle.psm_typing.specs.Expressions as well_typed
@@ -36,8 +38,8 @@ count-taken (p ∷ ps) = taken-more p.mode p.kind p ps (taken_by ps) refl (count
 
 -- ---- expressions
 
-at : {e : TypingContext} {x : ResolvedExpr} {layer : Layer} → out-ResolvedExpr x ≡ layer → LayerOutside e.file (known_in e) layer → Outside e.file (known_in e) x
-at {e = e} q h = outside.outside (subst (LayerOutside e.file (known_in e)) (sym q) h)
+at : {file : ResolvedFile} {known : Known} {x : ResolvedExpr} {layer : Layer} → out-ResolvedExpr x ≡ layer → LayerOutside file known layer → Outside file known x
+at {file} {known} q h = outside.outside (subst (LayerOutside file known) (sym q) h)
 
 mutual
   pub stands-outside : {e : TypingContext} {b : Bool} {x : ResolvedExpr} {k : Letter} → IsExpr e b x k → Outside e.file (known_in e) x
