@@ -153,7 +153,7 @@ value_some e checker_scope resolver_scope a r x well k none =
 record AreOfSome (e : TypingContext) (xs : List ResolvedExpr) : Type 0 where
   letters : List Letter
   values : Each (λ k. IsTrue (is_value k)) letters
-  exprs : AreExprs e xs letters
+  exprs : AreExprs e true xs letters
   many : length xs ≡ length letters
 
 abbrev pub AllSource : List Expr → Type 0
