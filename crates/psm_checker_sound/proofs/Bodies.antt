@@ -29,8 +29,7 @@ use Rattle.psm_meaning.specs.Calls.{returns}
 use Rattle.psm_exprgen.specs.Writing.{BeginsWith}
 use Rattle.psm_codegen.specs.Files.{known_of}
 use Rattle.psm_typing.specs.TypingContext.{Each, TypingContext, Shape}
-use Rattle.psm_wellformed.specs.Files.{body, typing_context_of}
-use Rattle.psm_wellformed.specs.Statements.{Letters}
+use Rattle.psm_typing.specs.Files.{body, typing_context_of}
 use Rattle.psm_checker_sound.specs.Agreement.{Agree, AreFunctions, AreTables, HasSlot, HaveColumns, IsWithin}
 use Rattle.psm_checker_sound.specs.Meant.{IsProcedureMeant}
 use Rattle.psm_checker_sound.specs.Numbered.{AreBelow}
@@ -133,9 +132,9 @@ head-agrees e w v o d name us vs h = record {
   slots = (h.there, tt);
 }
 
-stands-head : (e : TypingContext) (letters : Letters) (w v : SymbolTable) (o : Option DataType) → Declares e w v o → (name : Spelling) (us vs : Parameters) → AreHere e.routine.slots us vs
-    → StandsAt e (known_of e.file e.routine) letters body (seen_at w name us (kind_of_routine o)) (resolved_at v name vs)
-stands-head e letters w v o d name us vs h = record {
+stands-head : (e : TypingContext) (w v : SymbolTable) (o : Option DataType) → Declares e w v o → (name : Spelling) (us vs : Parameters) → AreHere e.routine.slots us vs
+    → StandsAt e (known_of e.file e.routine) body (seen_at w name us (kind_of_routine o)) (resolved_at v name vs)
+stands-head e w v o d name us vs h = record {
   agree = head-agrees e w v o d name us vs h;
   meant = record { conditions = λ n. tt; cursors = λ n. tt; labels = λ n. tt; procedures = d.procedures };
   cursors = λ n. tt;
@@ -181,17 +180,17 @@ file-declares f p r a shapes = record {
   procedure_alone = no-result r.returns;
 }
 
-pub body-stands : (f : FileTree) → FileParts f → (r : Routine) → IsAccepted (symbols_of f) r → (shapes : List Shape) (letters : Letters)
+pub body-stands : (f : FileTree) → FileParts f → (r : Routine) → IsAccepted (symbols_of f) r → (shapes : List Shape)
     → BeginsWith (map type_in_slot r.parameters) (resolve_routine (known_symbols f) r).slots
-    → StandsAt (typing_context_in f r shapes) (known_of (resolved_file f) (resolve_routine (known_symbols f) r)) letters body (body_context (symbols_of f) r) (body_resolver_scope f r)
-body-stands f p r a shapes letters b =
+    → StandsAt (typing_context_in f r shapes) (known_of (resolved_file f) (resolve_routine (known_symbols f) r)) body (body_context (symbols_of f) r) (body_resolver_scope f r)
+body-stands f p r a shapes b =
     let e : TypingContext = typing_context_in f r shapes in
     let us : Parameters = seen_parameters [] r.parameters in
     let vs : Parameters = resolved_parameters [] nothing_numbered r.parameters in
     let here : AreHere e.routine.slots us vs = parameters-here e.routine.slots b.more [] [] nothing_numbered r.parameters (parameters-known (is_function r) r.parameters a.parameters) b.is (record { alike = refl; there = tt }) in
-    subst (λ fs. StandsAt e (known_of e.file e.routine) letters body (record { checker_scope = record { symbols = symbols_of f; scopes = fs; row = None }; within = kind_of_routine r.returns }) (body_resolver_scope f r)) (sym (seen-scopes r.name.name [] r.parameters))
-    (subst (λ fs. StandsAt e (known_of e.file e.routine) letters body (seen_at (symbols_of f) r.name.name us (kind_of_routine r.returns)) (record { symbols = known_symbols f; scopes = fs; row = None })) (sym (resolved-scopes r.name.name [] nothing_numbered r.parameters))
-    (stands-head e letters (symbols_of f) (known_symbols f) r.returns (file-declares f p r a shapes) r.name.name us vs here))
+    subst (λ fs. StandsAt e (known_of e.file e.routine) body (record { checker_scope = record { symbols = symbols_of f; scopes = fs; row = None }; within = kind_of_routine r.returns }) (body_resolver_scope f r)) (sym (seen-scopes r.name.name [] r.parameters))
+    (subst (λ fs. StandsAt e (known_of e.file e.routine) body (seen_at (symbols_of f) r.name.name us (kind_of_routine r.returns)) (record { symbols = known_symbols f; scopes = fs; row = None })) (sym (resolved-scopes r.name.name [] nothing_numbered r.parameters))
+    (stands-head e (symbols_of f) (known_symbols f) r.returns (file-declares f p r a shapes) r.name.name us vs here))
 
 -- nothing is numbered there but parameters
 pub body-below : (r : Routine) (n : Numbering) → AreBelow n (routine_numbered r).0

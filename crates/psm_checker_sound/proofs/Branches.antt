@@ -16,7 +16,6 @@ use Rattle.psm_resolve_expr.specs.ResolverScope.{ResolverScope}
 use Rattle.psm_exprgen.specs.declared.known.Known.{Known}
 use Rattle.psm_typing.specs.TypingContext.{Each, TypingContext}
 use Rattle.psm_typing.specs.Expressions.{IsExpr}
-use Rattle.psm_wellformed.specs.Statements.{Letters}
 use Rattle.psm_checker_sound.specs.Agreement.{Agree}
 use Rattle.psm_checker_sound.specs.StatementsStand as stand
 use Rattle.psm_checker_sound.specs.StatementsStand.{BranchesStand}
@@ -30,7 +29,7 @@ use Rattle.psm_declare.specs.Seen.{expr_at}
 abbrev pub IsGoodBranch : TypingContext → Context → ResolverScope → Letter → Branch → Type 0
 IsGoodBranch e c resolver_scope k b = IsExpr e false (expr_at resolver_scope (out-Branch b).test) k × (faults.all c (map statement_fault (several (out-Branch b).statements)) ≡ None)
 
-module _ (e : TypingContext) (known : Known) (letters : Letters) (parts : PartsWellFormed e known letters) (c : Context) (resolver_scope : ResolverScope) (a : Agree e c.checker_scope resolver_scope) (outside : resolver_scope.row ≡ None) where
+module _ (e : TypingContext) (known : Known) (parts : PartsWellFormed e known) (c : Context) (resolver_scope : ResolverScope) (a : Agree e c.checker_scope resolver_scope) (outside : resolver_scope.row ≡ None) where
   pub searched_good : {xs : List Branch} → BranchesStand xs → first_of (searched c (map branch_part xs)) ≡ None → Each (IsGoodBranch e c resolver_scope B) xs
   searched_good stand.no_branch none = tt
   searched_good (stand.branch {x = x} {xs = xs} t h hs) none =

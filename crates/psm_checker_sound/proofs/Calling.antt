@@ -1,6 +1,6 @@
 -- CALL without a fault is well-typed.
 use Rattle.std.proofs.Common.{◌≡◌, ℕ, suc, Bool, true, false, List, [], ◌∷◌, length, Option, Some, None, option_map, refl, ap, sym, ◌∙◌, subst, arith}
-use Rattle.std.specs.Prelude.{IfSome, if◌then◌else◌, slice_get}
+use Rattle.std.specs.Prelude.{IfSome, if◌then◌else◌}
 use Rattle.psm_token.specs.declared.place.Place.{Place}
 use Rattle.psm_value.specs.declared.sqltype.SqlType.{SqlType}
 use Rattle.psm_scope.specs.Lookup.{as_variable, meant}
@@ -13,8 +13,8 @@ use Rattle.psm_scope.specs.declared.procedures.ProcedureScope.{ProcedureScope}
 use Rattle.psm_rules.specs.declared.fault.Fault.{Fault}
 use Rattle.psm_rules.specs.declared.rule.Rule.TheVariants as rule
 use Rattle.psm_rules.specs.Faults.{breaks, earlier, first_of}
-use Rattle.psm_rules.specs.ExprFaults.{check_expr, name_in, of_meaning, spelling}
-use Rattle.psm_rules.specs.StatementFaults.{argument_fault, arguments_fault, call_fault, family_due, is_passed, mixed_at, is_target, source_fault}
+use Rattle.psm_rules.specs.ExprFaults.{check_expr, name_in, of_meaning, spelling, of_type}
+use Rattle.psm_rules.specs.StatementFaults.{argument_fault, arguments_fault, call_fault, family_due, is_passed, mixed_at, is_target, source_fault, is_same_family}
 use Rattle.psm_rules.specs.CheckerScope.{CheckerScope}
 use Rattle.psm_rules.proofs.Earliest.{first_of_cons}
 use Rattle.psm_check_expr.proofs.Equations.{checked-Name}
@@ -27,34 +27,46 @@ use Rattle.psm_resolve.specs.Statements.{argument_of, arguments_of, call_of, slo
 use Rattle.psm_resolved.specs.declared.file.ResolvedParameter.{ResolvedParameter}
 use Rattle.psm_typing.specs.TypingContext.{Each, TypingContext}
 use Rattle.psm_typing.specs.Statements as places
-use Rattle.psm_typing.specs.Statements.{AreArguments, IsArgument, IsSimple, IsSlot}
+use Rattle.psm_typing.specs.Statements.{AreArguments, IsArgument, IsProcedure, IsSimple, SlotOf}
 use Rattle.psm_checker_sound.specs.Agreement.{Agree, HasSlot}
 use Rattle.psm_checker_sound.specs.Meant.{AreParameters, IsProcedureMeant, Meant, mode_of}
 use Rattle.psm_checker_sound.specs.Simples.{Sourced}
 use Rattle.psm_checker_sound.proofs.Names.{meant_alike, meant_each}
 use Rattle.psm_checker_sound.proofs.Parts.{neither}
-use Rattle.psm_checker_sound.proofs.Simples.{source_for, there_is}
+use Rattle.psm_checker_sound.proofs.Simples.{source_for}
+use Rattle.psm_rules.specs.declared.shape.Shape.TheVariants.{Value}
+use Rattle.psm_rules.specs.Shapes.{family_of, typed}
+use Rattle.psm_exprcode.specs.Kinds.{letter_of}
+use Rattle.psm_checker_sound.proofs.WellFormedSlots.{mixed_same, slot_typed, type_letter}
+use Rattle.psm_checker_sound.proofs.Forms.{typed_letter}
 
--- a variable that is named without a fault has a slot
-name_by : (e : TypingContext) (place : Place) (kind : Option SqlType) (x y : Option Variable) → ◌≡◌ {A = Option (Option SqlType)} (option_map (λ v. v.kind) x) (option_map (λ v. v.kind) y) → IfSome y (HasSlot e.routine.slots)
-    → source_fault kind (of_meaning place (as_variable x)) ≡ None → IsSlot e (slot_in y)
-name_by e place kind None y same h none = absurd (some_none (neither (breaks rule.UnknownName place) (mixed_at place (family_due kind) None) none).0)
+-- a variable that gets a value has the letter that is due
+name_by : (e : TypingContext) (place : Place) (kind : Option SqlType) (t : SqlType) (x y : Option Variable) → ◌≡◌ {A = Option (Option SqlType)} (option_map (λ v. v.kind) x) (option_map (λ v. v.kind) y) → IfSome y (HasSlot e.routine.slots) → kind ≡ Some t
+    → source_fault kind (of_meaning place (as_variable x)) ≡ None → SlotOf e (slot_in y) (letter_of t)
+name_by e place kind t None y same h is none = absurd (some_none (neither (breaks rule.UnknownName place) (mixed_at place (family_due kind) None) none).0)
   where
     some_none : breaks rule.UnknownName place ≡ None → ⊥
     some_none h = cc
-name_by e place kind (Some u) None same h none = absurd cc
-name_by e place kind (Some u) (Some v) same h none = there_is (slice_get e.routine.slots v.slot) h.type h.there
+name_by e place kind t (Some u) None same h is none = absurd cc
+name_by e place kind t (Some u) (Some v) same h is none =
+    let mixed : mixed_at place (family_due kind) (Some (Value (typed h.type))) ≡ None = ap (λ o. source_fault kind (of_type place o)) (sym (kind_same same ∙ h.declared)) ∙ none in
+    let fits : is_same_family (family_due kind) (family_of (typed h.type).kind) ≡ true = mixed_same place kind t (family_of (typed h.type).kind) (Value (typed h.type)) is (λ f. refl) mixed in
+    let letter : letter_of t ≡ letter_of h.type = type_letter t (family_of (typed h.type).kind) (ap (λ o. is_same_family (family_due o) (family_of (typed h.type).kind)) (sym is) ∙ fits) ∙ typed_letter h.type in
+    subst (SlotOf e v.slot) (sym letter) (slot_typed e v.slot h.type h.there)
+  where
+    kind_same : ◌≡◌ {A = Option (Option SqlType)} (Some u.kind) (Some v.kind) → u.kind ≡ v.kind
+    kind_same h = cc
 
-name_slot : (e : TypingContext) (checker_scope : CheckerScope) (resolver_scope : ResolverScope) → Agree e checker_scope resolver_scope → resolver_scope.row ≡ None → (kind : Option SqlType) (t : Target) → source_fault kind (check_expr (written.Name t) checker_scope) ≡ None → IsSlot e (slot_of resolver_scope.scopes t)
-name_slot e checker_scope resolver_scope a r kind t none =
-    let is : check_expr (written.Name t) checker_scope ≡ of_meaning t.first.place (name_in checker_scope None t) = checked-Name t checker_scope ∙ ap (λ row. of_meaning t.first.place (name_in checker_scope row t)) (a.row ∙ r) in
-    name_by e t.first.place kind (meant t.first.name (spelling t.second) checker_scope.scopes) (meant t.first.name (spelling t.second) resolver_scope.scopes)
-    (meant_alike t.first.name (spelling t.second) checker_scope.scopes resolver_scope.scopes a.scopes) (meant_each e.routine.slots t.first.name (spelling t.second) resolver_scope.scopes a.slots)
-    (ap (source_fault kind) (sym is) ∙ none)
+name_slot : (e : TypingContext) (checker_scope : CheckerScope) (resolver_scope : ResolverScope) → Agree e checker_scope resolver_scope → resolver_scope.row ≡ None → (kind : Option SqlType) (t : SqlType) → kind ≡ Some t → (x : Target) → source_fault kind (check_expr (written.Name x) checker_scope) ≡ None → SlotOf e (slot_of resolver_scope.scopes x) (letter_of t)
+name_slot e checker_scope resolver_scope a r kind t is x none =
+    let checked : check_expr (written.Name x) checker_scope ≡ of_meaning x.first.place (name_in checker_scope None x) = checked-Name x checker_scope ∙ ap (λ row. of_meaning x.first.place (name_in checker_scope row x)) (a.row ∙ r) in
+    name_by e x.first.place kind t (meant x.first.name (spelling x.second) checker_scope.scopes) (meant x.first.name (spelling x.second) resolver_scope.scopes)
+    (meant_alike x.first.name (spelling x.second) checker_scope.scopes resolver_scope.scopes a.scopes) (meant_each e.routine.slots x.first.name (spelling x.second) resolver_scope.scopes a.slots) is (ap (source_fault kind) (sym checked) ∙ none)
 
-target_slot_of : (e : TypingContext) (checker_scope : CheckerScope) (resolver_scope : ResolverScope) → Agree e checker_scope resolver_scope → resolver_scope.row ≡ None → (kind : Option SqlType) (x : Expr) → is_target checker_scope.scopes x ≡ true → source_fault kind (check_expr x checker_scope) ≡ None → IsSlot e (target_in resolver_scope.scopes x)
-target_slot_of e checker_scope resolver_scope a r kind (written.Name t) h none = name_slot e checker_scope resolver_scope a r kind t none
-target_slot_of e checker_scope resolver_scope a r kind x h none = absurd cc
+target_slot : (e : TypingContext) (checker_scope : CheckerScope) (resolver_scope : ResolverScope) → Agree e checker_scope resolver_scope → resolver_scope.row ≡ None → (kind : Option SqlType) (t : SqlType) → kind ≡ Some t → (x : Expr) → is_target checker_scope.scopes x ≡ true → source_fault kind (check_expr x checker_scope) ≡ None
+    → SlotOf e (target_in resolver_scope.scopes x) (letter_of t)
+target_slot e checker_scope resolver_scope a r kind t is (written.Name x) h none = name_slot e checker_scope resolver_scope a r kind t is x none
+target_slot e checker_scope resolver_scope a r kind t is x h none = absurd cc
 
 -- ---- arguments
 
@@ -68,10 +80,10 @@ argument_by : (e : TypingContext) (checker_scope : CheckerScope) (resolver_scope
 argument_by e checker_scope resolver_scope a row In kind r m k x well none = (sym m, source_for e checker_scope resolver_scope a row x well kind r.kind k none)
 argument_by e checker_scope resolver_scope a row Out kind r m k x well none =
     let parts = passed_by (is_target checker_scope.scopes x) (check_expr x checker_scope).place (source_fault kind (check_expr x checker_scope)) (check_expr x checker_scope).fault none in
-    (sym m, target_slot_of e checker_scope resolver_scope a row kind x parts.0 parts.1)
+    (sym m, target_slot e checker_scope resolver_scope a row kind r.kind k x parts.0 parts.1)
 argument_by e checker_scope resolver_scope a row InOut kind r m k x well none =
     let parts = passed_by (is_target checker_scope.scopes x) (check_expr x checker_scope).place (source_fault kind (check_expr x checker_scope)) (check_expr x checker_scope).fault none in
-    (sym m, target_slot_of e checker_scope resolver_scope a row kind x parts.0 parts.1)
+    (sym m, target_slot e checker_scope resolver_scope a row kind r.kind k x parts.0 parts.1)
 
 zero_suc : (n : ℕ) → 0 ≡ suc n → ⊥
 zero_suc n h = omega (arith, h)
@@ -90,13 +102,13 @@ arguments_by e checker_scope resolver_scope a row (p ∷ ps) (r ∷ rs) h (x ∷
     let parts = neither (argument_fault checker_scope p x) (first_of (arguments_fault checker_scope ps xs)) (sym (first_of_cons (argument_fault checker_scope p x) (arguments_fault checker_scope ps xs)) ∙ none) in
     (argument_by e checker_scope resolver_scope a row p.mode p.kind r h.0.0 h.0.1 x well.0 parts.0, arguments_by e checker_scope resolver_scope a row ps rs h.1 xs (one_less (length ps) (length xs) many) well.1 parts.1)
 
-call_by : (e : TypingContext) (s : places.StatementScope) (checker_scope : CheckerScope) (resolver_scope : ResolverScope) → Agree e checker_scope resolver_scope → resolver_scope.row ≡ None → (n : Identifier) (xs : List Expr) (known resolved : Option ProcedureScope) → IsProcedureMeant e (length xs) known resolved → Each Sourced xs
+call_by : (e : TypingContext) (s : places.StatementScope) → IsProcedure e → (checker_scope : CheckerScope) (resolver_scope : ResolverScope) → Agree e checker_scope resolver_scope → resolver_scope.row ≡ None → (n : Identifier) (xs : List Expr) (known resolved : Option ProcedureScope) → IsProcedureMeant e (length xs) known resolved → Each Sourced xs
     → call_fault checker_scope n xs known ≡ None → IsSimple e s (call_of resolver_scope xs resolved)
-call_by e s checker_scope resolver_scope a row n xs None resolved m well none = absurd cc
-call_by e s checker_scope resolver_scope a row n xs (Some p) None m well none = absurd m
-call_by e s checker_scope resolver_scope a row n xs (Some p) (Some q) m well none =
-    (m.routine, m.there, subst (λ ps. AreArguments e (arguments_of resolver_scope ps xs) m.routine.parameters) (sym m.same) (arguments_by e checker_scope resolver_scope a row p.parameters m.routine.parameters m.parameters xs m.many well none))
+call_by e s inside checker_scope resolver_scope a row n xs None resolved m well none = absurd cc
+call_by e s inside checker_scope resolver_scope a row n xs (Some p) None m well none = absurd m
+call_by e s inside checker_scope resolver_scope a row n xs (Some p) (Some q) m well none =
+    (m.routine, m.there, subst (λ ps. AreArguments e (arguments_of resolver_scope ps xs) m.routine.parameters) (sym m.same) (arguments_by e checker_scope resolver_scope a row p.parameters m.routine.parameters m.parameters xs m.many well none), inside)
 
-pub call_well_typed : (e : TypingContext) (s : places.StatementScope) (checker_scope : CheckerScope) (resolver_scope : ResolverScope) → Agree e checker_scope resolver_scope → Meant e s checker_scope resolver_scope → resolver_scope.row ≡ None → (n : Identifier) (xs : List Expr) → Each Sourced xs
+pub call_well_typed : (e : TypingContext) (s : places.StatementScope) → IsProcedure e → (checker_scope : CheckerScope) (resolver_scope : ResolverScope) → Agree e checker_scope resolver_scope → Meant e s checker_scope resolver_scope → resolver_scope.row ≡ None → (n : Identifier) (xs : List Expr) → Each Sourced xs
     → call_fault checker_scope n xs (procedure n.name (length xs) checker_scope.symbols.procedures) ≡ None → IsSimple e s (call_of resolver_scope xs (procedure n.name (length xs) resolver_scope.symbols.procedures))
-call_well_typed e s checker_scope resolver_scope a m row n xs well none = call_by e s checker_scope resolver_scope a row n xs (procedure n.name (length xs) checker_scope.symbols.procedures) (procedure n.name (length xs) resolver_scope.symbols.procedures) (m.procedures n.name (length xs)) well none
+call_well_typed e s inside checker_scope resolver_scope a m row n xs well none = call_by e s inside checker_scope resolver_scope a row n xs (procedure n.name (length xs) checker_scope.symbols.procedures) (procedure n.name (length xs) resolver_scope.symbols.procedures) (m.procedures n.name (length xs)) well none

@@ -1,4 +1,4 @@
--- Well-formed statements, made of well-formed parts.
+-- Well-typed statements, made of well-typed parts.
 use Rattle.std.proofs.Common.{◌≡◌, ◌≤◌, ℕ, List, [], ◌∷◌, ◌++◌, Option, None, ap, sym, ◌∙◌, subst}
 use Rattle.psm_rules.specs.declared.fault.Fault.{Fault}
 use Rattle.psm_rules.specs.Faults.{first_of}
@@ -13,9 +13,8 @@ use Rattle.psm_resolved.specs.declared.statement.ResolvedStatement.TheVariants a
 use Rattle.psm_exprgen.specs.declared.known.Known.{Known}
 use Rattle.psm_typing.specs.TypingContext.{Each, TypingContext}
 use Rattle.psm_typing.specs.Statements as places
-use Rattle.psm_typing.specs.Statements.{IsCursor, IsDeclaration, inside}
-use Rattle.psm_wellformed.specs.Statements as well_formed
-use Rattle.psm_wellformed.specs.Statements.{AreActions, AreApart, AreWellFormed, IsWellFormed, Letters, MayHandle, WellFormedCursor, WellFormedDeclaration}
+use Rattle.psm_typing.specs.Statements.{IsCursor, IsDeclaration, inside, AreHandlers, AreStatements, HandleApart, IsStatement, MayHandle}
+use Rattle.psm_typing.specs.Statements as well_typed
 use Rattle.psm_checker_sound.specs.Numbered.{cursors_in}
 use Rattle.psm_checker_sound.proofs.Opening.{block_cursors-out, cursors-out, cursors_of_all, cursors_of_handlers}
 use Rattle.psm_checker_sound.proofs.Parts.{neither}
@@ -26,21 +25,19 @@ abbrev pub BlockParts : Type 0
 BlockParts = ResolvedBlock-F ResolvedStatement ResolvedBlock ResolvedBranch ResolvedHandler
 
 -- the parts of a block, which stands at a level
-pub record AreParts (e : TypingContext) (known : Known) (letters : Letters) (s : places.StatementScope) (level : ℕ) (o : BlockParts) : Type 0 where
+pub record AreParts (e : TypingContext) (known : Known) (s : places.StatementScope) (level : ℕ) (o : BlockParts) : Type 0 where
   pub bound : s.bound ≤ level
   pub declarations : Each (IsDeclaration e) o.declarations
-  pub declared : Each WellFormedDeclaration o.declarations
   pub cursors : Each (IsCursor e) o.cursors
-  pub opened : Each (WellFormedCursor known letters) o.cursors
-  pub apart : AreApart o.handlers
+  pub apart : HandleApart o.handlers
   pub may : Each (MayHandle e o.atomic) o.handlers
-  pub actions : AreActions e known letters level (o.cursors ++ s.cursors) o.handlers
-  pub statements : AreWellFormed e known letters (inside level o.cursors s) o.statements
+  pub actions : AreHandlers e level (o.cursors ++ s.cursors) o.handlers
+  pub statements : AreStatements e (inside level o.cursors s) o.statements
 
-pub compound_of : (e : TypingContext) (known : Known) (letters : Letters) (s : places.StatementScope) (level : ℕ) (o : BlockParts) → AreParts e known letters s level o → IsWellFormed e known letters s (resolved.Compound level (roll-ResolvedBlock o))
-compound_of e known letters s level o p =
-    let h : AreParts e known letters s level (out-ResolvedBlock (roll-ResolvedBlock o)) = subst (AreParts e known letters s level) (sym (out-roll-ResolvedBlock o)) p in
-    well_formed.compound level (roll-ResolvedBlock o) (resolved.outs-Compound level (roll-ResolvedBlock o)) h.bound h.declarations h.declared h.cursors h.opened h.apart h.may h.actions h.statements
+pub compound_of : (e : TypingContext) (known : Known) (s : places.StatementScope) (level : ℕ) (o : BlockParts) → AreParts e known s level o → IsStatement e s (resolved.Compound level (roll-ResolvedBlock o))
+compound_of e known s level o p =
+    let h : AreParts e known s level (out-ResolvedBlock (roll-ResolvedBlock o)) = subst (AreParts e known s level) (sym (out-roll-ResolvedBlock o)) p in
+    well_typed.compound level (roll-ResolvedBlock o) (resolved.outs-Compound level (roll-ResolvedBlock o)) h.bound h.declarations h.cursors h.apart h.may h.actions h.statements
 
 -- its cursors are its own, those in its handlers and those in its statements
 pub compound_cursors : (level : ℕ) (o : BlockParts) → cursors_in (resolved.Compound level (roll-ResolvedBlock o)) ≡ o.cursors ++ (cursors_of_handlers o.handlers ++ cursors_of_all o.statements)

@@ -18,7 +18,6 @@ use Rattle.psm_exprgen.specs.declared.known.Known.{Known}
 use Rattle.psm_typing.specs.TypingContext.{Each, TypingContext}
 use Rattle.psm_typing.specs.Statements as places
 use Rattle.psm_typing.specs.Statements.{IsCursor, IsDeclaration, inside}
-use Rattle.psm_wellformed.specs.Statements.{Letters, WellFormedCursor, WellFormedDeclaration}
 use Rattle.psm_checker_sound.specs.Numbered.{AreBelow, Fills, IsNumbered}
 use Rattle.psm_checker_sound.specs.Places.{StandsAt}
 use Rattle.psm_checker_sound.specs.StatementsStand.{CursorStands, DeclarationStands}
@@ -45,7 +44,7 @@ own_cursors symbols label outer n xs cursors = cursors_of symbols (numbered_by (
 
 -- ---- a block, its declarations and its cursors
 
-module _ (e : TypingContext) (known : Known) (letters : Letters) (parts : PartsWellFormed e known letters) (s : places.StatementScope) (c : Context) (symbols : SymbolTable) (outer : Scopes) (label : Option Spelling) (n : Numbering) (xs : List Declaration) (cursors : List CursorDeclaration) where
+module _ (e : TypingContext) (known : Known) (parts : PartsWellFormed e known) (s : places.StatementScope) (c : Context) (symbols : SymbolTable) (outer : Scopes) (label : Option Spelling) (n : Numbering) (xs : List Declaration) (cursors : List CursorDeclaration) where
   abbrev declared : Numbered
   declared = numbered_by (before label outer n) xs
 
@@ -59,41 +58,37 @@ module _ (e : TypingContext) (known : Known) (letters : Letters) (parts : PartsW
   within = inside (length outer) own s
 
   pub record IsOpened : Type 0 where
-    pub here : IsHere e known letters within (within_scopes c (declared_scopes label c.checker_scope xs cursors)) (at_scopes symbols end.0) end.1
+    pub here : IsHere e known within (within_scopes c (declared_scopes label c.checker_scope xs cursors)) (at_scopes symbols end.0) end.1
     pub declarations : Each (IsDeclaration e) (declarations_of symbols (before label outer n) xs)
-    pub well_formed : Each WellFormedDeclaration (declarations_of symbols (before label outer n) xs)
     pub are_cursors : Each (IsCursor e) own
-    pub well_formed_cursors : Each (WellFormedCursor known letters) own
     pub types : AreTypes n → AreTypes end.1
 
-  here_of : (fs : checker_scopes.Scopes) (t : Numbered) → Walked e known letters within c symbols outer label n fs t → IsHere e known letters within (within_scopes c fs) (at_scopes symbols t.0) t.1
+  here_of : (fs : checker_scopes.Scopes) (t : Numbered) → Walked e known within c symbols outer label n fs t → IsHere e known within (within_scopes c fs) (at_scopes symbols t.0) t.1
   here_of fs t w = record {
-    stands = subst (λ g. StandsAt e known letters within (within_scopes c g) (at_scopes symbols t.0)) (sym w.scopes)
-        (subst (λ g. StandsAt e known letters within (within_scopes c (scope.Compound label w.d ∷ c.checker_scope.scopes)) (at_scopes symbols g)) (sym w.numbered_scopes) w.here.stands);
+    stands = subst (λ g. StandsAt e known within (within_scopes c g) (at_scopes symbols t.0)) (sym w.scopes)
+        (subst (λ g. StandsAt e known within (within_scopes c (scope.Compound label w.d ∷ c.checker_scope.scopes)) (at_scopes symbols g)) (sym w.numbered_scopes) w.here.stands);
     below = subst (AreBelow t.1) (sym w.numbered_scopes) w.here.below;
   }
 
-  pub open_block : Each DeclarationStands xs → Each CursorStands cursors → declared_fault label c.checker_scope xs cursors ≡ None → IsHere e known letters s c (at_scopes symbols outer) n → Fills e end.1 → Each (IsNumbered e known letters) own → IsOpened
+  pub open_block : Each DeclarationStands xs → Each CursorStands cursors → declared_fault label c.checker_scope xs cursors ≡ None → IsHere e known s c (at_scopes symbols outer) n → Fills e end.1 → Each (IsNumbered e known) own → IsOpened
   open_block ds cs none h f numbered =
       let five = five_none (repeated rule.DeclarationRepeated (variable_names xs)) (repeated rule.DeclarationRepeated (condition_names xs)) (repeated rule.DeclarationRepeated (map (λ x. x.name) cursors))
       (first_of (declarations_fault (faults.opened label c.checker_scope) xs)) (first_of (cursors_fault (declared_checker_scope (faults.opened label c.checker_scope) xs) cursors)) none in
       let g : Grows n declared.1 = declarations-grow (before label outer n) xs in
       let above : Each (λ x. n.cursors ≤ x.number) own = numbers_from symbols declared cursors n.cursors g.cursors in
-      let start : Walked e known letters within c symbols outer label n (scope.Compound label undeclared ∷ c.checker_scope.scopes) (before label outer n) = record {
+      let start : Walked e known within c symbols outer label n (scope.Compound label undeclared ∷ c.checker_scope.scopes) (before label outer n) = record {
         d = undeclared;
         resolved = undeclared;
         scopes = refl;
         numbered_scopes = refl;
-        here = enter_block e known letters s c symbols outer n h label own above;
+        here = enter_block e known s c symbols outer n h label own above;
         types = λ a. a;
       } in
-      let first = declarations_walk e known letters within c symbols outer label parts n xs ds (scope.Compound label undeclared ∷ c.checker_scope.scopes) (before label outer n) start five.3 (fills-before (cursors-grow declared cursors) f) in
+      let first = declarations_walk e known within c symbols outer label parts n xs ds (scope.Compound label undeclared ∷ c.checker_scope.scopes) (before label outer n) start five.3 (fills-before (cursors-grow declared cursors) f) in
       let fs : checker_scopes.Scopes = faults.declared_by (scope.Compound label undeclared ∷ c.checker_scope.scopes) xs in
-      let second = cursors_walk e known letters within c symbols outer label parts n cursors cs fs declared first.0 five.4 (each_first symbols declared cursors s.cursors) numbered in record {
+      let second = cursors_walk e known within c symbols outer label parts n cursors cs fs declared first.0 five.4 (each_first symbols declared cursors s.cursors) numbered in record {
         here = here_of (declared_scopes label c.checker_scope xs cursors) end second.0;
         declarations = first.1;
-        well_formed = first.2;
         are_cursors = second.1;
-        well_formed_cursors = second.2;
         types = second.0.types;
       }

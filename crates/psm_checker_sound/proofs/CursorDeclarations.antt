@@ -24,7 +24,6 @@ use Rattle.psm_exprcode.specs.declared.op.Letter.{Letter}
 use Rattle.psm_typing.specs.TypingContext.{Each, IsThere, TypingContext}
 use Rattle.psm_typing.specs.Statements as places
 use Rattle.psm_typing.specs.Statements.{IsCursor}
-use Rattle.psm_wellformed.specs.Statements.{Letters, WellFormedCursor}
 use Rattle.psm_checker_sound.specs.Agreement.{AllTypeCheck}
 use Rattle.psm_checker_sound.specs.Meant.{HasShape, IsCursorMeant}
 use Rattle.psm_checker_sound.specs.Numbered.{IsNumbered}
@@ -109,12 +108,12 @@ plain_by true (Some updatability.Update) h = absurd cc
 
 -- ---- a cursor, and all of a block
 
-module _ (e : TypingContext) (known : Known) (letters : Letters) (s : places.StatementScope) (c : Context) (symbols : SymbolTable) (outer : Scopes) (label : Option Spelling) where
+module _ (e : TypingContext) (known : Known) (s : places.StatementScope) (c : Context) (symbols : SymbolTable) (outer : Scopes) (label : Option Spelling) where
   abbrev Here : Checked → Resolved → Numbering → Type 0
-  Here d resolved n = InBlock e known letters s c symbols outer label d resolved n
+  Here d resolved n = InBlock e known s c symbols outer label d resolved n
 
   abbrev After : Numbering → checker_scopes.Scopes → Numbered → Type 0
-  After from fs so_far = Walked e known letters s c symbols outer label from fs so_far
+  After from fs so_far = Walked e known s c symbols outer label from fs so_far
 
   abbrev checked_scopes : Checked → checker_scopes.Scopes
   checked_scopes d = scope.Compound label d ∷ c.checker_scope.scopes
@@ -126,18 +125,18 @@ module _ (e : TypingContext) (known : Known) (letters : Letters) (s : places.Sta
   resolver_scope_at resolved = at_scopes symbols (block_scopes label resolved outer)
 
   -- what the checker knows of the cursor, and what stands for it
-  shape_is : (d : Checked) (resolved : Resolved) (n : Numbering) (x : CursorDeclaration) → IsCursorQuery e known (block_context c label d).checker_scope (resolver_scope_at resolved) x.query → IsNumbered e known letters (cursor_of symbols (numbered_at resolved n) x)
+  shape_is : (d : Checked) (resolved : Resolved) (n : Numbering) (x : CursorDeclaration) → IsCursorQuery e known (block_context c label d).checker_scope (resolver_scope_at resolved) x.query → IsNumbered e known (cursor_of symbols (numbered_at resolved n) x)
       → HasShape e (declared_cursor (block_context c label d).checker_scope x) n.cursors
   shape_is d resolved n x q numbered = record {
     items = map (λ s. Some s) q.shapes;
     known = q.items;
-    shape = record { width = length (item_letters known (ordered_query (resolver_scope_at resolved) x.query)); insensitive = x.insensitive };
+    shape = record { letters = item_letters known (ordered_query (resolver_scope_at resolved) x.query); insensitive = x.insensitive };
     there = numbered.shape;
     many = mapped_many (λ s. Some s) q.shapes ∙ many_type_check q.shapes (item_letters known (ordered_query (resolver_scope_at resolved) x.query)) q.type_check;
   }
 
-  known_is : (d : Checked) (resolved : Resolved) (n : Numbering) (x : CursorDeclaration) → IsCursorQuery e known (block_context c label d).checker_scope (resolver_scope_at resolved) x.query → IsNumbered e known letters (cursor_of symbols (numbered_at resolved n) x)
-      → IsFirst s.cursors (cursor_of symbols (numbered_at resolved n) x) → IsKnown e known letters s (resolver_scope_at resolved) (declared_cursor (block_context c label d).checker_scope x) n.cursors
+  known_is : (d : Checked) (resolved : Resolved) (n : Numbering) (x : CursorDeclaration) → IsCursorQuery e known (block_context c label d).checker_scope (resolver_scope_at resolved) x.query → IsNumbered e known (cursor_of symbols (numbered_at resolved n) x)
+      → IsFirst s.cursors (cursor_of symbols (numbered_at resolved n) x) → IsKnown e known s (resolver_scope_at resolved) (declared_cursor (block_context c label d).checker_scope x) n.cursors
   known_is d resolved n x q numbered first = record {
     x = cursor_of symbols (numbered_at resolved n) x;
     seen = first;
@@ -148,49 +147,48 @@ module _ (e : TypingContext) (known : Known) (letters : Letters) (s : places.Sta
     items = q.items;
     type_check = q.type_check;
     typed = q.typed;
-    lettered = numbered.items;
+    there = numbered.shape;
   }
 
   abbrev DeclaresCursor : Numbering → checker_scopes.Scopes → Numbered → List ResolvedCursor → Type 0
-  DeclaresCursor from fs so_far xs = After from fs so_far × Each (IsCursor e) xs × Each (WellFormedCursor known letters) xs
+  DeclaresCursor from fs so_far xs = After from fs so_far × Each (IsCursor e) xs
 
-  cursor_at : PartsWellFormed e known letters → (from : Numbering) (x : CursorDeclaration) → CursorStands x → (d : Checked) (resolved : Resolved) (n : Numbering) → (AreTypes from → AreTypes n) → Here d resolved n → cursor_fault (block_context c label d).checker_scope x ≡ None
-      → IsFirst s.cursors (cursor_of symbols (numbered_at resolved n) x) → IsNumbered e known letters (cursor_of symbols (numbered_at resolved n) x)
+  cursor_at : PartsWellFormed e known → (from : Numbering) (x : CursorDeclaration) → CursorStands x → (d : Checked) (resolved : Resolved) (n : Numbering) → (AreTypes from → AreTypes n) → Here d resolved n → cursor_fault (block_context c label d).checker_scope x ≡ None
+      → IsFirst s.cursors (cursor_of symbols (numbered_at resolved n) x) → IsNumbered e known (cursor_of symbols (numbered_at resolved n) x)
       → DeclaresCursor from (faults.with_cursor (checked_scopes d) x.name.name (declared_cursor (block_context c label d).checker_scope x)) (numbered_cursor (numbered_at resolved n) x) (cursor_of symbols (numbered_at resolved n) x ∷ [])
   cursor_at parts from x well d resolved n types h none first numbered =
       let checker_scope : CheckerScope = (block_context c label d).checker_scope in
       let own : ResolvedCursor = cursor_of symbols (numbered_at resolved n) x in
       let cursor : Cursor = declared_cursor checker_scope x in
       let three = three_none (query_fault (checked_query checker_scope x.query)) (misplaced_set true (first_set (checked_query checker_scope x.query).picks)) (order_fault checker_scope.symbols (checked_query checker_scope x.query).table x.query.order) none in
-      let q : IsCursorQuery e known checker_scope (resolver_scope_at resolved) x.query = cursor_query e known letters parts checker_scope (resolver_scope_at resolved) h.stands.agree x.query well three.0 three.1 in
+      let q : IsCursorQuery e known checker_scope (resolver_scope_at resolved) x.query = cursor_query e known parts checker_scope (resolver_scope_at resolved) h.stands.agree x.query well three.0 three.1 in
       let meant : IsCursorMeant e s (Some cursor) n.cursors = (there_is (find (λ y. nat_eq y.number n.cursors) s.cursors) own first, shape_is d resolved n x q numbered) in (
         record {
           d = record d { cursors = declared_once d.cursors x.name.name cursor };
           resolved = record resolved { cursors = declared_once resolved.cursors x.name.name n.cursors };
           scopes = refl;
           numbered_scopes = refl;
-          here = cursor_declared e known letters s c symbols outer label d resolved n (with_cursor n) (grows-cursor n) x.name.name cursor n.cursors (omega arith) meant (known_is d resolved n x q numbered first) h;
+          here = cursor_declared e known s c symbols outer label d resolved n (with_cursor n) (grows-cursor n) x.name.name cursor n.cursors (omega arith) meant (known_is d resolved n x q numbered first) h;
           types = types;
         },
-        (record { letters = item_letters known own.query; query = q.well_typed; shape = numbered.shape; items = q.may x.insensitive }, tt),
-        (record { rows = q.rows; items = numbered.items }, tt),
+        (record { letters = item_letters known own.query; query = q.well_typed; rows = q.rows; shape = numbered.shape }, tt),
       )
 
   abbrev Cursor_at : Numbering → CursorDeclaration → checker_scopes.Scopes → Numbered → Type 0
-  Cursor_at from x fs so_far = cursor_fault (faults.in_scopes c.checker_scope fs) x ≡ None → IsFirst s.cursors (cursor_of symbols so_far x) → IsNumbered e known letters (cursor_of symbols so_far x)
+  Cursor_at from x fs so_far = cursor_fault (faults.in_scopes c.checker_scope fs) x ≡ None → IsFirst s.cursors (cursor_of symbols so_far x) → IsNumbered e known (cursor_of symbols so_far x)
       → DeclaresCursor from (faults.with_cursor fs x.name.name (declared_cursor (faults.in_scopes c.checker_scope fs) x)) (numbered_cursor so_far x) (cursor_of symbols so_far x ∷ [])
 
-  cursor_step : PartsWellFormed e known letters → (from : Numbering) (x : CursorDeclaration) → CursorStands x → (fs : checker_scopes.Scopes) (so_far : Numbered) → After from fs so_far → Cursor_at from x fs so_far
+  cursor_step : PartsWellFormed e known → (from : Numbering) (x : CursorDeclaration) → CursorStands x → (fs : checker_scopes.Scopes) (so_far : Numbered) → After from fs so_far → Cursor_at from x fs so_far
   cursor_step parts from x well fs so_far w =
       subst (λ g. Cursor_at from x g so_far) (sym w.scopes) (subst (λ g. Cursor_at from x (checked_scopes w.d) (g, so_far.1)) (sym w.numbered_scopes) (cursor_at parts from x well w.d w.resolved so_far.1 w.types w.here))
 
-  pub cursors_walk : PartsWellFormed e known letters → (from : Numbering) (xs : List CursorDeclaration) → Each CursorStands xs → (fs : checker_scopes.Scopes) (so_far : Numbered) → After from fs so_far → first_of (cursors_fault (faults.in_scopes c.checker_scope fs) xs) ≡ None
-      → Each (IsFirst s.cursors) (cursors_of symbols so_far xs) → Each (IsNumbered e known letters) (cursors_of symbols so_far xs)
+  pub cursors_walk : PartsWellFormed e known → (from : Numbering) (xs : List CursorDeclaration) → Each CursorStands xs → (fs : checker_scopes.Scopes) (so_far : Numbered) → After from fs so_far → first_of (cursors_fault (faults.in_scopes c.checker_scope fs) xs) ≡ None
+      → Each (IsFirst s.cursors) (cursors_of symbols so_far xs) → Each (IsNumbered e known) (cursors_of symbols so_far xs)
       → DeclaresCursor from (faults.with_cursors (faults.in_scopes c.checker_scope fs) xs) (numbered_cursors so_far xs) (cursors_of symbols so_far xs)
-  cursors_walk parts from [] well fs so_far w none first numbered = (w, tt, tt)
+  cursors_walk parts from [] well fs so_far w none first numbered = (w, tt)
   cursors_walk parts from (x ∷ xs) well fs so_far w none first numbered =
       let checker_scope : CheckerScope = faults.in_scopes c.checker_scope fs in
       let two = neither (cursor_fault checker_scope x) (first_of (cursors_fault (faults.after_cursor checker_scope x) xs)) (sym (first_of_cons (cursor_fault checker_scope x) (cursors_fault (faults.after_cursor checker_scope x) xs)) ∙ none) in
       let one = cursor_step parts from x well.0 fs so_far w two.0 first.0 numbered.0 in
       let more = cursors_walk parts from xs well.1 (faults.with_cursor fs x.name.name (declared_cursor checker_scope x)) (numbered_cursor so_far x) one.0 two.1 first.1 numbered.1 in
-      (more.0, (one.1.0, more.1), (one.2.0, more.2))
+      (more.0, (one.1.0, more.1))

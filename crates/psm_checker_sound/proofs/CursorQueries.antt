@@ -35,10 +35,9 @@ use Rattle.psm_exprgen.specs.Queries.{item_letters, letters_of_layer}
 use Rattle.psm_exprgen.specs.Written.{letters_at}
 use Rattle.psm_typing.specs.Queries.{AreItems, IsQuery, IsRowTest, HasItems}
 use Rattle.psm_typing.specs.TypingContext.{Each, TypingContext, columns_of, variables_of}
-use Rattle.psm_typing.specs.Statements.{MayBe}
+use Rattle.psm_typing.specs.Statements.{HasRows}
 use Rattle.psm_wellformed.specs.Queries as asked
 use Rattle.psm_wellformed.specs.Queries.{has_rows}
-use Rattle.psm_wellformed.specs.Statements.{Letters}
 use Rattle.psm_checker_sound.specs.Agreement.{Agree, AllTypeCheck}
 use Rattle.psm_checker_sound.specs.Places.{IsTyped}
 use Rattle.psm_checker_sound.specs.Stands.{select_stands}
@@ -89,18 +88,16 @@ ordered_well_typed e downward q ks h = let r = sym (opened downward q) in record
 ordered_rows : (downward : Bool) (q : ResolvedQuery) → has_rows (asked.items_of q) ≡ true → has_rows (asked.items_of (ordered downward q)) ≡ true
 ordered_rows downward q h = subst (λ o. has_rows (out-ResolvedItems o.items) ≡ true) (sym (opened downward q)) h
 
-may_by : (insensitive : Bool) (layer : written.Layer) → has_rows layer ≡ true → MayBe insensitive (rows.items_of layer)
-may_by true layer h = tt
-may_by false (layers.Rows xs) h = tt
-may_by false (layers.Sets sets) h = absurd cc
+rows_by : (layer : written.Layer) → has_rows layer ≡ true → HasRows (rows.items_of layer)
+rows_by (layers.Rows xs) h = tt
+rows_by (layers.Sets sets) h = absurd cc
 
 -- ---- queries of cursors
 
 -- what is known of the query of a cursor at a place
 pub record IsCursorQuery (e : TypingContext) (known : Known) (checker_scope : CheckerScope) (resolver_scope : ResolverScope) (q : OrderedQuery) : Type 0 where
-  pub rows : has_rows (asked.items_of (ordered_query resolver_scope q)) ≡ true
   pub well_typed : IsQuery e (ordered_query resolver_scope q) (item_letters known (ordered_query resolver_scope q))
-  pub may : (insensitive : Bool) → MayBe insensitive (query_of (ordered_query resolver_scope q)).items
+  pub rows : HasRows (query_of (ordered_query resolver_scope q)).items
   pub shapes : List Shape
   pub items : option_map (map (λ i. i.shape)) (faults.items_of (checked_query checker_scope q)) ≡ Some (map (λ s. Some s) shapes)
   pub type_check : AllTypeCheck shapes (item_letters known (ordered_query resolver_scope q))
@@ -111,18 +108,17 @@ pub no_set : (o : Option Place) → misplaced_set true o ≡ None → o ≡ None
 no_set None none = refl
 no_set (Some place) none = absurd cc
 
-pub cursor_query : (e : TypingContext) (known : Known) (letters : Letters) → PartsWellFormed e known letters → (checker_scope : CheckerScope) (resolver_scope : ResolverScope) → Agree e checker_scope resolver_scope → (q : OrderedQuery) → IsTrue (select_stands q.query) → query_fault (checked_query checker_scope q) ≡ None
+pub cursor_query : (e : TypingContext) (known : Known) → PartsWellFormed e known → (checker_scope : CheckerScope) (resolver_scope : ResolverScope) → Agree e checker_scope resolver_scope → (q : OrderedQuery) → IsTrue (select_stands q.query) → query_fault (checked_query checker_scope q) ≡ None
     → misplaced_set true (first_set (checked_query checker_scope q).picks) ≡ None → IsCursorQuery e known checker_scope resolver_scope q
-cursor_query e known letters parts checker_scope resolver_scope a q well none sets =
+cursor_query e known parts checker_scope resolver_scope a q well none sets =
     let resolved : ResolvedQuery = (resolve_query q.query resolver_scope).query in
     let downward : Bool = is_downward q.order in
     let g = queries e checker_scope resolver_scope a q.query well none in
     let type_check : AllTypeCheck (resolve_query q.query resolver_scope).shapes (item_letters known resolved) = parts.type_check checker_scope resolver_scope a q.query well none in
     let same : item_letters known resolved ≡ item_letters known (ordered downward resolved) = sym (ordered_letters known downward resolved) in
     let rows : has_rows (asked.items_of (ordered downward resolved)) ≡ true = ordered_rows downward resolved (parts.rows checker_scope resolver_scope a q.query well none (no_set (first_set (checked_query checker_scope q).picks) sets)) in record {
-      rows = rows;
       well_typed = ordered_well_typed e downward resolved (item_letters known (ordered downward resolved)) (subst (IsQuery e resolved) same (g.3 (item_letters known resolved) type_check));
-      may = λ insensitive. may_by insensitive (asked.items_of (ordered downward resolved)) rows;
+      rows = rows_by (asked.items_of (ordered downward resolved)) rows;
       shapes = (resolve_query q.query resolver_scope).shapes;
       items = ap (option_map (map (λ i. i.shape))) g.1 ∙ ap (λ ss. Some ss) g.2;
       type_check = subst (AllTypeCheck (resolve_query q.query resolver_scope).shapes) same type_check;

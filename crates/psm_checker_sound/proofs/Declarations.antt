@@ -36,7 +36,6 @@ use Rattle.psm_codegen.proofs.There.{there_at}
 use Rattle.psm_typing.specs.TypingContext.{Each, TypingContext}
 use Rattle.psm_typing.specs.Statements as places
 use Rattle.psm_typing.specs.Statements.{IsDeclaration, IsDefault}
-use Rattle.psm_wellformed.specs.Statements.{Letters, WellFormedDeclaration}
 use Rattle.psm_checker_sound.specs.Agreement.{Agree, HasSlot}
 use Rattle.psm_checker_sound.specs.Meant.{HasNumber}
 use Rattle.psm_checker_sound.specs.Numbered.{Fills}
@@ -99,20 +98,20 @@ none_some o text h k = cc
 -- ---- after declarations
 
 -- both sides see the block, in which so much is declared
-pub record Walked (e : TypingContext) (known : Known) (letters : Letters) (s : places.StatementScope) (c : Context) (symbols : SymbolTable) (outer : Scopes) (label : Option Spelling) (from : Numbering) (fs : checker_scopes.Scopes) (so_far : Numbered) : Type 0 where
+pub record Walked (e : TypingContext) (known : Known) (s : places.StatementScope) (c : Context) (symbols : SymbolTable) (outer : Scopes) (label : Option Spelling) (from : Numbering) (fs : checker_scopes.Scopes) (so_far : Numbered) : Type 0 where
   pub d : Checked
   pub resolved : Resolved
   pub scopes : fs ≡ scope.Compound label d ∷ c.checker_scope.scopes
   pub numbered_scopes : so_far.0 ≡ block_scopes label resolved outer
-  pub here : InBlock e known letters s c symbols outer label d resolved so_far.1
+  pub here : InBlock e known s c symbols outer label d resolved so_far.1
   pub types : AreTypes from → AreTypes so_far.1
 
-module _ (e : TypingContext) (known : Known) (letters : Letters) (s : places.StatementScope) (c : Context) (symbols : SymbolTable) (outer : Scopes) (label : Option Spelling) where
+module _ (e : TypingContext) (known : Known) (s : places.StatementScope) (c : Context) (symbols : SymbolTable) (outer : Scopes) (label : Option Spelling) where
   abbrev Here : Checked → Resolved → Numbering → Type 0
-  Here d resolved n = InBlock e known letters s c symbols outer label d resolved n
+  Here d resolved n = InBlock e known s c symbols outer label d resolved n
 
   abbrev After : Numbering → checker_scopes.Scopes → Numbered → Type 0
-  After from fs so_far = Walked e known letters s c symbols outer label from fs so_far
+  After from fs so_far = Walked e known s c symbols outer label from fs so_far
 
   abbrev checked_scopes : Checked → checker_scopes.Scopes
   checked_scopes d = scope.Compound label d ∷ c.checker_scope.scopes
@@ -132,17 +131,17 @@ module _ (e : TypingContext) (known : Known) (letters : Letters) (s : places.Sta
       let filled : Fills e m = fills-before (variables-grow t (numbered_at made2 m) ns) f in
       let there : slice_get e.routine.slots (next_slot n) ≡ Some t = there_at n.slots filled.slots in
       let slot : HasSlot e.routine.slots (variable_in t n) = record { type = t; declared = refl; bounded = bounded; there = there } in
-      let after_it : Here d2 made2 m = variable_declared e known letters s c symbols outer label d resolved n m (grows-slot t n) x.name (local_variable (Some t)) (variable_in t n) refl slot h in
+      let after_it : Here d2 made2 m = variable_declared e known s c symbols outer label d resolved n m (grows-slot t n) x.name (local_variable (Some t)) (variable_in t n) refl slot h in
       let more = variables_walk from t bounded ns d2 made2 m (λ a. types-slot t n bounded (types a)) after_it f in
       (more.0, (there, subst (λ k. Each (λ slot. slice_get e.routine.slots slot ≡ Some t) (slots_from k ns)) (one_longer n.slots t) more.1))
 
   abbrev Declares : Numbering → checker_scopes.Scopes → Numbered → List ResolvedDeclaration → Type 0
-  Declares from fs so_far xs = After from fs so_far × Each (IsDeclaration e) xs × Each WellFormedDeclaration xs
+  Declares from fs so_far xs = After from fs so_far × Each (IsDeclaration e) xs
 
   abbrev resolver_scope_at : Resolved → ResolverScope
   resolver_scope_at resolved = at_scopes symbols (block_scopes label resolved outer)
 
-  variables_at : PartsWellFormed e known letters → (from : Numbering) (kind : DataType) (first : Identifier) (rest : List Identifier) (default : Option Expr) (o : Option SqlType) → ((t : SqlType) → o ≡ Some t → is_type t ≡ true) → type_fault kind o ≡ None → DefaultStands default
+  variables_at : PartsWellFormed e known → (from : Numbering) (kind : DataType) (first : Identifier) (rest : List Identifier) (default : Option Expr) (o : Option SqlType) → ((t : SqlType) → o ≡ Some t → is_type t ≡ true) → type_fault kind o ≡ None → DefaultStands default
       → (d : Checked) (resolved : Resolved) (n : Numbering) → (AreTypes from → AreTypes n) → Here d resolved n → default_fault (block_context c label d).checker_scope o default ≡ None → Fills e (numbered_variables (type_known o) (numbered_at resolved n) (first ∷ rest)).1
       → Declares from (faults.with_variables (checked_scopes d) (first ∷ rest) (local_variable o)) (numbered_variables (type_known o) (numbered_at resolved n) (first ∷ rest))
       (record { slots = slots_from (next_slot n) (first ∷ rest); default = option_map (expr_at (resolver_scope_at resolved)) default } ∷ [])
@@ -151,7 +150,7 @@ module _ (e : TypingContext) (known : Known) (letters : Letters) (s : places.Sta
       let p = h.stands in
       let walked = variables_walk from t (bounded t refl) (first ∷ rest) d resolved n types h f in
       let value = default_well_typed e (block_context c label d).checker_scope (resolver_scope_at resolved) p.agree p.outside default well t none in
-      (walked.0, ((t, walked.1, value), tt), (refl, tt))
+      (walked.0, ((t, walked.1, value, tt), tt))
 
   -- ---- a condition
 
@@ -167,7 +166,7 @@ module _ (e : TypingContext) (known : Known) (letters : Letters) (s : places.Sta
         resolved = record resolved { conditions = declared_once resolved.conditions name y };
         scopes = refl;
         numbered_scopes = refl;
-        here = condition_declared e known letters s c symbols outer label d resolved n m (grows-condition name n) name (record { number = 0; state = None }) y refl there tt (λ is. (omega arith, omega (arith, long))) h;
+        here = condition_declared e known s c symbols outer label d resolved n m (grows-condition name n) name (record { number = 0; state = None }) y refl there tt (λ is. (omega arith, omega (arith, long))) h;
         types = types;
       }
   condition_at from name (Some state) none d resolved n types h f =
@@ -178,29 +177,29 @@ module _ (e : TypingContext) (known : Known) (letters : Letters) (s : places.Sta
         resolved = record resolved { conditions = declared_once resolved.conditions name x };
         scopes = refl;
         numbered_scopes = refl;
-        here = condition_declared e known letters s c symbols outer label d resolved n n (grows-here n) name x x refl (numbered e (good_state state.text) state.text good.0) (good_condition (good_state state.text) state.text good.0 good.1) (λ is. absurd (none_some (good_state state.text) state.text is good.0)) h;
+        here = condition_declared e known s c symbols outer label d resolved n n (grows-here n) name x x refl (numbered e (good_state state.text) state.text good.0) (good_condition (good_state state.text) state.text good.0 good.1) (λ is. absurd (none_some (good_state state.text) state.text is good.0)) h;
         types = types;
       }
 
   -- ---- a declaration, and all of a block
 
-  declaration_at : PartsWellFormed e known letters → (from : Numbering) (x : Declaration) → DeclarationStands x → (d : Checked) (resolved : Resolved) (n : Numbering) → (AreTypes from → AreTypes n) → Here d resolved n
+  declaration_at : PartsWellFormed e known → (from : Numbering) (x : Declaration) → DeclarationStands x → (d : Checked) (resolved : Resolved) (n : Numbering) → (AreTypes from → AreTypes n) → Here d resolved n
       → declaration_fault (block_context c label d).checker_scope x ≡ None → Fills e (numbered_after (numbered_at resolved n) x).1 → Declares from (faults.following (checked_scopes d) x) (numbered_after (numbered_at resolved n) x) (declaration_of symbols (numbered_at resolved n) x)
   declaration_at parts from (declarations.Variables place names kind default) well d resolved n types h none f =
       let two = neither (type_fault kind (type_of kind)) (default_fault (block_context c label d).checker_scope (type_of kind) default) none in
       variables_at parts from kind names.first names.rest default (type_of kind) (λ t is. type_bounded kind.form t is) two.0 well d resolved n types h two.1 f
-  declaration_at parts from (declarations.Condition place name state) well d resolved n types h none f = (condition_at from name.name state none d resolved n types h f, tt, tt)
+  declaration_at parts from (declarations.Condition place name state) well d resolved n types h none f = (condition_at from name.name state none d resolved n types h f, tt)
 
   abbrev Declared_at : Numbering → Declaration → checker_scopes.Scopes → Numbered → Type 0
   Declared_at from x fs so_far = declaration_fault (faults.in_scopes c.checker_scope fs) x ≡ None → Fills e (numbered_after so_far x).1 → Declares from (faults.following fs x) (numbered_after so_far x) (declaration_of symbols so_far x)
 
-  declaration_step : PartsWellFormed e known letters → (from : Numbering) (x : Declaration) → DeclarationStands x → (fs : checker_scopes.Scopes) (so_far : Numbered) → After from fs so_far → Declared_at from x fs so_far
+  declaration_step : PartsWellFormed e known → (from : Numbering) (x : Declaration) → DeclarationStands x → (fs : checker_scopes.Scopes) (so_far : Numbered) → After from fs so_far → Declared_at from x fs so_far
   declaration_step parts from x well fs so_far w =
       subst (λ g. Declared_at from x g so_far) (sym w.scopes) (subst (λ g. Declared_at from x (checked_scopes w.d) (g, so_far.1)) (sym w.numbered_scopes) (declaration_at parts from x well w.d w.resolved so_far.1 w.types w.here))
 
-  pub declarations_walk : PartsWellFormed e known letters → (from : Numbering) (xs : List Declaration) → Each DeclarationStands xs → (fs : checker_scopes.Scopes) (so_far : Numbered) → After from fs so_far → first_of (declarations_fault (faults.in_scopes c.checker_scope fs) xs) ≡ None
+  pub declarations_walk : PartsWellFormed e known → (from : Numbering) (xs : List Declaration) → Each DeclarationStands xs → (fs : checker_scopes.Scopes) (so_far : Numbered) → After from fs so_far → first_of (declarations_fault (faults.in_scopes c.checker_scope fs) xs) ≡ None
       → Fills e (numbered_by so_far xs).1 → Declares from (faults.declared_by fs xs) (numbered_by so_far xs) (declarations_of symbols so_far xs)
-  declarations_walk parts from [] well fs so_far w none f = (w, tt, tt)
+  declarations_walk parts from [] well fs so_far w none f = (w, tt)
   declarations_walk parts from (x ∷ xs) well fs so_far w none f =
       let checker_scope : CheckerScope = faults.in_scopes c.checker_scope fs in
       let others : CheckerScope = faults.in_scopes c.checker_scope (faults.following fs x) in
@@ -209,5 +208,4 @@ module _ (e : TypingContext) (known : Known) (letters : Letters) (s : places.Sta
       let more = declarations_walk parts from xs well.1 (faults.following fs x) (numbered_after so_far x) one.0 two.1 f in (
         more.0,
         each_append (IsDeclaration e) (declaration_of symbols so_far x) (declarations_of symbols (numbered_after so_far x) xs) one.1 more.1,
-        each_append WellFormedDeclaration (declaration_of symbols so_far x) (declarations_of symbols (numbered_after so_far x) xs) one.2 more.2,
       )

@@ -19,7 +19,6 @@ use Rattle.psm_resolve.specs.Statements.{or_zero}
 use Rattle.psm_exprgen.specs.declared.known.Known.{Known}
 use Rattle.psm_typing.specs.TypingContext.{TypingContext}
 use Rattle.psm_typing.specs.Statements as places
-use Rattle.psm_wellformed.specs.Statements.{Letters}
 use Rattle.psm_checker_sound.specs.Agreement.{HasSlot, kinds_in}
 use Rattle.psm_checker_sound.specs.Meant.{HasNumber, IsConditionMeant, IsCursorMeant}
 use Rattle.psm_checker_sound.specs.Numbered.{AreBelow, IsConditionBelow, IsCursorBelow}
@@ -46,8 +45,8 @@ at_scopes symbols scopes = record { symbols = symbols; scopes = scopes; row = No
 abbrev pub block_scopes : Option Spelling → Resolved → Scopes → Scopes
 block_scopes label d outer = scope.Compound label d ∷ outer
 
-pub record InBlock (e : TypingContext) (known : Known) (letters : Letters) (s : places.StatementScope) (c : Context) (symbols : SymbolTable) (outer : Scopes) (label : Option Spelling) (d : Checked) (resolved : Resolved) (n : Numbering) : Type 0 where
-  pub stands : StandsAt e known letters s (block_context c label d) (at_scopes symbols (block_scopes label resolved outer))
+pub record InBlock (e : TypingContext) (known : Known) (s : places.StatementScope) (c : Context) (symbols : SymbolTable) (outer : Scopes) (label : Option Spelling) (d : Checked) (resolved : Resolved) (n : Numbering) : Type 0 where
+  pub stands : StandsAt e known s (block_context c label d) (at_scopes symbols (block_scopes label resolved outer))
   pub below : AreBelow n (block_scopes label resolved outer)
   pub conditions : Synced d.conditions resolved.conditions
   pub cursors : Synced d.cursors resolved.cursors
@@ -75,10 +74,10 @@ block_kinds label d d2 resolved made2 fs gs same more =
     let here : kinds d.variables ≡ kinds resolved.variables = ap (λ scopes. (declared_here scopes).variables) same in
     ap (λ ks. kinds_of_block label ks ∷ map kinds_in fs) (more here) ∙ ap (λ scopes. kinds_of_block label (kinds made2.variables) ∷ scopes) (ap after_first same)
 
-pub variable_declared : (e : TypingContext) (known : Known) (letters : Letters) (s : places.StatementScope) (c : Context) (symbols : SymbolTable) (outer : Scopes) (label : Option Spelling) (d : Checked) (resolved : Resolved) (n m : Numbering) → Grows n m
-    → (name : Spelling) (x y : Variable) → x.kind ≡ y.kind → HasSlot e.routine.slots y → InBlock e known letters s c symbols outer label d resolved n
-    → InBlock e known letters s c symbols outer label (record d { variables = declared_once d.variables name x }) (record resolved { variables = declared_once resolved.variables name y }) m
-variable_declared e known letters s c symbols outer label d resolved n m g name x y same slot h =
+pub variable_declared : (e : TypingContext) (known : Known) (s : places.StatementScope) (c : Context) (symbols : SymbolTable) (outer : Scopes) (label : Option Spelling) (d : Checked) (resolved : Resolved) (n m : Numbering) → Grows n m
+    → (name : Spelling) (x y : Variable) → x.kind ≡ y.kind → HasSlot e.routine.slots y → InBlock e known s c symbols outer label d resolved n
+    → InBlock e known s c symbols outer label (record d { variables = declared_once d.variables name x }) (record resolved { variables = declared_once resolved.variables name y }) m
+variable_declared e known s c symbols outer label d resolved n m g name x y same slot h =
     let d2 : Checked = record d { variables = declared_once d.variables name x } in
     let made2 : Resolved = record resolved { variables = declared_once resolved.variables name y } in
     let p = h.stands in
@@ -95,7 +94,7 @@ variable_declared e known letters s c symbols outer label d resolved n m g name 
           slots = (each_once (λ q. HasSlot e.routine.slots q.1) resolved.variables name y a.slots.0 slot, a.slots.1);
         };
         meant = record { conditions = p.meant.conditions; cursors = p.meant.cursors; labels = p.meant.labels; procedures = p.meant.procedures };
-        cursors = λ k. known_moved e known letters s s (at_scopes symbols (block_scopes label resolved outer)) (block_scopes label made2 outer)
+        cursors = λ k. known_moved e known s s (at_scopes symbols (block_scopes label resolved outer)) (block_scopes label made2 outer)
             (lookup.cursor k (scope.Compound label d ∷ c.checker_scope.scopes)) (lookup.cursor k (block_scopes label resolved outer)) (λ i is. refl) (p.cursors k);
         conditions = record { states = p.conditions.states; good = p.conditions.good; distinct = p.conditions.distinct };
         outside = p.outside;
@@ -132,10 +131,10 @@ apart_left bound to (Some z) y j k b f = λ q p same. let u : z.number < bound =
 same_names : (j k n : Spelling) → is_spelled j n ≡ true → is_spelled k n ≡ true → is_spelled j k ≡ true
 same_names j k n h i = subst (λ m. is_spelled j m ≡ true) (sym (same_text k n (sym i))) h
 
-pub condition_declared : (e : TypingContext) (known : Known) (letters : Letters) (s : places.StatementScope) (c : Context) (symbols : SymbolTable) (outer : Scopes) (label : Option Spelling) (d : Checked) (resolved : Resolved) (n m : Numbering) → Grows n m
-    → (name : Spelling) (x y : DeclaredCondition) → x.state ≡ y.state → HasNumber e y.state y.number → IsGood (Some y) → IsFresh (length n.conditions) (length m.conditions) y → InBlock e known letters s c symbols outer label d resolved n
-    → InBlock e known letters s c symbols outer label (record d { conditions = declared_once d.conditions name x }) (record resolved { conditions = declared_once resolved.conditions name y }) m
-condition_declared e known letters s c symbols outer label d resolved n m g name x y same number good fresh h =
+pub condition_declared : (e : TypingContext) (known : Known) (s : places.StatementScope) (c : Context) (symbols : SymbolTable) (outer : Scopes) (label : Option Spelling) (d : Checked) (resolved : Resolved) (n m : Numbering) → Grows n m
+    → (name : Spelling) (x y : DeclaredCondition) → x.state ≡ y.state → HasNumber e y.state y.number → IsGood (Some y) → IsFresh (length n.conditions) (length m.conditions) y → InBlock e known s c symbols outer label d resolved n
+    → InBlock e known s c symbols outer label (record d { conditions = declared_once d.conditions name x }) (record resolved { conditions = declared_once resolved.conditions name y }) m
+condition_declared e known s c symbols outer label d resolved n m g name x y same number good fresh h =
     let made2 : Resolved = record resolved { conditions = declared_once resolved.conditions name y } in
     let p = h.stands in
     let a = p.agree in
@@ -154,7 +153,7 @@ condition_declared e known letters s c symbols outer label d resolved n m g name
           labels = p.meant.labels;
           procedures = p.meant.procedures;
         };
-        cursors = λ k. known_moved e known letters s s (at_scopes symbols (block_scopes label resolved outer)) (block_scopes label made2 outer)
+        cursors = λ k. known_moved e known s s (at_scopes symbols (block_scopes label resolved outer)) (block_scopes label made2 outer)
             (lookup.cursor k (scope.Compound label d ∷ c.checker_scope.scopes)) (lookup.cursor k (block_scopes label resolved outer)) (λ i is. refl) (p.cursors k);
         conditions = record {
           states = λ k. looked (λ u v. state_in u ≡ state_in v) d.conditions resolved.conditions name x y (lookup.condition k c.checker_scope.scopes) (out k) h.conditions k (p.conditions.states k) (λ is. ap (λ o. Some o) same);
@@ -177,17 +176,17 @@ condition_declared e known letters s c symbols outer label d resolved n m g name
 
 -- ---- cursors
 
-pub cursor_declared : (e : TypingContext) (known : Known) (letters : Letters) (s : places.StatementScope) (c : Context) (symbols : SymbolTable) (outer : Scopes) (label : Option Spelling) (d : Checked) (resolved : Resolved) (n m : Numbering) → Grows n m
-    → (name : Spelling) (x : Cursor) (number : ℕ) → number < m.cursors → IsCursorMeant e s (Some x) number → IsKnown e known letters s (at_scopes symbols (block_scopes label resolved outer)) x number
-    → InBlock e known letters s c symbols outer label d resolved n
-    → InBlock e known letters s c symbols outer label (record d { cursors = declared_once d.cursors name x }) (record resolved { cursors = declared_once resolved.cursors name number }) m
-cursor_declared e known letters s c symbols outer label d resolved n m g name x number below meant is_known h =
+pub cursor_declared : (e : TypingContext) (known : Known) (s : places.StatementScope) (c : Context) (symbols : SymbolTable) (outer : Scopes) (label : Option Spelling) (d : Checked) (resolved : Resolved) (n m : Numbering) → Grows n m
+    → (name : Spelling) (x : Cursor) (number : ℕ) → number < m.cursors → IsCursorMeant e s (Some x) number → IsKnown e known s (at_scopes symbols (block_scopes label resolved outer)) x number
+    → InBlock e known s c symbols outer label d resolved n
+    → InBlock e known s c symbols outer label (record d { cursors = declared_once d.cursors name x }) (record resolved { cursors = declared_once resolved.cursors name number }) m
+cursor_declared e known s c symbols outer label d resolved n m g name x number below meant is_known h =
     let made2 : Resolved = record resolved { cursors = declared_once resolved.cursors name number } in
     let p = h.stands in
     let a = p.agree in
     let new : ResolverScope = at_scopes symbols (block_scopes label made2 outer) in
-    let moved : (o : Option Cursor) (k : Option ℕ) → IsCursorKnown e known letters s (at_scopes symbols (block_scopes label resolved outer)) o k → IsCursorKnown e known letters s new o k = λ o k.
-    known_moved e known letters s s (at_scopes symbols (block_scopes label resolved outer)) (block_scopes label made2 outer) o k (λ i is. refl) in record {
+    let moved : (o : Option Cursor) (k : Option ℕ) → IsCursorKnown e known s (at_scopes symbols (block_scopes label resolved outer)) o k → IsCursorKnown e known s new o k = λ o k.
+    known_moved e known s s (at_scopes symbols (block_scopes label resolved outer)) (block_scopes label made2 outer) o k (λ i is. refl) in record {
       stands = record {
         agree = record { tables = a.tables; functions = a.functions; scopes = a.scopes; row = a.row; columns = a.columns; known_tables = a.known_tables; known_functions = a.known_functions; slots = a.slots };
         meant = record {
@@ -196,7 +195,7 @@ cursor_declared e known letters s c symbols outer label d resolved n m g name x 
           labels = p.meant.labels;
           procedures = p.meant.procedures;
         };
-        cursors = λ k. looked (λ u v. IsCursorKnown e known letters s new u v) d.cursors resolved.cursors name x number (lookup.cursor k c.checker_scope.scopes) (lookup.cursor k outer) h.cursors k
+        cursors = λ k. looked (λ u v. IsCursorKnown e known s new u v) d.cursors resolved.cursors name x number (lookup.cursor k c.checker_scope.scopes) (lookup.cursor k outer) h.cursors k
             (moved (lookup.cursor k (scope.Compound label d ∷ c.checker_scope.scopes)) (lookup.cursor k (block_scopes label resolved outer)) (p.cursors k)) (λ is. moved (Some x) (Some number) is_known);
         conditions = record { states = p.conditions.states; good = p.conditions.good; distinct = p.conditions.distinct };
         outside = p.outside;

@@ -16,7 +16,6 @@ use Rattle.psm_exprgen.specs.declared.known.Known.{Known}
 use Rattle.psm_typing.specs.TypingContext.{Each, TypingContext}
 use Rattle.psm_typing.specs.Statements as places
 use Rattle.psm_typing.specs.Statements.{inside}
-use Rattle.psm_wellformed.specs.Statements.{Letters}
 use Rattle.psm_checker_sound.specs.Meant.{IsCursorMeant, IsLabelMeant, Meant}
 use Rattle.psm_checker_sound.specs.Numbered.{IsCursorBelow}
 use Rattle.psm_checker_sound.proofs.CursorDeclarations.{checked_past, there_past}
@@ -53,9 +52,9 @@ below_by bound k o is h = subst (IsCursorBelow bound) is h
 
 -- ---- the block, whose cursors have numbers that none around it has
 
-pub enter_block : (e : TypingContext) (known : Known) (letters : Letters) (s : places.StatementScope) (c : Context) (symbols : SymbolTable) (outer : Scopes) (n : Numbering) → IsHere e known letters s c (at_scopes symbols outer) n → (label : Option Spelling) (cursors : List ResolvedCursor)
-    → Each (λ x. n.cursors ≤ x.number) cursors → InBlock e known letters (inside (length outer) cursors s) c symbols outer label undeclared undeclared n
-enter_block e known letters s c symbols outer n h label cursors above =
+pub enter_block : (e : TypingContext) (known : Known) (s : places.StatementScope) (c : Context) (symbols : SymbolTable) (outer : Scopes) (n : Numbering) → IsHere e known s c (at_scopes symbols outer) n → (label : Option Spelling) (cursors : List ResolvedCursor)
+    → Each (λ x. n.cursors ≤ x.number) cursors → InBlock e known (inside (length outer) cursors s) c symbols outer label undeclared undeclared n
+enter_block e known s c symbols outer n h label cursors above =
     let p = h.stands in
     let a = p.agree in
     let t : places.StatementScope = inside (length outer) cursors s in record {
@@ -76,7 +75,7 @@ enter_block e known letters s c symbols outer n h label cursors above =
           labels = block_label e s label cursors c symbols outer p.meant;
           procedures = p.meant.procedures;
         };
-        cursors = λ k. known_moved e known letters s t (at_scopes symbols outer) (block_scopes label undeclared outer) (lookup.cursor k c.checker_scope.scopes) (lookup.cursor k outer)
+        cursors = λ k. known_moved e known s t (at_scopes symbols outer) (block_scopes label undeclared outer) (lookup.cursor k c.checker_scope.scopes) (lookup.cursor k outer)
             (λ i is. checked_past cursors s.cursors n.cursors i above (below_by n.cursors i (lookup.cursor k outer) is (h.below.cursors k))) (p.cursors k);
         conditions = record { states = p.conditions.states; good = p.conditions.good; distinct = p.conditions.distinct };
         outside = p.outside;

@@ -24,11 +24,9 @@ use Rattle.psm_declare.specs.Numbering.{Numbering, with_cursor}
 use Rattle.psm_resolve.specs.Statements.{or_zero}
 use Rattle.psm_exprgen.specs.declared.known.Known.{Known}
 use Rattle.psm_exprgen.specs.Queries.{item_letters}
-use Rattle.psm_typing.specs.TypingContext.{Each, TypingContext}
+use Rattle.psm_typing.specs.TypingContext.{Each, TypingContext, AreOf, variables_of}
 use Rattle.psm_typing.specs.Statements as places
 use Rattle.psm_typing.specs.Statements.{AreForItems, IsCursor, over_rows}
-use Rattle.psm_wellformed.specs.Slots.{AreSlots}
-use Rattle.psm_wellformed.specs.Statements.{Letters, WellFormedCursor}
 use Rattle.psm_checker_sound.specs.Agreement.{HasSlot, kinds_in}
 use Rattle.psm_checker_sound.specs.Meant.{HasShape, IsCursorMeant, IsLabelMeant, Meant}
 use Rattle.psm_checker_sound.specs.Numbered.{AreBelow, Fills, IsCursorBelow, IsNumbered}
@@ -86,7 +84,7 @@ not_true : (b : Bool) → not b ≡ true → b ≡ false
 not_true true h = absurd cc
 not_true false h = refl
 
-module _ (e : TypingContext) (known : Known) (letters : Letters) (s : places.StatementScope) (c : Context) (symbols : SymbolTable) (outer : Scopes) (label : Option Spelling) (head : ForHead) (n : Numbering) (q : IsForHead e known c.checker_scope (at_scopes symbols outer) head) (numbered : IsNumbered e known letters (cursor_in (at_scopes symbols outer) head n)) where
+module _ (e : TypingContext) (known : Known) (s : places.StatementScope) (c : Context) (symbols : SymbolTable) (outer : Scopes) (label : Option Spelling) (head : ForHead) (n : Numbering) (q : IsForHead e known c.checker_scope (at_scopes symbols outer) head) (numbered : IsNumbered e known (cursor_in (at_scopes symbols outer) head n)) where
   abbrev resolver_scope : ResolverScope
   resolver_scope = at_scopes symbols outer
 
@@ -100,7 +98,7 @@ module _ (e : TypingContext) (known : Known) (letters : Letters) (s : places.Sta
   shape_is cursor = record {
     items = map (λ s. Some s) q.query.shapes;
     known = q.query.items;
-    shape = record { width = length (item_letters known own.query); insensitive = own.insensitive };
+    shape = record { letters = item_letters known own.query; insensitive = own.insensitive };
     there = numbered.shape;
     many = mapped_many (λ s. Some s) q.query.shapes ∙ many_type_check q.query.shapes (item_letters known own.query) q.query.type_check;
   }
@@ -108,7 +106,7 @@ module _ (e : TypingContext) (known : Known) (letters : Letters) (s : places.Sta
   cursor_meant : (cursor : ForCursor) → IsCursorMeant e there (Some (named_cursor c.checker_scope head cursor)) n.cursors
   cursor_meant cursor = (there_is (find (λ y. nat_eq y.number n.cursors) there.cursors) own (first_is s (length outer) own), shape_is cursor)
 
-  known_is : (cursor : ForCursor) → head.cursor ≡ Some cursor → IsKnown e known letters there resolver_scope (named_cursor c.checker_scope head cursor) n.cursors
+  known_is : (cursor : ForCursor) → head.cursor ≡ Some cursor → IsKnown e known there resolver_scope (named_cursor c.checker_scope head cursor) n.cursors
   known_is cursor is = record {
     x = own;
     seen = first_is s (length outer) own;
@@ -119,7 +117,7 @@ module _ (e : TypingContext) (known : Known) (letters : Letters) (s : places.Sta
     items = q.query.items;
     type_check = q.query.type_check;
     typed = q.query.typed;
-    lettered = numbered.items;
+    there = numbered.shape;
   }
 
   -- a name of a cursor means that of FOR, or what it meant around it
@@ -143,8 +141,8 @@ module _ (e : TypingContext) (known : Known) (letters : Letters) (s : places.Sta
   abbrev kinds_of_for : List (Spelling × Option SqlType) → Scope (Option SqlType) (Unit {0}) (Unit {0})
   kinds_of_for ks = scope.For label head.name.name (record { variables = ks; conditions = []; cursors = [] })
 
-  stands_there : (variables : List (Spelling × Variable)) → kinds variables ≡ declared_kinds [] (for_items resolver_scope head.query.query) → Each (λ p. HasSlot e.routine.slots p.1) variables → IsHere e known letters s c resolver_scope n
-      → StandsAt e known letters there (statement_faults.inside c (head_scope c.checker_scope label head)) (at_scopes symbols (for_scopes variables))
+  stands_there : (variables : List (Spelling × Variable)) → kinds variables ≡ declared_kinds [] (for_items resolver_scope head.query.query) → Each (λ p. HasSlot e.routine.slots p.1) variables → IsHere e known s c resolver_scope n
+      → StandsAt e known there (statement_faults.inside c (head_scope c.checker_scope label head)) (at_scopes symbols (for_scopes variables))
   stands_there variables same have h =
       let p = h.stands in
       let a = p.agree in
@@ -165,10 +163,10 @@ module _ (e : TypingContext) (known : Known) (letters : Letters) (s : places.Sta
           labels = for_label e s own label head.name.name checked_part (resolved_part variables) c symbols outer p.meant;
           procedures = p.meant.procedures;
         };
-        cursors = λ k. looked_for (λ u v. IsCursorKnown e known letters there (at_scopes symbols (for_scopes variables)) u v) head.cursor refl k
-            (known_moved e known letters s there resolver_scope (for_scopes variables) (lookup.cursor k c.checker_scope.scopes) (lookup.cursor k outer)
+        cursors = λ k. looked_for (λ u v. IsCursorKnown e known there (at_scopes symbols (for_scopes variables)) u v) head.cursor refl k
+            (known_moved e known s there resolver_scope (for_scopes variables) (lookup.cursor k c.checker_scope.scopes) (lookup.cursor k outer)
             (λ i is. checked_past (own ∷ []) s.cursors n.cursors i above (below_by n.cursors i (lookup.cursor k outer) is (h.below.cursors k))) (p.cursors k))
-            (λ cursor is. known_moved e known letters there there resolver_scope (for_scopes variables) (Some (named_cursor c.checker_scope head cursor)) (Some n.cursors) (λ i same. refl) (known_is cursor is));
+            (λ cursor is. known_moved e known there there resolver_scope (for_scopes variables) (Some (named_cursor c.checker_scope head cursor)) (Some n.cursors) (λ i same. refl) (known_is cursor is));
         conditions = record { states = p.conditions.states; good = p.conditions.good; distinct = p.conditions.distinct };
         outside = p.outside;
         within = p.within;
@@ -187,9 +185,8 @@ module _ (e : TypingContext) (known : Known) (letters : Letters) (s : places.Sta
 
   -- what is known after the head
   pub record IsEntered (so_far : Numbered) : Type 0 where
-    pub here : IsHere e known letters there (statement_faults.inside c (head_scope c.checker_scope label head)) (in_scopes resolver_scope so_far.0) so_far.1
-    pub slots : AreSlots e (head_of resolver_scope head n).slots (item_letters known own.query)
-    pub items : AreForItems e n.cursors (head_of resolver_scope head n).slots
+    pub here : IsHere e known there (statement_faults.inside c (head_scope c.checker_scope label head)) (in_scopes resolver_scope so_far.0) so_far.1
+    pub slots : AreForItems e n.cursors (head_of resolver_scope head n).slots
     pub types : AreTypes n → AreTypes so_far.1
 
   abbrev items_of_head : List ForItem
@@ -202,28 +199,24 @@ module _ (e : TypingContext) (known : Known) (letters : Letters) (s : places.Sta
   started None = refl
   started (Some cursor) = refl
 
-  entered : IsHere e known letters s c resolver_scope n → Fills e (numbered_items after_cursor items_of_head).1 → IsEntered (numbered_items after_cursor items_of_head)
+  entered : IsHere e known s c resolver_scope n → Fills e (numbered_items after_cursor items_of_head).1 → IsEntered (numbered_items after_cursor items_of_head)
   entered h f =
       let so_far : Numbered = numbered_items after_cursor items_of_head in
       let w = items_numbered e label head.name.name outer n items_of_head q.values q.items (resolved_part []) (with_cursor n) tt (λ a. a) f in
       let g : Grows (with_cursor n) so_far.1 = items-grow after_cursor items_of_head in
-      let slots : AreSlots e (head_of resolver_scope head n).slots (item_letters known own.query) = slots_type_check e (head_of resolver_scope head n).slots items_of_head q.values (item_letters known own.query) w.typed q.items q.type_check in record {
+      let slots : AreOf (variables_of e) (head_of resolver_scope head n).slots (item_letters known own.query) = slots_type_check e (head_of resolver_scope head n).slots items_of_head q.values (item_letters known own.query) w.typed q.items q.type_check in record {
         here = record {
-          stands = subst (λ fs. StandsAt e known letters there (statement_faults.inside c (head_scope c.checker_scope label head)) (at_scopes symbols fs)) (sym w.scopes) (stands_there w.variables w.kinds w.have h);
+          stands = subst (λ fs. StandsAt e known there (statement_faults.inside c (head_scope c.checker_scope label head)) (at_scopes symbols fs)) (sym w.scopes) (stands_there w.variables w.kinds w.have h);
           below = subst (AreBelow so_far.1) (sym w.scopes) (below_there w.variables so_far.1 (grows-on (grows-cursor n) g) (omega (arith, g.cursors)) h.below);
         };
-        slots = slots;
-        items = for_items_are e n.cursors own.insensitive (head_of resolver_scope head n).slots items_of_head (item_letters known own.query) numbered.shape w.typed slots;
+        slots = for_items_are e n.cursors own.insensitive (head_of resolver_scope head n).slots (item_letters known own.query) numbered.shape slots;
         types = w.types;
       }
 
-  pub enter_for : IsHere e known letters s c resolver_scope n → Fills e (numbered_head resolver_scope label head n).1 → IsEntered (numbered_head resolver_scope label head n)
+  pub enter_for : IsHere e known s c resolver_scope n → Fills e (numbered_head resolver_scope label head n).1 → IsEntered (numbered_head resolver_scope label head n)
   enter_for h f =
       let same : numbered_head resolver_scope label head n ≡ numbered_items after_cursor items_of_head = ap (λ t. numbered_items t items_of_head) (started head.cursor) in
       subst IsEntered (sym same) (entered h (subst (λ t. Fills e t.1) same f))
 
   pub cursor_is : IsCursor e own
-  cursor_is = record { letters = item_letters known own.query; query = q.query.well_typed; shape = numbered.shape; items = q.query.may own.insensitive }
-
-  pub cursor_well_formed : WellFormedCursor known letters own
-  cursor_well_formed = record { rows = q.query.rows; items = numbered.items }
+  cursor_is = record { letters = item_letters known own.query; query = q.query.well_typed; rows = q.query.rows; shape = numbered.shape }

@@ -1,7 +1,6 @@
 -- A module file without a fault is well-formed, where NULL stands in it as the grammar lets it stand.
 use Rattle.std.proofs.Common.{◌≡◌, true, List, [], ◌∷◌, ◌++◌, length, map, Option, None, refl, ap, sym, ◌∙◌, subst, arith}
 use Rattle.std.specs.List.{list_all}
-use Rattle.psm_exprcode.specs.declared.op.Letter.{Letter}
 use Rattle.psm_exprcode.specs.WellFormed.{is_type}
 use Rattle.psm_rules.specs.declared.rule.Rule.TheVariants as rule
 use Rattle.psm_rules.specs.Faults.{first_of}
@@ -21,8 +20,8 @@ use Rattle.psm_exprgen.specs.Queries.{item_letters}
 use Rattle.psm_exprgen.specs.Writing.{BeginsWith}
 use Rattle.psm_codegen.specs.Files.{known_of}
 use Rattle.psm_typing.specs.TypingContext.{Begin, Each, TypingContext, Shape}
-use Rattle.psm_wellformed.specs.Files.{WellFormedFile, WellFormedRoutine, WellFormedTable, body}
-use Rattle.psm_wellformed.specs.Statements.{Letters}
+use Rattle.psm_typing.specs.Files.{body}
+use Rattle.psm_wellformed.specs.Files.{WellFormedFile, WellFormedRoutine, WellFormedTable}
 use Rattle.psm_checker_sound.specs.Numbered.{Cursors, IsNumbered, cursors_in}
 use Rattle.psm_checker_sound.specs.StatementsStand.{FileStands, StatementStands, TableStands}
 use Rattle.psm_checker_sound.proofs.Apart.{routines-so_far}
@@ -58,7 +57,7 @@ file-accepted f none =
       apart = routines-apart (symbols_of f) [] f.«module».routines four.0;
     }
 
--- ---- shapes and letters of a routine's cursors, by their numbers
+-- ---- shapes of a routine's cursors, by their numbers
 
 abbrev resolve_body : FileTree → Routine → ResolvedRoutine
 resolve_body f r = resolve_routine (known_symbols f) r
@@ -69,14 +68,8 @@ known_in f r = known_of (resolved_file f) (resolve_body f r)
 abbrev resolve_cursors : FileTree → Routine → Cursors
 resolve_cursors f r = cursors_in (resolve_body f r).body
 
-abbrev letters_for : Known → ResolvedCursor → List Letter
-letters_for known x = item_letters known x.query
-
 abbrev shape_for : Known → ResolvedCursor → Shape
-shape_for known x = record { width = length (item_letters known x.query); insensitive = x.insensitive }
-
-abbrev resolve_letters : FileTree → Routine → Letters
-resolve_letters f r = map (letters_for (known_in f r)) (resolve_cursors f r)
+shape_for known x = record { letters = item_letters known x.query; insensitive = x.insensitive }
 
 abbrev resolve_shapes : FileTree → Routine → List Shape
 resolve_shapes f r = map (shape_for (known_in f r)) (resolve_cursors f r)
@@ -84,12 +77,10 @@ resolve_shapes f r = map (shape_for (known_in f r)) (resolve_cursors f r)
 abbrev typing_context_resolved : FileTree → Routine → TypingContext
 typing_context_resolved f r = typing_context_in f r (resolve_shapes f r)
 
-are-numbered : (f : FileTree) (r : Routine) → Each (IsNumbered (typing_context_resolved f r) (known_in f r) (resolve_letters f r)) (resolve_cursors f r)
+are-numbered : (f : FileTree) (r : Routine) → Each (IsNumbered (typing_context_resolved f r) (known_in f r)) (resolve_cursors f r)
 are-numbered f r =
     let up = cursors-numbered (resolve_body f r).body (resolve_body f r).cursors (each-own (known_symbols f) r).cursors in
-    each-both _ _ _ (λ x h k. record { shape = h; items = k }) (resolve_cursors f r)
-    (each-numbered (shape_for (known_in f r)) [] (resolve_cursors f r) 0 (resolve_body f r).cursors refl up)
-    (each-numbered (letters_for (known_in f r)) [] (resolve_cursors f r) 0 (resolve_body f r).cursors refl up)
+    each-as _ _ (λ x h. record { shape = h }) (resolve_cursors f r) (each-numbered (shape_for (known_in f r)) [] (resolve_cursors f r) 0 (resolve_body f r).cursors refl up)
 
 many-resolved : {A : Type 0} (g : ResolvedCursor → A) (f : FileTree) (r : Routine) → length (map g (resolve_cursors f r)) ≡ (resolve_body f r).cursors
 many-resolved g f r = omega (arith, as-many g (resolve_cursors f r) 0 (resolve_body f r).cursors (cursors-numbered (resolve_body f r).body (resolve_body f r).cursors (each-own (known_symbols f) r).cursors))
@@ -108,21 +99,21 @@ routine-well_formed : (f : FileTree) → FileParts f → (r : Routine) → IsAcc
 routine-well_formed f p r a well =
     let e : TypingContext = typing_context_resolved f r in
     let slots : BeginsWith (map type_in_slot r.parameters) (resolve_body f r).slots = slots-resolved f r well in
-    let done : IsDone e (known_in f r) (resolve_letters f r) body (routine_numbered r).1 (resolve_statement r.body (body_resolver_scope f r) (routine_numbered r).1) = statement-well_formed e (known_in f r) (resolve_letters f r) body (body_context (symbols_of f) r) (body_resolver_scope f r) (routine_numbered r).1 r.body
-    well a.body (body-stands f p r a (resolve_shapes f r) (resolve_letters f r) slots) (body-below r (routine_numbered r).1)
+    let done : IsDone e (known_in f r) body (routine_numbered r).1 (resolve_statement r.body (body_resolver_scope f r) (routine_numbered r).1) = statement-well_formed e (known_in f r) body (body_context (symbols_of f) r) (body_resolver_scope f r) (routine_numbered r).1 r.body
+    well a.body (body-stands f p r a (resolve_shapes f r) slots) (body-below r (routine_numbered r).1)
     (record { slots = begins-here _; conditions = begins-here _ }) (are-numbered f r) in
     record {
       names = head-names (symbols_of f) r a;
       modes = head-modes (symbols_of f) (known_symbols f) r a;
-      begin = subst (Begin (map resolve_parameter r.parameters)) (sym slots.is) (slots-begin r.parameters slots.more);
       types = done.types (subst (λ l. list_all is_type l ≡ true) (sym (so_far-slots r)) (slots-typed r.parameters));
       returns = head-result r.returns;
-      shapes = resolve_shapes f r;
-      shaped = many-resolved (shape_for (known_in f r)) f r;
-      letters = resolve_letters f r;
-      lettered = many-resolved (letters_for (known_in f r)) f r;
       cursors = cursors-count (resolve_body f r).body (resolve_body f r).cursors (each-own (known_symbols f) r).cursors;
-      well_formed = done.well_formed;
+      typed = record {
+        shapes = resolve_shapes f r;
+        many = many-resolved (shape_for (known_in f r)) f r;
+        parameters = subst (Begin (map resolve_parameter r.parameters)) (sym slots.is) (slots-begin r.parameters slots.more);
+        body_typed = done.well_typed;
+      };
     }
 
 -- ---- the file

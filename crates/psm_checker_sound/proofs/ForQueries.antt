@@ -39,7 +39,6 @@ use Rattle.psm_resolve.specs.Blocks as blocks
 use Rattle.psm_exprgen.specs.declared.known.Known.{Known}
 use Rattle.psm_exprgen.specs.Queries.{item_letters}
 use Rattle.psm_typing.specs.TypingContext.{TypingContext}
-use Rattle.psm_wellformed.specs.Statements.{Letters}
 use Rattle.psm_checker_sound.specs.Agreement.{Agree, AllTypeCheck, HaveTypes}
 use Rattle.psm_checker_sound.specs.Stands.{Standing, as_operand, chain_link_stands, chain_link_stands_layer, may_be, pick_stands, pick_stands_layer, select_stands, select_stands_layer, stands, stands_layer, when_stands, when_stands_layer}
 use Rattle.psm_checker_sound.proofs.CursorQueries.{IsCursorQuery, cursor_query, checked_table, no_set, ordered_letters}
@@ -140,8 +139,8 @@ clean_query q items sets table test =
     ∙ ap (λ o. first_of (None ∷ o ∷ test_fault q.test ∷ [])) table
     ∙ ap (λ o. first_of (None ∷ None ∷ o ∷ [])) test
 
-pub head_is : (e : TypingContext) (known : Known) (letters : Letters) → PartsWellFormed e known letters → (checker_scope : CheckerScope) (resolver_scope : ResolverScope) → Agree e checker_scope resolver_scope → (head : ForHead) → IsTrue (select_stands head.query.query) → head_fault checker_scope head ≡ None → IsForHead e known checker_scope resolver_scope head
-head_is e known letters parts checker_scope resolver_scope a head well none =
+pub head_is : (e : TypingContext) (known : Known) → PartsWellFormed e known → (checker_scope : CheckerScope) (resolver_scope : ResolverScope) → Agree e checker_scope resolver_scope → (head : ForHead) → IsTrue (select_stands head.query.query) → head_fault checker_scope head ≡ None → IsForHead e known checker_scope resolver_scope head
+head_is e known parts checker_scope resolver_scope a head well none =
     let s : Select = head.query.query in
     let q : QueryChecked = check_query s checker_scope in
     let table : Identifier = (out-Select s).table in
@@ -160,7 +159,7 @@ head_is e known letters parts checker_scope resolver_scope a head well none =
     let resolved = map (λ p. resolve_pick p (resolved_row s resolver_scope)) (picks_of s) in
     let shapes : (resolve_query s resolver_scope).shapes ≡ map (λ m. m.shape) picks.values = resolved_shapes s resolver_scope ∙ ap (λ ss. shapes_of (values_in resolved) ss) picks.no_sets ∙ ap (λ ms. map (λ m. m.shape) ms) picks.resolved in
     let same : item_letters known (resolve_query s resolver_scope).query ≡ item_letters known (ordered_query resolver_scope head.query) = sym (ordered_letters known (is_downward head.query.order) (resolve_query s resolver_scope).query) in record {
-      query = cursor_query e known letters parts checker_scope resolver_scope a head.query well clean inner.0;
+      query = cursor_query e known parts checker_scope resolver_scope a head.query well clean inner.0;
       values = picks.values;
       items = picks.items;
       type_check = subst (AllTypeCheck (map (λ m. m.shape) picks.values)) same (subst (λ ss. AllTypeCheck ss (item_letters known (resolve_query s resolver_scope).query)) shapes (parts.type_check checker_scope resolver_scope a s well clean));

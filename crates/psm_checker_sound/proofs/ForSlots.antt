@@ -1,5 +1,5 @@
 -- The variables of a FOR statement have slots of their types.
-use Rattle.std.proofs.Common.{◌≡◌, ℕ, suc, Bool, List, [], ◌∷◌, map, length, slice_get, Option, Some, None, refl, ap, sym, ◌∙◌, subst}
+use Rattle.std.proofs.Common.{◌≡◌, ℕ, Bool, List, [], ◌∷◌, map, slice_get, Option, Some, None, refl, ap, sym, ◌∙◌, subst}
 use Rattle.psm_exprcode.specs.declared.op.Letter.{Letter}
 use Rattle.psm_scope.specs.Scopes.{Spelling}
 use Rattle.psm_scope.specs.Scopes as scope
@@ -12,9 +12,8 @@ use Rattle.psm_declare.specs.Declarations.{Numbered, variable_in}
 use Rattle.psm_resolve.specs.Blocks.{ForItem, item_slots, numbered_items}
 use Rattle.psm_declare.specs.Numbering.{Numbering, next_slot, with_slot}
 use Rattle.psm_codegen.proofs.There.{there_at}
-use Rattle.psm_typing.specs.TypingContext.{Each, TypingContext}
-use Rattle.psm_typing.specs.Statements.{AreForItems, IsSlot}
-use Rattle.psm_wellformed.specs.Slots.{AreSlots, SlotOf}
+use Rattle.psm_typing.specs.TypingContext.{Each, TypingContext, AreOf, variables_of}
+use Rattle.psm_typing.specs.Statements.{AreForItems, SlotOf}
 use Rattle.psm_checker_sound.specs.Agreement.{AllTypeCheck, HasSlot, TypeChecks, letter_in}
 use Rattle.psm_checker_sound.specs.Numbered.{Fills}
 use Rattle.psm_checker_sound.proofs.Declarations.{AreTypes, one_longer, types-slot}
@@ -23,7 +22,6 @@ use Rattle.psm_checker_sound.proofs.DeclaredOnce.{each_once, once_mapped}
 use Rattle.psm_checker_sound.proofs.ForItems.{AreNamed, IsNamedItem, declared_kinds}
 use Rattle.psm_checker_sound.proofs.Growing.{fills-before, items-grow}
 use Rattle.psm_checker_sound.proofs.WellFormedSlots.{slot_typed}
-use Rattle.psm_checker_sound.proofs.Simples.{there_is}
 
 -- slots of the types of items, one for one
 abbrev pub AreTyped : TypingContext → List ℕ → List ForItem → Type 0
@@ -39,7 +37,7 @@ slot_type_checks e slot i m k there n type_checks =
     let due : k ≡ letter_in (family_of n.type.kind) = subst (λ s. TypeChecks s k) n.shape type_checks in
     subst (SlotOf e slot) (n.letter ∙ sym due) (slot_typed e slot i.1 there)
 
-pub slots_type_check : (e : TypingContext) (slots : List ℕ) (is : List ForItem) (ms : List ResolvedExpr) (ks : List Letter) → AreTyped e slots is → AreNamed is ms → AllTypeCheck (map (λ m. m.shape) ms) ks → AreSlots e slots ks
+pub slots_type_check : (e : TypingContext) (slots : List ℕ) (is : List ForItem) (ms : List ResolvedExpr) (ks : List Letter) → AreTyped e slots is → AreNamed is ms → AllTypeCheck (map (λ m. m.shape) ms) ks → AreOf (variables_of e) slots ks
 slots_type_check e [] [] [] [] t n s = tt
 slots_type_check e [] [] [] (k ∷ ks) t n s = absurd s
 slots_type_check e [] [] (m ∷ ms) ks t n s = absurd n
@@ -49,20 +47,9 @@ slots_type_check e (slot ∷ slots) (i ∷ is) [] ks t n s = absurd n
 slots_type_check e (slot ∷ slots) (i ∷ is) (m ∷ ms) [] t n s = absurd s
 slots_type_check e (slot ∷ slots) (i ∷ is) (m ∷ ms) (k ∷ ks) t n s = (slot_type_checks e slot i m k t.0 n.0 s.0, slots_type_check e slots is ms ks t.1 n.1 s.1)
 
-slots_many : (e : TypingContext) (slots : List ℕ) (ks : List Letter) → AreSlots e slots ks → length slots ≡ length ks
-slots_many e [] [] h = refl
-slots_many e [] (k ∷ ks) h = absurd h
-slots_many e (slot ∷ slots) [] h = absurd h
-slots_many e (slot ∷ slots) (k ∷ ks) h = ap suc (slots_many e slots ks h.1)
-
-slots_there : (e : TypingContext) (slots : List ℕ) (is : List ForItem) → AreTyped e slots is → Each (IsSlot e) slots
-slots_there e [] is h = tt
-slots_there e (slot ∷ slots) [] h = absurd h
-slots_there e (slot ∷ slots) (i ∷ is) h = (there_is (slice_get e.routine.slots slot) i.1 h.0, slots_there e slots is h.1)
-
-pub for_items_are : (e : TypingContext) (number : ℕ) (insensitive : Bool) (slots : List ℕ) (is : List ForItem) (ks : List Letter) → slice_get e.shapes number ≡ Some (record { width = length ks; insensitive = insensitive }) → AreTyped e slots is → AreSlots e slots ks
+pub for_items_are : (e : TypingContext) (number : ℕ) (insensitive : Bool) (slots : List ℕ) (ks : List Letter) → slice_get e.shapes number ≡ Some (record { letters = ks; insensitive = insensitive }) → AreOf (variables_of e) slots ks
     → AreForItems e number slots
-for_items_are e number insensitive slots is ks known t h = record { shape = record { width = length ks; insensitive = insensitive }; known = known; many = slots_many e slots ks h; there = slots_there e slots is t }
+for_items_are e number insensitive slots ks known h = record { shape = record { letters = ks; insensitive = insensitive }; known = known; slots = h }
 
 -- ---- after the items
 

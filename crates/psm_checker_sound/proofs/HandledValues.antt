@@ -19,10 +19,11 @@ use Rattle.psm_tree.specs.declared.statement.HandlerValue.TheVariants as handled
 use Rattle.psm_resolve_expr.specs.ResolverScope.{Scopes, ResolverScope}
 use Rattle.psm_resolve.specs.Blocks.{value_for, value_of}
 use Rattle.psm_resolve.specs.Statements.{declared_as, state_or_number, state_or_success}
-use Rattle.psm_code.specs.RoutineRules.{are_new, is_condition, is_same_value, is_value_among}
+use Rattle.psm_code.specs.RoutineRules.{are_new, is_same_value, is_value_among}
 use Rattle.psm_typing.specs.TypingContext.{Each, TypingContext}
 use Rattle.psm_typing.specs.Statements as places
-use Rattle.psm_wellformed.specs.Statements.{WellFormedValue}
+use Rattle.psm_typing.specs.Statements.{IsRaised, IsValue}
+use Rattle.psm_checker_sound.proofs.FromRules.{raised}
 use Rattle.psm_checker_sound.specs.Meant.{HasNumber, IsConditionMeant, Meant}
 use Rattle.psm_checker_sound.specs.Places.{AreDistinct, ConditionsKnown, IsGood, state_in}
 use Rattle.psm_checker_sound.proofs.Choices.{all_true}
@@ -142,24 +143,24 @@ unbroken false place none = refl
 
 module _ (e : TypingContext) (s : places.StatementScope) (c : Context) (resolver_scope : ResolverScope) (known : ConditionsKnown c resolver_scope) (meant : Meant e s c.checker_scope resolver_scope) where
   abbrev Handled : HandlerValue → Type 0
-  Handled v = IsHandled c resolver_scope known v × WellFormedValue e (value_of resolver_scope.scopes v)
+  Handled v = IsHandled c resolver_scope known v × IsValue e (value_of resolver_scope.scopes v)
 
   -- a name of a condition, by what the checker knows and by what stands for it
   abbrev NamedSo : Spelling → Option DeclaredCondition → Option DeclaredCondition → Type 0
-  NamedSo n x y = (h : Handles) × (option_map (λ d. named_value n d.state) x ≡ Some h) × StandsFor resolver_scope.scopes h (value_for (declared_as y)) × WellFormedValue e (value_for (declared_as y))
+  NamedSo n x y = (h : Handles) × (option_map (λ d. named_value n d.state) x ≡ Some h) × StandsFor resolver_scope.scopes h (value_for (declared_as y)) × IsValue e (value_for (declared_as y))
 
   with_state : (n : Spelling) (a b : DeclaredCondition) (o : Option Spelling) → b.state ≡ o → lookup.condition n resolver_scope.scopes ≡ Some b → a.state ≡ b.state → HasNumber e b.state b.number → IsGood (Some b) → NamedSo n (Some a) (Some b)
   with_state n a b None is there same number good = (
     ByName n,
     ap (λ o. Some (named_value n o)) (same ∙ is),
     record { d = b; there = there; own = is; is = ap (λ o. value_for (state_or_number o b.number)) is },
-    subst (λ o. WellFormedValue e (value_for (state_or_number o b.number))) (sym is) (subst (λ o. HasNumber e o b.number) is number),
+    subst (λ o. IsValue e (value_for (state_or_number o b.number))) (sym is) (subst (λ o. HasNumber e o b.number) is number),
   )
   with_state n a b (Some t) is there same number good = (
     ByState t,
     ap (λ o. Some (named_value n o)) (same ∙ is),
     ap (λ o. value_for (state_or_number o b.number)) is,
-    subst (λ o. WellFormedValue e (value_for (state_or_number o b.number))) (sym is) (subst (λ o. IsGood (Some (record { number = b.number; state = o }))) is good),
+    subst (λ o. IsValue e (value_for (state_or_number o b.number))) (sym is) (raised t (subst (λ o. IsGood (Some (record { number = b.number; state = o }))) is good)),
   )
 
   named_so : (n : Spelling) (place : Place) (x y : Option DeclaredCondition) → lookup.condition n resolver_scope.scopes ≡ y → state_in x ≡ state_in y → IsConditionMeant e x y → IsGood y → breaks_if (not (is_some x)) rule.UnknownCondition place ≡ None → NamedSo n x y
@@ -171,7 +172,7 @@ module _ (e : TypingContext) (s : places.StatementScope) (c : Context) (resolver
   value_handled (handled.State t) none =
       let good = state_good t none in (
         record { h = ByState t.text; is = ap (option_map (λ s. ByState s)) good.0; stands = ap (λ o. values.State (state_or_success o)) good.0 },
-        subst (λ o. is_condition (state_or_success o) ≡ true) (sym good.0) good.1,
+        subst (λ o. IsRaised (state_or_success o)) (sym good.0) (raised t.text good.1),
       )
   value_handled (handled.Name n) none =
       let so = named_so n.name n.place (lookup.condition n.name c.checker_scope.scopes) (lookup.condition n.name resolver_scope.scopes) refl (known.states n.name) (meant.conditions n.name) (known.good n.name) none in
@@ -181,7 +182,7 @@ module _ (e : TypingContext) (s : places.StatementScope) (c : Context) (resolver
   value_handled (handled.NotFound place) none = (record { h = NoData; is = refl; stands = refl }, tt)
 
   pub values_new : (vs : List HandlerValue) (before : List Handles) (seen : List ConditionValue) → AllStand c resolver_scope known before seen → first_of (values_fault c.checker_scope.scopes before vs) ≡ None
-      → (are_new seen (map (value_of resolver_scope.scopes) vs) ≡ true) × Each (WellFormedValue e) (map (value_of resolver_scope.scopes) vs)
+      → (are_new seen (map (value_of resolver_scope.scopes) vs) ≡ true) × Each (IsValue e) (map (value_of resolver_scope.scopes) vs)
   values_new [] before seen all none = (refl, tt)
   values_new (v ∷ vs) before seen all none =
       let scopes = c.checker_scope.scopes in

@@ -17,11 +17,11 @@ pub mod SpelledStatements
 pub mod SpelledWhole
 pub mod SpelledFiles
 pub mod SmallTokens
+pub mod FromRules
 pub mod Simples
 pub mod Naming
 pub mod Changing
 pub mod Updating
-pub mod Statements
 pub mod Calling
 pub mod Standing
 pub mod Premises

@@ -1,5 +1,5 @@
 -- The handlers of a block that has no fault may be its handlers.
-use Rattle.std.proofs.Common.{◌≡◌, Bool, true, false, not, ◌||◌, List, [], ◌∷◌, ◌++◌, map, None, refl, ap, sym, ◌∙◌, subst}
+use Rattle.std.proofs.Common.{◌≡◌, Bool, true, false, List, [], ◌∷◌, ◌++◌, map, None, refl, ap, sym, ◌∙◌, subst}
 use Rattle.std.proofs.lemmas.List.{map-append}
 use Rattle.std.specs.List.{flat_map}
 use Rattle.psm_cond.specs.declared.handlers.ConditionValue.{ConditionValue}
@@ -20,11 +20,10 @@ use Rattle.psm_resolve_expr.specs.ResolverScope.{ResolverScope}
 use Rattle.psm_resolve.specs.Blocks as making
 use Rattle.psm_resolve.specs.Blocks.{resolve_handler, kind_of, resolve_statement, value_of}
 use Rattle.psm_declare.specs.Numbering.{Numbering}
-use Rattle.psm_code.specs.RoutineRules.{are_new, is_undo}
-use Rattle.psm_code.specs.Rules.{is_some}
-use Rattle.psm_typing.specs.TypingContext.{Each, TypingContext}
+use Rattle.psm_typing.specs.TypingContext.{AreApart, Each, HasSome, TypingContext}
 use Rattle.psm_typing.specs.Statements as places
-use Rattle.psm_wellformed.specs.Statements.{AreApart, MayHandle, WellFormedValue}
+use Rattle.psm_typing.specs.Statements.{HandleApart, IsValue, MayHandle, MayUndo}
+use Rattle.psm_checker_sound.proofs.FromRules.{new-apart}
 use Rattle.psm_checker_sound.specs.Meant.{Meant}
 use Rattle.psm_checker_sound.specs.Places.{ConditionsKnown}
 use Rattle.psm_checker_sound.proofs.Composing.{each_split}
@@ -72,34 +71,34 @@ handlers_well_typed c atomic (h ∷ hs) none =
     (ap (λ q. earlier (q.own atomic) (q.action (statement_faults.inside c scope.Action))) (sym (handler_part-out h)) ∙ two.0) in
     (own, handlers_well_typed c atomic hs two.1)
 
-undo_by : (place : Place) (kind : HandlerKind) (atomic : Bool) → undo_fault place kind atomic ≡ None → (not (is_undo (kind_of kind)) || atomic) ≡ true
-undo_by place kinds.Continue atomic none = refl
-undo_by place kinds.Exit atomic none = refl
+undo_by : (place : Place) (kind : HandlerKind) (atomic : Bool) → undo_fault place kind atomic ≡ None → MayUndo atomic (kind_of kind)
+undo_by place kinds.Continue atomic none = tt
+undo_by place kinds.Exit atomic none = tt
 undo_by place kinds.Undo true none = refl
 undo_by place kinds.Undo false none = absurd cc
 
-may_at : (e : TypingContext) (atomic : Bool) (h : Handler) (resolver_scope : ResolverScope) (action : ResolvedStatement) → undo_fault (out-Handler h).«at» (out-Handler h).kind atomic ≡ None → Each (WellFormedValue e) (map (value_of resolver_scope.scopes) (several (out-Handler h).values))
+may_at : (e : TypingContext) (atomic : Bool) (h : Handler) (resolver_scope : ResolverScope) (action : ResolvedStatement) → undo_fault (out-Handler h).«at» (out-Handler h).kind atomic ≡ None → Each (IsValue e) (map (value_of resolver_scope.scopes) (several (out-Handler h).values))
     → MayHandle e atomic (handler_of h resolver_scope action)
 may_at e atomic h resolver_scope action none well_formed =
     let r = sym (out-roll-ResolvedHandler (record { kind = kind_of (out-Handler h).kind; values = map (value_of resolver_scope.scopes) (several (out-Handler h).values); action = action })) in record {
-      some = subst (λ o. is_some o.values ≡ true) r refl;
-      values = subst (λ o. Each (WellFormedValue e) o.values) r well_formed;
-      undo = subst (λ o. (not (is_undo o.kind) || atomic) ≡ true) r (undo_by (out-Handler h).«at» (out-Handler h).kind atomic none);
+      some = subst (λ o. HasSome o.values) r tt;
+      values = subst (λ o. Each (IsValue e) o.values) r well_formed;
+      undo = subst (λ o. MayUndo atomic o.kind) r (undo_by (out-Handler h).«at» (out-Handler h).kind atomic none);
     }
 
-may_all : (e : TypingContext) (c : Context) (atomic : Bool) (hs : List Handler) (resolver_scope : ResolverScope) (n : Numbering) → Each (HandlerWellTyped c atomic) hs → Each (WellFormedValue e) (map (value_of resolver_scope.scopes) (written_values hs))
+may_all : (e : TypingContext) (c : Context) (atomic : Bool) (hs : List Handler) (resolver_scope : ResolverScope) (n : Numbering) → Each (HandlerWellTyped c atomic) hs → Each (IsValue e) (map (value_of resolver_scope.scopes) (written_values hs))
     → Each (MayHandle e atomic) (resolve_handlers hs resolver_scope n).0
 may_all e c atomic [] resolver_scope n h well_formed = tt
 may_all e c atomic (x ∷ hs) resolver_scope n h well_formed =
-    let values = each_split (WellFormedValue e) (map (value_of resolver_scope.scopes) (several (out-Handler x).values)) (map (value_of resolver_scope.scopes) (written_values hs))
-    (subst (Each (WellFormedValue e)) (map-append (value_of resolver_scope.scopes) (several (out-Handler x).values) (written_values hs)) well_formed) in
+    let values = each_split (IsValue e) (map (value_of resolver_scope.scopes) (several (out-Handler x).values)) (map (value_of resolver_scope.scopes) (written_values hs))
+    (subst (Each (IsValue e)) (map-append (value_of resolver_scope.scopes) (several (out-Handler x).values) (written_values hs)) well_formed) in
     let own = may_at e atomic x resolver_scope (resolve_statement (out-Handler x).action (making.inside resolver_scope scope.Action) n).0 h.0.0 values.0 in
     (subst (λ r. MayHandle e atomic r.0) (sym (resolve_handler-out x resolver_scope n)) own, may_all e c atomic hs resolver_scope (resolve_handler x resolver_scope n).1 h.1 values.1)
 
 -- no value stands twice, and each handler may be one
 pub handlers_may : (e : TypingContext) (s : places.StatementScope) (c : Context) (resolver_scope : ResolverScope) → ConditionsKnown c resolver_scope → Meant e s c.checker_scope resolver_scope → (atomic : Bool) (hs : List Handler) (n : Numbering)
     → first_of (values_fault c.checker_scope.scopes [] (all_values (map handler_part hs))) ≡ None → first_of (handlers_fault c atomic (map handler_part hs)) ≡ None
-    → AreApart (resolve_handlers hs resolver_scope n).0 × Each (MayHandle e atomic) (resolve_handlers hs resolver_scope n).0
+    → HandleApart (resolve_handlers hs resolver_scope n).0 × Each (MayHandle e atomic) (resolve_handlers hs resolver_scope n).0
 handlers_may e s c resolver_scope known meant atomic hs n none own =
     let new = values_new e s c resolver_scope known meant (written_values hs) [] [] tt (ap (λ vs. first_of (values_fault c.checker_scope.scopes [] vs)) (sym (values_written hs)) ∙ none) in
-    (ap (are_new []) (resolve_values hs resolver_scope n) ∙ new.0, may_all e c atomic hs resolver_scope n (handlers_well_typed c atomic hs own) new.1)
+    (subst AreApart (sym (resolve_values hs resolver_scope n)) (new-apart [] (map (value_of resolver_scope.scopes) (written_values hs)) new.0).apart, may_all e c atomic hs resolver_scope n (handlers_well_typed c atomic hs own) new.1)

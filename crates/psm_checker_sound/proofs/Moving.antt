@@ -17,15 +17,14 @@ use Rattle.psm_codegen.proofs.Growing.{begins-length}
 use Rattle.psm_typing.specs.TypingContext.{TypingContext}
 use Rattle.psm_typing.specs.Statements as places
 use Rattle.psm_typing.specs.Statements.{in_action, looping}
-use Rattle.psm_wellformed.specs.Statements.{Letters}
 use Rattle.psm_checker_sound.specs.Numbered.{AreBelow, IsConditionBelow, IsCursorBelow}
 use Rattle.psm_checker_sound.specs.Places.{IsCursorKnown, StandsAt}
 use Rattle.psm_checker_sound.proofs.Growing.{Grows}
 use Rattle.psm_checker_sound.proofs.Standing.{IsPlace, in_a_loop, in_an_action}
 
 -- a place of a statement, where so much has been numbered
-pub record IsHere (e : TypingContext) (known : Known) (letters : Letters) (s : places.StatementScope) (c : Context) (resolver_scope : ResolverScope) (n : Numbering) : Type 0 where
-  pub stands : StandsAt e known letters s c resolver_scope
+pub record IsHere (e : TypingContext) (known : Known) (s : places.StatementScope) (c : Context) (resolver_scope : ResolverScope) (n : Numbering) : Type 0 where
+  pub stands : StandsAt e known s c resolver_scope
   pub below : AreBelow n resolver_scope.scopes
 
 -- ---- more is numbered
@@ -44,17 +43,17 @@ below-grown {n} {m} {scopes} g b = record {
   cursors = λ name. cursor_below n.cursors m.cursors g.cursors (lookup.cursor name scopes) (b.cursors name);
 }
 
-pub here-grown : {e : TypingContext} {known : Known} {letters : Letters} {s : places.StatementScope} {c : Context} {resolver_scope : ResolverScope} {n m : Numbering} → Grows n m → IsHere e known letters s c resolver_scope n → IsHere e known letters s c resolver_scope m
+pub here-grown : {e : TypingContext} {known : Known} {s : places.StatementScope} {c : Context} {resolver_scope : ResolverScope} {n m : Numbering} → Grows n m → IsHere e known s c resolver_scope n → IsHere e known s c resolver_scope m
 here-grown g h = record { stands = h.stands; below = below-grown g h.below }
 
 -- ---- cursors at another place
 
-pub known_moved : (e : TypingContext) (known : Known) (letters : Letters) (s t : places.StatementScope) (resolver_scope : ResolverScope) (scopes : Scopes) (cursor : Option Cursor) (number : Option ℕ)
+pub known_moved : (e : TypingContext) (known : Known) (s t : places.StatementScope) (resolver_scope : ResolverScope) (scopes : Scopes) (cursor : Option Cursor) (number : Option ℕ)
     → ((k : ℕ) → number ≡ Some k → find (λ y. nat_eq y.number k) t.cursors ≡ find (λ y. nat_eq y.number k) s.cursors)
-    → IsCursorKnown e known letters s resolver_scope cursor number → IsCursorKnown e known letters t (in_scopes resolver_scope scopes) cursor number
-known_moved e known letters s t resolver_scope scopes None number same h = tt
-known_moved e known letters s t resolver_scope scopes (Some cursor) None same h = absurd h
-known_moved e known letters s t resolver_scope scopes (Some cursor) (Some k) same h = record {
+    → IsCursorKnown e known s resolver_scope cursor number → IsCursorKnown e known t (in_scopes resolver_scope scopes) cursor number
+known_moved e known s t resolver_scope scopes None number same h = tt
+known_moved e known s t resolver_scope scopes (Some cursor) None same h = absurd h
+known_moved e known s t resolver_scope scopes (Some cursor) (Some k) same h = record {
   x = h.x;
   seen = same k refl ∙ h.seen;
   table = h.table;
@@ -64,20 +63,20 @@ known_moved e known letters s t resolver_scope scopes (Some cursor) (Some k) sam
   items = h.items;
   type_check = h.type_check;
   typed = h.typed;
-  lettered = h.lettered;
+  there = h.there;
 }
 
-place_of : (e : TypingContext) (known : Known) (letters : Letters) (s : places.StatementScope) (c : Context) (resolver_scope : ResolverScope) → StandsAt e known letters s c resolver_scope → IsPlace e s c resolver_scope
-place_of e known letters s c resolver_scope p = record { agree = p.agree; meant = p.meant; outside = p.outside; within = p.within; level = p.level }
+place_of : (e : TypingContext) (known : Known) (s : places.StatementScope) (c : Context) (resolver_scope : ResolverScope) → StandsAt e known s c resolver_scope → IsPlace e s c resolver_scope
+place_of e known s c resolver_scope p = record { agree = p.agree; meant = p.meant; outside = p.outside; within = p.within; level = p.level }
 
 -- ---- into a loop
 
-pub stands_in-loop : (e : TypingContext) (known : Known) (letters : Letters) (s : places.StatementScope) (label : Option Spelling) (c : Context) (resolver_scope : ResolverScope) → StandsAt e known letters s c resolver_scope
-    → StandsAt e known letters (looping (level_at resolver_scope) s) (faults.in_loop label c) (in_loop label resolver_scope)
-stands_in-loop e known letters s label c resolver_scope p = let q = in_a_loop e s label c resolver_scope (place_of e known letters s c resolver_scope p) in record {
+pub stands_in-loop : (e : TypingContext) (known : Known) (s : places.StatementScope) (label : Option Spelling) (c : Context) (resolver_scope : ResolverScope) → StandsAt e known s c resolver_scope
+    → StandsAt e known (looping (level_at resolver_scope) s) (faults.in_loop label c) (in_loop label resolver_scope)
+stands_in-loop e known s label c resolver_scope p = let q = in_a_loop e s label c resolver_scope (place_of e known s c resolver_scope p) in record {
   agree = q.agree;
   meant = q.meant;
-  cursors = λ n. known_moved e known letters s (looping (level_at resolver_scope) s) resolver_scope (scope.Loop label ∷ resolver_scope.scopes) (lookup.cursor n c.checker_scope.scopes) (lookup.cursor n resolver_scope.scopes) (λ k is. refl) (p.cursors n);
+  cursors = λ n. known_moved e known s (looping (level_at resolver_scope) s) resolver_scope (scope.Loop label ∷ resolver_scope.scopes) (lookup.cursor n c.checker_scope.scopes) (lookup.cursor n resolver_scope.scopes) (λ k is. refl) (p.cursors n);
   conditions = record { states = p.conditions.states; good = p.conditions.good; distinct = p.conditions.distinct };
   outside = q.outside;
   within = q.within;
@@ -86,24 +85,24 @@ stands_in-loop e known letters s label c resolver_scope p = let q = in_a_loop e 
   is = p.is;
 }
 
-pub here_in-loop : (e : TypingContext) (known : Known) (letters : Letters) (s : places.StatementScope) (label : Option Spelling) (c : Context) (resolver_scope : ResolverScope) (n : Numbering) → IsHere e known letters s c resolver_scope n
-    → IsHere e known letters (looping (level_at resolver_scope) s) (faults.in_loop label c) (in_loop label resolver_scope) n
-here_in-loop e known letters s label c resolver_scope n h = record {
-  stands = stands_in-loop e known letters s label c resolver_scope h.stands;
+pub here_in-loop : (e : TypingContext) (known : Known) (s : places.StatementScope) (label : Option Spelling) (c : Context) (resolver_scope : ResolverScope) (n : Numbering) → IsHere e known s c resolver_scope n
+    → IsHere e known (looping (level_at resolver_scope) s) (faults.in_loop label c) (in_loop label resolver_scope) n
+here_in-loop e known s label c resolver_scope n h = record {
+  stands = stands_in-loop e known s label c resolver_scope h.stands;
   below = record { conditions = h.below.conditions; cursors = h.below.cursors };
 }
 
 -- ---- into the action of a handler of a block of that level
 
-pub here_in-action : (e : TypingContext) (known : Known) (letters : Letters) (s : places.StatementScope) (level : ℕ) (c : Context) (resolver_scope : ResolverScope) (n : Numbering) → level ≤ level_at resolver_scope → IsHere e known letters s c resolver_scope n
-    → IsHere e known letters (in_action level s.cursors) (statement_faults.inside c scope.Action) (making.inside resolver_scope scope.Action) n
-here_in-action e known letters s level c resolver_scope n below h =
+pub here_in-action : (e : TypingContext) (known : Known) (s : places.StatementScope) (level : ℕ) (c : Context) (resolver_scope : ResolverScope) (n : Numbering) → level ≤ level_at resolver_scope → IsHere e known s c resolver_scope n
+    → IsHere e known (in_action level s.cursors) (statement_faults.inside c scope.Action) (making.inside resolver_scope scope.Action) n
+here_in-action e known s level c resolver_scope n below h =
     let p = h.stands in
-    let q = in_an_action e s level c resolver_scope below (place_of e known letters s c resolver_scope p) in record {
+    let q = in_an_action e s level c resolver_scope below (place_of e known s c resolver_scope p) in record {
       stands = record {
         agree = q.agree;
         meant = q.meant;
-        cursors = λ n. known_moved e known letters s (in_action level s.cursors) resolver_scope (scope.Action ∷ resolver_scope.scopes) (lookup.cursor n c.checker_scope.scopes) (lookup.cursor n resolver_scope.scopes) (λ k is. refl) (p.cursors n);
+        cursors = λ n. known_moved e known s (in_action level s.cursors) resolver_scope (scope.Action ∷ resolver_scope.scopes) (lookup.cursor n c.checker_scope.scopes) (lookup.cursor n resolver_scope.scopes) (λ k is. refl) (p.cursors n);
         conditions = record { states = p.conditions.states; good = p.conditions.good; distinct = p.conditions.distinct };
         outside = q.outside;
         within = q.within;

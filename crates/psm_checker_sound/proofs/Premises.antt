@@ -20,8 +20,6 @@ use Rattle.psm_typing.specs.TypingContext.{Each, TypingContext}
 use Rattle.psm_typing.specs.Statements as places
 use Rattle.psm_typing.specs.Expressions.{IsExpr}
 use Rattle.psm_wellformed.specs.Queries.{has_rows, items_of}
-use Rattle.psm_wellformed.specs.Simples.{WellFormedSimple}
-use Rattle.psm_wellformed.specs.Statements.{Letters}
 use Rattle.psm_checker_sound.specs.Agreement.{Agree, AllTypeCheck}
 use Rattle.psm_checker_sound.specs.Places.{IsTyped, StandsAt}
 use Rattle.psm_checker_sound.specs.Simples.{SimpleStands}
@@ -29,19 +27,20 @@ use Rattle.psm_checker_sound.specs.Stands.{select_stands}
 use Rattle.psm_checker_sound.specs.StatementsStand.{Tested}
 use Rattle.psm_checker_sound.proofs.Tests.{IsCompared, compared_typed, tests_typed}
 use Rattle.psm_checker_sound.proofs.WellFormedQueries.{well_formed-letters, well_formed-rows, well_formed-typed}
-use Rattle.psm_checker_sound.proofs.WellFormedSimples.{well_formed-simples}
+use Rattle.psm_checker_sound.proofs.WellFormedSimples.{simple_well_typed}
+use Rattle.psm_typing.specs.Statements.{IsSimple}
 
-pub record PartsWellFormed (e : TypingContext) (known : Known) (letters : Letters) : Type 0 where
-  pub simples : (s : places.StatementScope) (c : Context) (resolver_scope : ResolverScope) → StandsAt e known letters s c resolver_scope → (x : Simple) → SimpleStands x → simple_fault c x ≡ None → WellFormedSimple e known letters s (simple_of resolver_scope x)
+pub record PartsWellFormed (e : TypingContext) (known : Known) : Type 0 where
+  pub simples : (s : places.StatementScope) (c : Context) (resolver_scope : ResolverScope) → StandsAt e known s c resolver_scope → (x : Simple) → SimpleStands x → simple_fault c x ≡ None → IsSimple e s (simple_of resolver_scope x)
   pub tests : (checker_scope : CheckerScope) (resolver_scope : ResolverScope) → Agree e checker_scope resolver_scope → resolver_scope.row ≡ None → (x : Expr) → Tested x → test_part checker_scope x ≡ None → IsExpr e false (expr_at resolver_scope x) B
   pub compared : (checker_scope : CheckerScope) (resolver_scope : ResolverScope) → Agree e checker_scope resolver_scope → resolver_scope.row ≡ None → (x : Expr) → Tested x → (as_value (check_expr x checker_scope)).fault ≡ None → IsCompared e checker_scope resolver_scope x
   pub type_check : (checker_scope : CheckerScope) (resolver_scope : ResolverScope) → Agree e checker_scope resolver_scope → (q : Select) → IsTrue (select_stands q) → query_fault (check_query q checker_scope) ≡ None → AllTypeCheck (resolve_query q resolver_scope).shapes (item_letters known (resolve_query q resolver_scope).query)
   pub typed : (checker_scope : CheckerScope) (resolver_scope : ResolverScope) → Agree e checker_scope resolver_scope → (q : Select) → IsTrue (select_stands q) → query_fault (check_query q checker_scope) ≡ None → Each IsTyped (resolve_query q resolver_scope).shapes
   pub rows : (checker_scope : CheckerScope) (resolver_scope : ResolverScope) → Agree e checker_scope resolver_scope → (q : Select) → IsTrue (select_stands q) → query_fault (check_query q checker_scope) ≡ None → first_set (check_query q checker_scope).picks ≡ None → has_rows (items_of (resolve_query q resolver_scope).query) ≡ true
 
-pub parts_well_formed : (e : TypingContext) (known : Known) (letters : Letters) → known ≡ known_of e.file e.routine → PartsWellFormed e known letters
-parts_well_formed e known letters is = record {
-  simples = well_formed-simples e known letters;
+pub parts_well_formed : (e : TypingContext) (known : Known) → known ≡ known_of e.file e.routine → PartsWellFormed e known
+parts_well_formed e known is = record {
+  simples = simple_well_typed e known;
   tests = tests_typed e;
   compared = compared_typed e;
   type_check = well_formed-letters e known is;

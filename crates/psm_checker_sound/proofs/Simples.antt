@@ -18,26 +18,22 @@ use Rattle.psm_rules.specs.Faults.{breaks, breaks_if}
 use Rattle.psm_rules.specs.Checked.{as_value}
 use Rattle.psm_rules.specs.Shapes.{family_of, is_of, typed}
 use Rattle.psm_rules.specs.ExprFaults as faults
-use Rattle.psm_rules.specs.ExprFaults.{QueryChecked, check_expr, items_of, query_fault, check_query, spelling}
-use Rattle.psm_rules.specs.StatementFaults.{Context, Within, InProcedure, InFunction, assigned_type, into_fault, items_into, mixed_at, return_fault, select_into_fault, set_fault, several, source_fault, target_fault, target_fault_of, target_type, targets_fault}
+use Rattle.psm_rules.specs.ExprFaults.{check_expr, spelling}
+use Rattle.psm_rules.specs.StatementFaults.{Context, Within, InProcedure, InFunction, assigned_type, items_into, mixed_at, return_fault, set_fault, source_fault, target_fault, target_fault_of, target_type}
 use Rattle.psm_rules.specs.CheckerScope.{CheckerScope}
-use Rattle.psm_rules.proofs.Earliest.{first_of_cons}
-use Rattle.psm_tree.specs.Names.{Targets}
 use Rattle.psm_tree.specs.declared.name.Target.{Target}
 use Rattle.psm_tree.specs.declared.expr.Expr.{Expr}
-use Rattle.psm_tree.specs.declared.expr.Select.{Select}
 use Rattle.psm_resolve_expr.specs.declared.resolved.Resolved.{Resolved}
-use Rattle.psm_resolve_expr.specs.Exprs.{resolve_expr, resolve_query}
+use Rattle.psm_resolve_expr.specs.Exprs.{resolve_expr}
 use Rattle.psm_resolve_expr.specs.ResolverScope.{ResolverScope}
 use Rattle.psm_declare.specs.Seen.{expr_at}
 use Rattle.psm_resolve.specs.Statements as making
-use Rattle.psm_resolve.specs.Statements.{slot_of, slots_of}
+use Rattle.psm_resolve.specs.Statements.{slot_of}
 use Rattle.psm_typing.specs.Expressions.{IsExpr}
-use Rattle.psm_typing.specs.Queries.{IsQuery}
-use Rattle.psm_typing.specs.TypingContext.{Each, IsThere, TypingContext}
-use Rattle.psm_typing.specs.Statements.{IsFor, IsSlot}
+use Rattle.psm_typing.specs.TypingContext.{IsThere, TypingContext}
+use Rattle.psm_typing.specs.Statements.{IsFor}
 use Rattle.psm_checker_sound.specs.Agreement.{Agree, HasSlot, IsWithin}
-use Rattle.psm_checker_sound.specs.Stands.{Standing, as_source, select_stands, stands}
+use Rattle.psm_checker_sound.specs.Stands.{Standing, as_source, stands}
 use Rattle.psm_checker_sound.proofs.Names.{meant_alike, meant_each}
 use Rattle.psm_checker_sound.proofs.Judging.{Source, Where, Control}
 use Rattle.psm_checker_sound.proofs.Parts.{IsResult, IsSourceOf, Part, as_value-clean, neither, result, same_family}
@@ -46,7 +42,7 @@ use Rattle.psm_checker_sound.proofs.Results.{Agrees}
 use Rattle.psm_checker_sound.proofs.Choices.{source_of}
 use Rattle.psm_checker_sound.proofs.Queries.{ItemsAre}
 use Rattle.psm_checker_sound.proofs.Accepted.{Fits}
-use Rattle.psm_checker_sound.proofs.Whole.{expr_accepted, query_accepted, three_none}
+use Rattle.psm_checker_sound.proofs.Whole.{expr_accepted}
 
 -- ---- sources
 
@@ -117,15 +113,6 @@ pub there_is : {A : Type 0} (o : Option A) (a : A) → o ≡ Some a → IsThere 
 there_is None a h = absurd cc
 there_is (Some b) a h = tt
 
-pub target_slot : (e : TypingContext) (checker_scope : CheckerScope) (resolver_scope : ResolverScope) → Agree e checker_scope resolver_scope → (t : Target) → target_fault checker_scope.scopes t ≡ None → IsSlot e (slot_of resolver_scope.scopes t)
-target_slot e checker_scope resolver_scope a t none = let i = target_is e checker_scope resolver_scope a t none in there_is (slice_get e.routine.slots (slot_of resolver_scope.scopes t)) i.type i.there
-
-pub targets_slots : (e : TypingContext) (checker_scope : CheckerScope) (resolver_scope : ResolverScope) → Agree e checker_scope resolver_scope → (ts : List Target) → targets_fault checker_scope.scopes ts ≡ None → Each (IsSlot e) (slots_of resolver_scope.scopes ts)
-targets_slots e checker_scope resolver_scope a [] none = tt
-targets_slots e checker_scope resolver_scope a (t ∷ ts) none =
-    let parts = neither (target_fault checker_scope.scopes t) (targets_fault checker_scope.scopes ts) (sym (first_of_cons (target_fault checker_scope.scopes t) (map (target_fault checker_scope.scopes) ts)) ∙ none) in
-    (target_slot e checker_scope resolver_scope a t parts.0, targets_slots e checker_scope resolver_scope a ts parts.1)
-
 -- ---- SET and RETURN
 
 pub set_well_typed : (e : TypingContext) (checker_scope : CheckerScope) (resolver_scope : ResolverScope) → Agree e checker_scope resolver_scope → resolver_scope.row ≡ None → (t : Target) (x : Expr) → IsTrue (as_source (stands x)) → set_fault checker_scope t x ≡ None → IsFor e (slot_of resolver_scope.scopes t) (expr_at resolver_scope x)
@@ -160,15 +147,3 @@ pub counted_into : (n : ℕ) (items : Option (List Item)) (kinds : List (Option 
 counted_into n items kinds place true is none = is
 counted_into n items kinds place false is none = absurd cc
 
-pub select_into_well_typed : (e : TypingContext) (checker_scope : CheckerScope) (resolver_scope : ResolverScope) → Agree e checker_scope resolver_scope → (q : Select) (ts : Targets) → IsTrue (select_stands q) → select_into_fault checker_scope (check_query q checker_scope) ts ≡ None
-    → (ks : List Letter) × IsQuery e (resolve_query q resolver_scope).query ks × (length (slots_of resolver_scope.scopes (several ts)) ≡ length ks) × Each (IsSlot e) (slots_of resolver_scope.scopes (several ts))
-select_into_well_typed e checker_scope resolver_scope a q ts well none =
-    let f : QueryChecked = check_query q checker_scope in
-    let kinds : List (Option SqlType) = map (target_type checker_scope.scopes) (several ts) in
-    let parts = three_none (query_fault f) (targets_fault checker_scope.scopes (several ts)) (into_fault f ts.first.first.place kinds) none in
-    let g = query_accepted q e checker_scope resolver_scope a well parts.0 in
-    let may : faults.may_be (length kinds) (items_of f) ≡ true = counted_into (length kinds) (items_of f) kinds ts.first.first.place (faults.may_be (length kinds) (items_of f)) refl parts.2 in
-    let many : length g.0 ≡ length kinds = same_count (length g.0) (length kinds) (ap (faults.may_be (length kinds)) (sym g.1) ∙ may) in
-    let all : length (slots_of resolver_scope.scopes (several ts)) ≡ length g.2.letters =
-    mapped_many (slot_of resolver_scope.scopes) (several ts) ∙ sym (mapped_many (target_type checker_scope.scopes) (several ts)) ∙ sym many ∙ items_many g.0 (resolve_query q resolver_scope).shapes g.2.letters g.2.shapes in
-    (g.2.letters, g.2.well_typed, all, targets_slots e checker_scope resolver_scope a (several ts) parts.1)

@@ -10,7 +10,7 @@ use Rattle.psm_rules.specs.declared.fault.Fault.{Fault}
 use Rattle.psm_rules.specs.declared.rule.Rule.TheVariants as rule
 use Rattle.psm_rules.specs.Faults.{breaks_if, first_of}
 use Rattle.psm_rules.specs.ExprFaults.{check_expr, table_fault}
-use Rattle.psm_rules.specs.StatementFaults.{assignment_fault, column_fault, columns_fault, on_table, repeated, several, source_fault, type_of_column, update_fault, where_fault}
+use Rattle.psm_rules.specs.StatementFaults.{assignment_fault, column_fault, columns_fault, on_table, repeated, several, source_fault, type_of_column, update_fault, where_fault, cursor_of, positioned_fault}
 use Rattle.psm_rules.specs.CheckerScope.{Columns, CheckerScope, table_named}
 use Rattle.psm_rules.proofs.Earliest.{first_of_cons}
 use Rattle.psm_list.specs.Several.{Several}
@@ -25,9 +25,8 @@ use Rattle.psm_resolve.specs.Statements as making
 use Rattle.psm_resolve.specs.Statements.{set_of, which_in}
 use Rattle.psm_typing.specs.TypingContext.{Each, TypingContext, columns_of}
 use Rattle.psm_typing.specs.Statements as places
-use Rattle.psm_typing.specs.Statements.{IsChange, IsWhere}
+use Rattle.psm_typing.specs.Statements.{IsChange, IsWhere, MayChange}
 use Rattle.psm_checker_sound.specs.Agreement.{Agree, HaveTypes}
-use Rattle.psm_checker_sound.specs.Meant.{Meant}
 use Rattle.psm_checker_sound.specs.Simples.{AssignmentsStand, WhichStands}
 use Rattle.psm_checker_sound.specs.Stands.{as_source, stands}
 use Rattle.psm_checker_sound.proofs.Names.{IsColumn, columns_placed}
@@ -87,10 +86,10 @@ changes_well_typed e checker_scope resolver_scope a table k (x ∷ xs) well colu
     let parts = neither (assigned x) (first_of (map assigned xs)) (sym (first_of_cons (assigned x) (map assigned xs)) ∙ none) in
     (change_well_typed e checker_scope resolver_scope a table k x well.0 there.0 parts.0, changes_well_typed e checker_scope resolver_scope a table k xs well.1 there.1 parts.1)
 
-pub update_well_typed : (e : TypingContext) (s : places.StatementScope) (checker_scope : CheckerScope) (resolver_scope : ResolverScope) → Agree e checker_scope resolver_scope → Meant e s checker_scope resolver_scope → (table : Identifier) (xs : Several Assignment) (which : Option Which) → AssignmentsStand (several xs) → WhichStands which
+pub update_well_typed : (e : TypingContext) (s : places.StatementScope) (checker_scope : CheckerScope) (resolver_scope : ResolverScope) → Agree e checker_scope resolver_scope → (table : Identifier) → ((n : Identifier) → positioned_fault table n (cursor_of checker_scope.scopes n) ≡ None → MayChange s (making.table_of resolver_scope table) (making.cursor_of resolver_scope.scopes n)) → (xs : Several Assignment) (which : Option Which) → AssignmentsStand (several xs) → WhichStands which
     → update_fault checker_scope table (table_named checker_scope table.name) xs which ≡ None
-    → (t : ResolvedTable) × (slice_get e.file.tables (making.table_of resolver_scope table) ≡ Some t) × Each (IsChange e t) (map (set_of (making.on_table resolver_scope table) (making.columns_of resolver_scope table)) (several xs)) × IsWhere e s t (which_in resolver_scope table which)
-update_well_typed e s checker_scope resolver_scope a m table xs which well true_where none =
+    → (t : ResolvedTable) × (slice_get e.file.tables (making.table_of resolver_scope table) ≡ Some t) × Each (IsChange e t) (map (set_of (making.on_table resolver_scope table) (making.columns_of resolver_scope table)) (several xs)) × IsWhere e s (making.table_of resolver_scope table) t (which_in resolver_scope table which)
+update_well_typed e s checker_scope resolver_scope a table positioned xs which well true_where none =
     let columns : Option Columns = table_named checker_scope table.name in
     let names : List Identifier = map (λ a. a.column) (several xs) in
     let assigned : Option Fault = first_of (map (assignment_fault (on_table checker_scope table columns) (columns_known columns)) (several xs)) in
@@ -102,5 +101,5 @@ update_well_typed e s checker_scope resolver_scope a m table xs which well true_
       k.there,
       k.at,
       changes_well_typed e checker_scope resolver_scope a table k (several xs) well (ap (λ cs. first_of (map (column_fault cs) names)) (sym k.known) ∙ there.0) parts.1,
-      where_well_typed e s checker_scope resolver_scope a m table k which true_where parts.2,
+      where_well_typed e s checker_scope resolver_scope a table positioned k which true_where parts.2,
     )

@@ -32,10 +32,7 @@ use Rattle.psm_tree.specs.declared.statement.StatementItem.TheVariants as of_sta
 use Rattle.psm_resolve_expr.specs.ResolverScope.{ResolverScope}
 use Rattle.psm_resolve.specs.Statements as making
 use Rattle.psm_resolve.specs.Statements.{slot_in, slot_of, slots_of}
-use Rattle.psm_code.specs.Instructions.{condition_letter, statement_letter}
-use Rattle.psm_typing.specs.TypingContext.{Each, TypingContext}
-use Rattle.psm_wellformed.specs.Simples.{NumberOf}
-use Rattle.psm_wellformed.specs.Slots.{AreSlots, SlotOf}
+use Rattle.psm_typing.specs.TypingContext.{Each, TypingContext, AreOf, variables_of}
 use Rattle.psm_checker_sound.specs.Agreement.{Agree, AllTypeCheck, HasSlot, TypeChecks, letter_in}
 use Rattle.psm_checker_sound.specs.Places.{IsTyped}
 use Rattle.psm_checker_sound.proofs.Names.{meant_alike, meant_each}
@@ -44,6 +41,7 @@ use Rattle.psm_checker_sound.proofs.Parts.{neither, same_family}
 use Rattle.psm_checker_sound.proofs.Forms.{typed_letter}
 use Rattle.psm_checker_sound.proofs.Queries.{IsItem, ItemsAre}
 use Rattle.psm_checker_sound.proofs.Simples.{IsTarget, counted_into, mapped_many, same_count, target_is}
+use Rattle.psm_typing.specs.Statements.{IsNumber, SlotOf, condition_letter, statement_letter}
 
 -- ---- one variable
 
@@ -116,7 +114,7 @@ number_by e place (Some u) (Some v) same h none =
     kind_same : ◌≡◌ {A = Option (Option SqlType)} (Some u.kind) (Some v.kind) → u.kind ≡ v.kind
     kind_same h = cc
 
-pub number_slot : (e : TypingContext) (checker_scope : CheckerScope) (resolver_scope : ResolverScope) → Agree e checker_scope resolver_scope → (n : ConditionNumber) → number_fault checker_scope.scopes n ≡ None → NumberOf e (making.number_of resolver_scope.scopes n)
+pub number_slot : (e : TypingContext) (checker_scope : CheckerScope) (resolver_scope : ResolverScope) → Agree e checker_scope resolver_scope → (n : ConditionNumber) → number_fault checker_scope.scopes n ≡ None → IsNumber e (making.number_of resolver_scope.scopes n)
 number_slot e checker_scope resolver_scope a (numbers.Number place n) none = tt
 number_slot e checker_scope resolver_scope a (numbers.Target t) none =
     number_by e t.first.place (meant t.first.name (spelling t.second) checker_scope.scopes) (meant t.first.name (spelling t.second) resolver_scope.scopes)
@@ -135,7 +133,7 @@ pub one_less : (n m : ℕ) → suc n ≡ suc m → n ≡ m
 one_less n m h = omega (arith, h)
 
 items_slots : (e : TypingContext) (checker_scope : CheckerScope) (resolver_scope : ResolverScope) → Agree e checker_scope resolver_scope → (is : List Item) (ss : List Shape) (ks : List Letter) → ItemsAre is ss ks → (ts : List Target) → length is ≡ length ts → targets_fault checker_scope.scopes ts ≡ None
-    → first_of (pairs_fault is (map (target_type checker_scope.scopes) ts)) ≡ None → AreSlots e (slots_of resolver_scope.scopes ts) ks
+    → first_of (pairs_fault is (map (target_type checker_scope.scopes) ts)) ≡ None → AreOf (variables_of e) (slots_of resolver_scope.scopes ts) ks
 items_slots e checker_scope resolver_scope a [] [] [] h [] many none into = tt
 items_slots e checker_scope resolver_scope a [] [] [] h (t ∷ ts) many none into = absurd (zero_suc (length ts) many)
 items_slots e checker_scope resolver_scope a [] [] (k ∷ ks) h ts many none into = absurd h
@@ -156,7 +154,7 @@ into_by n items kinds place false is none = absurd cc
 
 -- SELECT INTO
 pub into_slots : (e : TypingContext) (checker_scope : CheckerScope) (resolver_scope : ResolverScope) → Agree e checker_scope resolver_scope → (f : QueryChecked) (ts : Targets) (is : List Item) (ss : List Shape) (ks : List Letter) → items_of f ≡ Some is → ItemsAre is ss ks → targets_fault checker_scope.scopes (several ts) ≡ None
-    → into_fault f ts.first.first.place (map (target_type checker_scope.scopes) (several ts)) ≡ None → AreSlots e (slots_of resolver_scope.scopes (several ts)) ks
+    → into_fault f ts.first.first.place (map (target_type checker_scope.scopes) (several ts)) ≡ None → AreOf (variables_of e) (slots_of resolver_scope.scopes (several ts)) ks
 into_slots e checker_scope resolver_scope a f ts is ss ks there h targets into =
     let kinds : List (Option SqlType) = map (target_type checker_scope.scopes) (several ts) in
     let may = counted_into (length kinds) (items_of f) kinds ts.first.first.place (may_be (length kinds) (items_of f)) refl into in
@@ -170,7 +168,7 @@ abbrev some_shape : Shape → Option Shape
 some_shape s = Some s
 
 shapes_slots : (e : TypingContext) (checker_scope : CheckerScope) (resolver_scope : ResolverScope) → Agree e checker_scope resolver_scope → (ss : List Shape) (ks : List Letter) → AllTypeCheck ss ks → Each IsTyped ss → (ts : List Target) → length ss ≡ length ts → targets_fault checker_scope.scopes ts ≡ None
-    → first_of (fetched_into checker_scope.scopes ts (map some_shape ss)) ≡ None → AreSlots e (slots_of resolver_scope.scopes ts) ks
+    → first_of (fetched_into checker_scope.scopes ts (map some_shape ss)) ≡ None → AreOf (variables_of e) (slots_of resolver_scope.scopes ts) ks
 shapes_slots e checker_scope resolver_scope a [] [] h y [] many none into = tt
 shapes_slots e checker_scope resolver_scope a [] [] h y (t ∷ ts) many none into = absurd (zero_suc (length ts) many)
 shapes_slots e checker_scope resolver_scope a [] (k ∷ ks) h y ts many none into = absurd h
@@ -188,7 +186,7 @@ counted_by n m place fs true is none = (same_count n m is, none)
 counted_by n m place fs false is none = absurd cc
 
 pub fetched_slots : (e : TypingContext) (checker_scope : CheckerScope) (resolver_scope : ResolverScope) → Agree e checker_scope resolver_scope → (ss : List Shape) (ks : List Letter) → AllTypeCheck ss ks → Each IsTyped ss → (ts : Targets) → targets_fault checker_scope.scopes (several ts) ≡ None
-    → fetch_items checker_scope.scopes ts (Some (map some_shape ss)) ≡ None → AreSlots e (slots_of resolver_scope.scopes (several ts)) ks
+    → fetch_items checker_scope.scopes ts (Some (map some_shape ss)) ≡ None → AreOf (variables_of e) (slots_of resolver_scope.scopes (several ts)) ks
 fetched_slots e checker_scope resolver_scope a ss ks h y ts targets into =
     let shapes : List (Option Shape) = map some_shape ss in
     let c = counted_by (length shapes) (length (several ts)) ts.first.first.place (first_of (fetched_into checker_scope.scopes (several ts) shapes)) (nat_eq (length shapes) (length (several ts))) refl into in

@@ -40,7 +40,7 @@ pub record HasShape (e : TypingContext) (cursor : Cursor) (number : ℕ) : Type 
   pub known : cursor.items ≡ Some items
   pub shape : typing_contexts.Shape
   pub there : slice_get e.shapes number ≡ Some shape
-  pub many : length items ≡ shape.width
+  pub many : length items ≡ length shape.letters
 
 abbrev pub IsCursorMeant : TypingContext → places.StatementScope → Option Cursor → ℕ → Type 0
 IsCursorMeant e s None number = Unit {0}

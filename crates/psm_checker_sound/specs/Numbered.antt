@@ -18,7 +18,6 @@ use Rattle.psm_exprgen.specs.declared.known.Known.{Known}
 use Rattle.psm_exprgen.specs.Queries.{item_letters}
 use Rattle.psm_exprgen.specs.Writing.{BeginsWith}
 use Rattle.psm_typing.specs.TypingContext.{TypingContext}
-use Rattle.psm_wellformed.specs.Statements.{Letters}
 
 -- ---- the cursors that a statement declares, in order: a block's own, those in the actions of its handlers, and those in its statements
 
@@ -62,10 +61,9 @@ cursors_in_handler = fold-ResolvedHandler Cursors Cursors Cursors Cursors cursor
 
 -- ---- the whole routine
 
--- the shape and the letters that are known of a cursor's number are its own
-pub record IsNumbered (e : TypingContext) (known : Known) (letters : Letters) (x : ResolvedCursor) : Type 0 where
-  pub shape : slice_get e.shapes x.number ≡ Some (record { width = length (item_letters known x.query); insensitive = x.insensitive })
-  pub items : slice_get letters x.number ≡ Some (item_letters known x.query)
+-- the shape that is known of a cursor's number is its own
+pub record IsNumbered (e : TypingContext) (known : Known) (x : ResolvedCursor) : Type 0 where
+  pub shape : slice_get e.shapes x.number ≡ Some (record { letters = item_letters known x.query; insensitive = x.insensitive })
 
 -- the slots and the conditions of the routine are those that have been numbered, and more
 pub record Fills (e : TypingContext) (n : Numbering) : Type 0 where

@@ -18,7 +18,6 @@ use Rattle.psm_exprgen.specs.Queries.{item_letters}
 use Rattle.psm_codegen.specs.Files.{known_of}
 use Rattle.psm_typing.specs.TypingContext.{Each, TypingContext}
 use Rattle.psm_typing.specs.Statements as places
-use Rattle.psm_wellformed.specs.Statements.{Letters}
 use Rattle.psm_checker_sound.specs.Agreement.{Agree, AllTypeCheck, IsWithin}
 use Rattle.psm_checker_sound.specs.Meant.{Meant}
 
@@ -30,8 +29,8 @@ IsTyped (Value t) = Unit {0}
 IsTyped Untyped = ⊥
 IsTyped Condition = ⊥
 
--- a cursor is seen: over the table that the checker knows, with items of these shapes, and with the letters that are known of its number
-pub record IsKnown (e : TypingContext) (known : Known) (letters : Letters) (s : places.StatementScope) (resolver_scope : ResolverScope) (cursor : Cursor) (number : ℕ) : Type 0 where
+-- a cursor is seen: over the table that the checker knows, with items of these shapes, and what is known of its number is its own
+pub record IsKnown (e : TypingContext) (known : Known) (s : places.StatementScope) (resolver_scope : ResolverScope) (cursor : Cursor) (number : ℕ) : Type 0 where
   pub x : ResolvedCursor
   pub seen : find (λ y. nat_eq y.number number) s.cursors ≡ Some x
   pub table : (query_of x.query).table ≡ number_of (table_at resolver_scope cursor.table)
@@ -41,12 +40,12 @@ pub record IsKnown (e : TypingContext) (known : Known) (letters : Letters) (s : 
   pub items : cursor.items ≡ Some (map (λ s. Some s) shapes)
   pub type_check : AllTypeCheck shapes (item_letters known x.query)
   pub typed : Each IsTyped shapes
-  pub lettered : slice_get letters number ≡ Some (item_letters known x.query)
+  pub there : slice_get e.shapes number ≡ Some (record { letters = item_letters known x.query; insensitive = x.insensitive })
 
-abbrev pub IsCursorKnown : TypingContext → Known → Letters → places.StatementScope → ResolverScope → Option Cursor → Option ℕ → Type 0
-IsCursorKnown e known letters s resolver_scope None n = Unit {0}
-IsCursorKnown e known letters s resolver_scope (Some cursor) None = ⊥
-IsCursorKnown e known letters s resolver_scope (Some cursor) (Some n) = IsKnown e known letters s resolver_scope cursor n
+abbrev pub IsCursorKnown : TypingContext → Known → places.StatementScope → ResolverScope → Option Cursor → Option ℕ → Type 0
+IsCursorKnown e known s resolver_scope None n = Unit {0}
+IsCursorKnown e known s resolver_scope (Some cursor) None = ⊥
+IsCursorKnown e known s resolver_scope (Some cursor) (Some n) = IsKnown e known s resolver_scope cursor n
 
 -- ---- conditions: a name has the SQLSTATE that the checker knows, which isn't one of success
 
@@ -73,10 +72,10 @@ pub record ConditionsKnown (c : Context) (resolver_scope : ResolverScope) : Type
 
 -- ---- places
 
-pub record StandsAt (e : TypingContext) (known : Known) (letters : Letters) (s : places.StatementScope) (c : Context) (resolver_scope : ResolverScope) : Type 0 where
+pub record StandsAt (e : TypingContext) (known : Known) (s : places.StatementScope) (c : Context) (resolver_scope : ResolverScope) : Type 0 where
   pub agree : Agree e c.checker_scope resolver_scope
   pub meant : Meant e s c.checker_scope resolver_scope
-  pub cursors : (n : Spelling) → IsCursorKnown e known letters s resolver_scope (lookup.cursor n c.checker_scope.scopes) (lookup.cursor n resolver_scope.scopes)
+  pub cursors : (n : Spelling) → IsCursorKnown e known s resolver_scope (lookup.cursor n c.checker_scope.scopes) (lookup.cursor n resolver_scope.scopes)
   pub conditions : ConditionsKnown c resolver_scope
   pub outside : resolver_scope.row ≡ None
   pub within : IsWithin c.within e.routine.returns

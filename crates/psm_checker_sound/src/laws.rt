@@ -30,13 +30,14 @@ ghost use Rattle.psm_resolve_expr.specs.Exprs.{resolve_expr, resolve_query};
 ghost use Rattle.psm_resolve_expr.specs.ResolverScope.{ResolverScope};
 ghost use Rattle.psm_resolve.specs.Files.{resolved_file};
 ghost use Rattle.psm_resolve.specs.Statements.{simple_of};
+ghost use Rattle.psm_exprgen.specs.declared.known.Known.{Known};
 ghost use Rattle.psm_wellformed.specs.Files.{WellFormedFile};
 ghost use Rattle.psm_typing.specs.Expressions.{IsExpr};
 ghost use Rattle.psm_typing.specs.Queries.{IsQuery};
 ghost use Rattle.psm_typing.specs.TypingContext.{TypingContext, letters_of, variables_of};
 ghost use Rattle.psm_typing.specs.Statements.{IsSimple, StatementScope as Place};
-ghost use Rattle.psm_checker_sound.specs.Agreement.{Agree, AllTypeCheck, HaveTypes, IsWithin, TypeChecks};
-ghost use Rattle.psm_checker_sound.specs.Meant.{Meant};
+ghost use Rattle.psm_checker_sound.specs.Agreement.{Agree, AllTypeCheck, HaveTypes, TypeChecks};
+ghost use Rattle.psm_checker_sound.specs.Places.{StandsAt};
 ghost use Rattle.psm_checker_sound.specs.ScriptsStand.{ScriptStands};
 ghost use Rattle.psm_checker_sound.specs.Simples.{SimpleStands};
 ghost use Rattle.psm_checker_sound.specs.Stands.{are_small, as_operand, as_source, select_stands, stands};
@@ -75,10 +76,10 @@ pub fn null_stands_in_what_is_read_where_it_may()
     ensures scripts { (bytes : List ℕ) (tokens : Tokens) (s : ScriptTree) → AreTokens bytes tokens → ReadsAll (Spells productions 0 script) (λ y. y) tokens (Ok s) → ScriptStands s }
 {}
 
-/// Where a simple statement has no fault, what stands for it after name resolution is well-typed (ISO/IEC 9075-4:1996), at a place where the names
-/// of cursors, conditions, labels and procedures that the checker knows have numbers that the typing context has.
+/// Where a simple statement has no fault, what stands for it after name resolution is well-typed (ISO/IEC 9075-4:1996), at a place where what the
+/// checker knows of names agrees with what they are resolved to, and with what is known of the routine.
 pub fn accepted_simple_statements_are_well_typed()
-    ensures { (e : TypingContext) (s : Place) (c : Context) (resolver_scope : ResolverScope) → Agree e c.checker_scope resolver_scope → Meant e s c.checker_scope resolver_scope → resolver_scope.row ≡ None → IsWithin c.within e.routine.returns → (x : Simple) → SimpleStands x → simple_fault c x ≡ None → IsSimple e s (simple_of resolver_scope x) }
+    ensures { (e : TypingContext) (known : Known) (s : Place) (c : Context) (resolver_scope : ResolverScope) → StandsAt e known s c resolver_scope → (x : Simple) → SimpleStands x → simple_fault c x ≡ None → IsSimple e s (simple_of resolver_scope x) }
 {}
 
 /// A module file without a fault is well-formed with its names resolved (ISO/IEC 9075-4:1996, module definitions), where NULL stands in

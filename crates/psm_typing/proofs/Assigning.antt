@@ -35,7 +35,7 @@ use Rattle.psm_meaning.specs.Signalling.{activating, area_read, assign_items, en
 use Rattle.psm_meaning.specs.Statements.{returned}
 use Rattle.psm_typing.specs.TypingContext.{TypingContext, Among, Begin, Each, IsThere, letters_of, taken_by, variables_of, with_taken, AreOf}
 use Rattle.psm_typing.specs.Expressions.{IsExpr}
-use Rattle.psm_typing.specs.Statements.{AreArguments, AreDiagnostics, IsCondition, IsFor, IsMessage, IsNumber, IsSignal, IsSlot, SlotOf, condition_letter, statement_letter}
+use Rattle.psm_typing.specs.Statements.{AreArguments, AreDiagnostics, IsCondition, IsFor, IsMessage, IsNumber, IsSignal, SlotOf, condition_letter, statement_letter}
 use Rattle.psm_typing.specs.States.{IsState}
 use Rattle.psm_typing.specs.Ends.{IsReturned}
 use Rattle.psm_typing.proofs.Answers.{Row, right-ok}

@@ -16,12 +16,12 @@ use Rattle.psm_meaning.specs.Acts.{Outcome, Normal, Leave, Iterate, Return, Rais
 use Rattle.psm_meaning.specs.Blocks.{Block, all_declared, arrived, compound, declared, default_of, ended, entered, finding, is_left_by_exception, left, put_back, taken_over, undone}
 use Rattle.psm_meaning.specs.Cursors.{closed}
 use Rattle.psm_typing.specs.TypingContext.{TypingContext, Among, Each}
-use Rattle.psm_typing.specs.Statements.{AreHandlers, AreStatements, IsCursor, IsDeclaration, IsDefault, IsSlot, IsStatement, StatementScope, in_action, inside, HandleApart, MayHandle}
+use Rattle.psm_typing.specs.Statements.{AreHandlers, AreStatements, IsCursor, IsDeclaration, IsDefault, IsStatement, StatementScope, in_action, inside, HandleApart, MayHandle}
 use Rattle.psm_typing.specs.States.{AreFilled}
 use Rattle.psm_typing.specs.EvalContexts.{IsEvalContext}
 use Rattle.psm_typing.specs.Ends.{IsAway, IsEnd}
 use Rattle.psm_typing.proofs.Answers.{each-append, each-more}
-use Rattle.psm_typing.proofs.Assigning.{holds-assign_each, slot-of}
+use Rattle.psm_typing.proofs.Assigning.{IsSlot, holds-assign_each, slot-of}
 use Rattle.psm_typing.proofs.Doing.{Goes, Parts, away-below, end-action, goes-action, goes-after, goes-all, goes-following, goes-changing, goes-ends_as, goes-more, scopes-more}
 use Rattle.psm_typing.proofs.Evaluating.{Values, holds-value_of}
 use Rattle.psm_typing.proofs.Fetching.{state-closed}

@@ -19,11 +19,11 @@ use Rattle.psm_meaning.specs.Flow.{kept, row_of_for}
 use Rattle.psm_meaning.specs.Rows.{over, query_of}
 use Rattle.psm_typing.specs.TypingContext.{TypingContext, Shape, Each, IsThere, columns_of, variables_of, AreOf}
 use Rattle.psm_typing.specs.Queries.{AreItems, AreRowValues, IsQuery}
-use Rattle.psm_typing.specs.Statements.{AreForItems, IsCursor, IsSeen, IsSlot, StatementScope, HasRows}
+use Rattle.psm_typing.specs.Statements.{AreForItems, IsCursor, IsSeen, StatementScope, HasRows}
 use Rattle.psm_typing.specs.States.{AreShaped, IsShaped, IsState}
 use Rattle.psm_typing.specs.EvalContexts.{IsEvalContext}
 use Rattle.psm_typing.proofs.Answers.{Perhaps, Right, Row, each-more, right-any, right-mapped, right-ok, right-then}
-use Rattle.psm_typing.proofs.Assigning.{holds-assign_all, holds-retrieve_all, of-length}
+use Rattle.psm_typing.proofs.Assigning.{IsSlot, holds-assign_all, holds-retrieve_all, of-length}
 use Rattle.psm_typing.proofs.Evaluating.{holds-answer_of, holds-table_now, some_same}
 use Rattle.psm_typing.proofs.Fitting.{row-length, shaped-at, shaped-closed, shaped-set}
 use Rattle.psm_typing.proofs.Holding.{Anything, Holds, holds-bind, holds-change, holds-cleared, holds-got, holds-present, holds-raises, holds-read, holds-there, holds-tried}
