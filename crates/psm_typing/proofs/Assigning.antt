@@ -43,6 +43,7 @@ use Rattle.psm_typing.proofs.Evaluating.{Calls, Values, among-filter, holds-valu
 use Rattle.psm_typing.proofs.Fitting.{fetched-right, letter-at, letter-there, row-set, row-there, stored-right}
 use Rattle.psm_typing.proofs.Holding.{Anything, HasLetter, Holds, holds-bind, holds-change, holds-cleared, holds-got, holds-present, holds-raises, holds-read, holds-there, holds-tried}
 use Rattle.psm_exprcode.specs.declared.op.Letter.{Letter}
+use Rattle.psm_exprcode.specs.declared.op.Letter.TheVariants.{N}
 
 -- ---- variables
 
