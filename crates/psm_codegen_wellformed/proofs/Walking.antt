@@ -28,8 +28,7 @@ use Rattle.psm_codegen.proofs.GrowingAll.{grown-all, grown-branches, grown-compa
 use Rattle.psm_codegen.proofs.Numbering.{block_cursors-out, branch_cursors-out, counted, counted-all, counted-branches, counted-comparisons, counted-cursors, counted-handlers, counts-split, cursors-out, cursors_in, cursors_in_branches, cursors_in_handlers, cursors_of_branch, cursors_of_handler, handler_cursors-out, passed-cursors}
 use Rattle.psm_codegen.proofs.Placing.{Kept, kept-earlier}
 use Rattle.psm_typing.specs.TypingContext.{TypingContext}
-use Rattle.psm_typing.specs.Statements.{StatementScope, inside, looping, over_rows}
-use Rattle.psm_typing.specs.Statements.{AreBranches, AreHandlers, AreStatements, IsStatement}
+use Rattle.psm_typing.specs.Statements.{StatementScope, inside, looping, over_rows, AreBranches, AreHandlers, AreStatements, IsStatement}
 use Rattle.psm_codegen_wellformed.proofs.Blocks.{GoodActions, action-good, actions-none, compound-good, cursors-stack}
 use Rattle.psm_codegen_wellformed.proofs.Comparing.{GoodComparisons, comparing-good, comparison-good, comparisons-none, compared-stack, operand-stack, put-again}
 use Rattle.psm_codegen_wellformed.proofs.Declaring.{declares-stack}

@@ -12,7 +12,7 @@ use Rattle.psm_cond.specs.Item.{entries_of, entry_item, statement_item}
 use Rattle.psm_cond.specs.declared.entry.Entry.{Entry}
 use Rattle.psm_cond.specs.declared.item.DiagnosticsArea.{DiagnosticsArea}
 use Rattle.psm_cond.specs.declared.item.DiagnosticsArea.TheVariants as which_area
-use Rattle.psm_exprcode.specs.declared.op.Letter.TheVariants.{T}
+use Rattle.psm_exprcode.specs.declared.op.Letter.TheVariants.{N, T}
 use Rattle.psm_exprcode.specs.Kinds.{are_of, has_letter, letter_of}
 use Rattle.psm_exprcode.proofs.Results.{letter_of-value}
 use Rattle.psm_resolved.specs.declared.expr.ResolvedExpr.{ResolvedExpr}
@@ -43,7 +43,6 @@ use Rattle.psm_typing.proofs.Evaluating.{Calls, Values, among-filter, holds-valu
 use Rattle.psm_typing.proofs.Fitting.{fetched-right, letter-at, letter-there, row-set, row-there, stored-right}
 use Rattle.psm_typing.proofs.Holding.{Anything, HasLetter, Holds, holds-bind, holds-change, holds-cleared, holds-got, holds-present, holds-raises, holds-read, holds-there, holds-tried}
 use Rattle.psm_exprcode.specs.declared.op.Letter.{Letter}
-use Rattle.psm_exprcode.specs.declared.op.Letter.TheVariants.{N}
 
 -- ---- variables
 
