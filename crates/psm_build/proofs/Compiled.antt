@@ -42,7 +42,6 @@ compiled_stands bytes tree code is accepted h =
       written = h.0;
       stands = h.1 (file-stands (resolved_file tree) well_formed);
       well_formed_code = code-well_formed (resolved_file tree) code h.0 well_formed;
-      numbered = h.2;
     }
 
 -- ---- a script over it

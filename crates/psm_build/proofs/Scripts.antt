@@ -28,8 +28,6 @@ module _ (ms ss : List ℕ) (code : RawCode) (commands : List ScriptCommand) (st
 
   can-run : CanRun code commands
   can-run = record {
-    well_formed_code = stands.well_formed_code;
-    numbered = stands.numbered;
     fits = all_fit;
     defined = code_definitions (file_of stands.file) code stands.written stands.well_formed;
     kept = empty_tables_kept code;

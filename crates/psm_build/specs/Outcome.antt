@@ -1,13 +1,11 @@
 -- What running a script over code leaves in the sink and in the tables, and what that has to do with the session that two files end in.
-use Rattle.std.specs.Prelude.{◌≡◌, ℕ, ◌+◌, List, ◌∷◌, ◌++◌, length, map, None, All, IsTrue}
-use Rattle.psm_cond.specs.WellFormed.{is_numbered}
+use Rattle.std.specs.Prelude.{◌≡◌, ℕ, ◌+◌, List, ◌∷◌, ◌++◌, length, map, All}
 use Rattle.psm_table.specs.declared.definition.TableDef.{TableDef}
 use Rattle.psm_table.specs.Definition.{IsDefinition}
 use Rattle.psm_table.specs.Table.{Contents, empty_table}
 use Rattle.psm_meaning.specs.Acts.{NoTurns}
 use Rattle.psm_meaning.specs.Session.{Session, End, Cut, Done}
 use Rattle.psm_code.specs.declared.code.RawCode.{RawCode}
-use Rattle.psm_code.specs.RoutineRules.{first_fault}
 use Rattle.psm_code.specs.MachineInvariant.{AreLawful}
 use Rattle.psm_session.specs.Ends.{Ends, FitsCommand, beginning}
 use Rattle.psm_session.specs.Put.{Sunk, PutAll, PutUpTo}
@@ -58,10 +56,8 @@ empty_tables code = map empty_table (definitions code)
 
 -- ---- runs of commands, which begin over empty tables
 
--- the commands can be run: the code is well-formed, and what they name is there
+-- the commands can be run: what they name is there, and the code has empty tables that keep its rules
 pub record CanRun (code : RawCode) (commands : List ScriptCommand) : Type 0 where
-  pub well_formed_code : first_fault code ≡ None
-  pub numbered : All (λ r. IsTrue (is_numbered r.handlers)) code.routines
   pub fits : All (FitsCommand code) commands
   pub defined : All IsDefinition (definitions code)
   pub kept : AreLawful code (empty_tables code)

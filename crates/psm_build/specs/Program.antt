@@ -1,6 +1,5 @@
 -- What the bytes of files are, and what two files end in. Above this crate nothing else is said of them.
-use Rattle.std.specs.Prelude.{◌≡◌, ℕ, ◌⊎◌, List, take, None, All, IsTrue}
-use Rattle.psm_cond.specs.WellFormed.{is_numbered}
+use Rattle.std.specs.Prelude.{◌≡◌, ℕ, ◌⊎◌, List, take, None}
 use Rattle.psm_tree.specs.declared.file.FileTree.{FileTree}
 use Rattle.psm_tree.specs.declared.script.ScriptTree.{ScriptTree}
 use Rattle.psm_table.specs.Table.{Contents}
@@ -82,7 +81,6 @@ pub record StandsFor (bytes : List ℕ) (code : RawCode) : Type 0 where
   pub written : FileWritten (file_of file) code
   pub stands : FileStands (file_of file) code
   pub well_formed_code : first_fault code ≡ None
-  pub numbered : All (λ r. IsTrue (is_numbered r.handlers)) code.routines
 
 -- the commands are the script of the bytes, over what the code lets it name
 pub record IsScriptOf (code : RawCode) (bytes : List ℕ) (commands : List ScriptCommand) : Type 0 where

@@ -1,5 +1,7 @@
 //! Code of a module file, and scripts over it.
-ghost use Rattle.std.specs.Prelude.{◌<◌, ℕ, List as Seq, length, IfOk, IsOkUnless};
+ghost use Rattle.std.specs.Prelude.{◌≡◌, ◌<◌, ℕ, All, IfOk, IsOkUnless, IsTrue, List as Seq, None, length};
+ghost use Rattle.psm_cond.specs.WellFormed.{is_numbered};
+ghost use Rattle.psm_code.specs.RoutineRules.{first_fault};
 ghost use Rattle.psm_faults.specs.declared.fault.Fault.{Fault as FirstFault};
 ghost use Rattle.psm_build.specs.Program.{IsModuleFault, IsModuleFile, IsScriptFault, IsScriptFile, StandsFor};
 ghost use Rattle.psm_build.specs.Outcome.{RunsOver};
@@ -7,7 +9,7 @@ ghost use Rattle.psm_build.specs.Building.{Builds, BuildsScript, BuildsOver, Com
 
 use crate::read::{module_tree, script_tree};
 use psm_check_script::check_script;
-use psm_code::RawCode;
+use psm_code::{Code, RawCode};
 use psm_codegen::lower;
 use psm_faults::{BuildFault, accept, refused_script};
 use psm_resolve::resolve_file;
@@ -24,7 +26,7 @@ use std::alloc::Global;
 /// of the tokens, the place where they stop to spell a module file, the token that opens level 101 of nesting, or the
 /// earliest part that breaks a rule. `Memory`.
 #[tactic(auto, using(crate::proofs::Building::module_given))]
-pub fn build(alloc: Global, bytes: &[u8]) -> Result<RawCode, BuildFault>
+pub fn build(alloc: Global, bytes: &[u8]) -> Result<Code, BuildFault>
     requires { length bytes.now < 4294967295 }
     // What is given stands for the module file, and a fault is the file's.
     ensures builds { Builds bytes.now result }
@@ -37,13 +39,24 @@ pub fn build(alloc: Global, bytes: &[u8]) -> Result<RawCode, BuildFault>
 }
 
 /// The code of a module file.
-fn code_of(alloc: Global, bytes: &[u8]) -> Result<RawCode, BuildFault>
+fn code_of(alloc: Global, bytes: &[u8]) -> Result<Code, BuildFault>
     requires { length bytes.now < 4294967295 }
     ensures { Builds bytes.now result }
 {
     let tree = module_tree(alloc, bytes)?;
     accept(alloc, &tree)?;
-    compiled(alloc, &tree)
+    as_code(compiled(alloc, &tree))
+}
+
+/// Code of an accepted module file is well-formed.
+fn as_code(compiled: Result<RawCode, BuildFault>) -> Result<Code, BuildFault>
+    requires { IfOk compiled (λ code. (first_fault code ≡ None) × All (λ r. IsTrue (is_numbered r.handlers)) code.routines) }
+    ensures { result ≡ compiled }
+{
+    match compiled {
+        Ok(raw) => Ok(Code::of(raw)),
+        Err(fault) => Err(fault),
+    }
 }
 
 /// The code that is written for a tree whose names are resolved.
@@ -64,8 +77,7 @@ fn compiled(alloc: Global, tree: &FileTree) -> Result<RawCode, BuildFault>
 /// # Errors
 /// `Refused` exactly where the bytes are no tokens, spell no script or one with a fault over the tables and procedures of the code,
 /// with the first fault, as of a module file. `Memory`.
-#[tactic(auto, using(crate::proofs::Building::built_over, crate::proofs::Building::given_runs))]
-pub fn build_script(alloc: Global, code: &RawCode, bytes: &[u8]) -> Result<ScriptCode, BuildFault>
+pub fn build_script(alloc: Global, code: &Code, bytes: &[u8]) -> Result<ScriptCode, BuildFault>
     requires { length bytes.now < 4294967295 }
     // What is given is the file's script, and a fault is the file's.
     ensures builds { BuildsScript code.now bytes.now result }
@@ -77,7 +89,7 @@ pub fn build_script(alloc: Global, code: &RawCode, bytes: &[u8]) -> Result<Scrip
     // Its commands can be run, and each run of them shows the session that the two files end in, with its tables and turns.
     ensures runs { (ms : Seq ℕ) → StandsFor ms code.now → IfOk result (λ s. RunsOver ms bytes.now code.now s.commands) }
 {
-    script_over(alloc, code, bytes)
+    script_over(alloc, code.raw(), bytes)
 }
 
 /// The commands of a script over code.

@@ -9,7 +9,7 @@ mod tables;
 
 pub use code::{build, build_script};
 pub use laws::{code_means_its_module, files_are_one_thing, files_are_something};
-pub use psm_code::RawCode as Code;
+pub use psm_code::Code;
 pub use psm_faults::{BuildFault, Fault};
 pub use psm_session::ScriptCode;
 pub use tables::definitions_of;

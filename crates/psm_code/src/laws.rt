@@ -1,16 +1,21 @@
 //! Laws of code and of its runs.
-ghost use Rattle.std.specs.Prelude.{◌≡◌, ◌↔◌, ℕ, Bool, List, [], All, length, map, IsTrue, Some, None};
+ghost use Rattle.std.specs.Prelude.{◌≡◌, ◌↔◌, ℕ, Bool, List, [], All, length, map, IfSome, IsTrue, Some, None};
+ghost use Rattle.psm_value.specs.SqlType.{IsType};
 ghost use Rattle.psm_value.specs.declared.datum.Datum.{Datum};
+ghost use Rattle.psm_cond.specs.WellFormed.{is_numbered, is_well_formed_table};
 ghost use Rattle.psm_exprcode.specs.declared.op.Letter.{Letter};
 ghost use Rattle.psm_exprcode.specs.declared.op.Line.{Line};
+ghost use Rattle.psm_exprcode.specs.declared.op.Op.{Op};
+ghost use Rattle.psm_exprcode.specs.Fits.{Fits};
 ghost use Rattle.psm_exprcode.specs.WellFormed.{does_fit};
 ghost use Rattle.psm_table.specs.Keyed.{defs_in, IsKeyOf};
 ghost use Rattle.psm_table.specs.Table.{Contents};
 ghost use Rattle.psm_code.specs.declared.code.CodeTable.{CodeTable};
 ghost use Rattle.psm_code.specs.declared.code.RawCode.{RawCode};
 ghost use Rattle.psm_code.specs.declared.code.RawRoutine.{RawRoutine};
+ghost use Rattle.psm_code.specs.declared.instruction.Instruction.TheVariants as instruction;
 ghost use Rattle.psm_code.specs.Calling.{started};
-ghost use Rattle.psm_code.specs.Parts.{routine_at, taking};
+ghost use Rattle.psm_code.specs.Parts.{routine_at, slots_of, taking};
 ghost use Rattle.psm_code.specs.RoutineRules.{first_fault};
 ghost use Rattle.psm_code.specs.Rules.{fault_in};
 ghost use Rattle.psm_code.specs.Run.{step, Ran};
@@ -40,6 +45,15 @@ pub fn well_formed_code_never_gets_stuck()
     ensures kept { (code : RawCode) → first_fault code ≡ None → (m : Machine) → MachineInvariant code m → StaysWellFormed code (step code m) }
     ensures start { (code : RawCode) → first_fault code ≡ None → (routine : ℕ) (r : RawRoutine) → routine_at code routine ≡ Some r → (args : List Datum) (tables : List Contents) (turns : ℕ) → length args ≡ length (taking r.parameters) → AreLawful code tables → StaysWellFormed code (started code routine args tables turns) }
     ensures run { (code : RawCode) → first_fault code ≡ None → (routine : ℕ) (r : RawRoutine) → routine_at code routine ≡ Some r → (args : List Datum) (tables : List Contents) (turns : ℕ) → length args ≡ length (taking r.parameters) → AreLawful code tables → (e : End) (last : Machine) → Ran code routine args tables turns e last → IsTrue (is_due e) × AreLawful code last.tables }
+{}
+
+/// In well-formed code the types of slots and of results are types, and the contexts and handlers fit together, where 32 bits
+/// are enough to number them. An operation finds what it needs wherever the machine is as it always is.
+pub fn what_well_formed_code_gives()
+    ensures slots { (code : RawCode) → first_fault code ≡ None → All (λ (r : RawRoutine). All IsType (slots_of r)) code.routines }
+    ensures results { (code : RawCode) → first_fault code ≡ None → All (λ (r : RawRoutine). IfSome r.returns IsType) code.routines }
+    ensures handlers { (code : RawCode) → first_fault code ≡ None → All (λ (r : RawRoutine). IsTrue (is_numbered r.handlers)) code.routines → All (λ (r : RawRoutine). IsTrue (is_well_formed_table r.handlers)) code.routines }
+    ensures operations { (code : RawCode) → first_fault code ≡ None → (m : Machine) (h : MachineInvariant code m) (o : Op) → h.running.line.instruction ≡ instruction.Operation o → Fits o m.running.operands [] m.running.variables }
 {}
 
 /// The FOREIGN KEY constraints of well-formed code (ISO/IEC 9075:1992, 11.8) are of tables that are there, with the columns that they name;

@@ -7,6 +7,7 @@ mod instruction;
 mod laws;
 mod lines;
 mod rule;
+mod well_formed;
 mod writing;
 
 pub use code::{CodeCursor, CodeTable, Parameter, ParameterMode, Plan, RawCode, RawRoutine};
@@ -14,8 +15,9 @@ pub use instruction::Instruction;
 pub use laws::{
     empty_code_is_well_formed, expressions_that_fit_break_no_rule,
     foreign_keys_are_of_tables_that_are_there, runs_have_one_end,
-    well_formed_code_never_gets_stuck,
+    well_formed_code_never_gets_stuck, what_well_formed_code_gives,
 };
 pub use lines::{CodeLine, Lines};
 pub use rule::CodeRule;
+pub use well_formed::Code;
 pub use writing::LinesWriter;

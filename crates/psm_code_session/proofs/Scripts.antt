@@ -1,7 +1,6 @@
 -- Scripts over code: the bytes of a file are one or have a first fault, and over well-formed code a script has one session.
 use Rattle.std.proofs.Common.{◌≡◌, ℕ, List, None, subst, inl, inr, ◌⊎◌}
-use Rattle.std.specs.Prelude.{All, IsTrue}
-use Rattle.psm_cond.specs.WellFormed.{is_numbered}
+use Rattle.std.specs.Prelude.{All}
 use Rattle.psm_tree.specs.declared.script.ScriptTree.{ScriptTree}
 use Rattle.psm_tree.proofs.FileFits.{script_fit}
 use Rattle.psm_meaning.specs.Session.{Session, Standing}
@@ -58,10 +57,8 @@ module _ (code : RawCode) (well_formed_code : first_fault code ≡ None) (ss : L
   pub script_fits : (commands : List ScriptCommand) → IsScriptOf code ss commands → All (FitsCommand code) commands
   script_fits commands is = commands_fit_code code well_formed_code is.tree (read_script_stands ss is.tree is.tree_is) is.accepted commands is.made
 
-  pub script_runs : All (λ r. IsTrue (is_numbered r.handlers)) code.routines → (commands : List ScriptCommand) → IsScriptOf code ss commands → CanRun code commands
-  script_runs numbered commands is = record {
-    well_formed_code = well_formed_code;
-    numbered = numbered;
+  pub script_runs : (commands : List ScriptCommand) → IsScriptOf code ss commands → CanRun code commands
+  script_runs commands is = record {
     fits = script_fits commands is;
     defined = code_definitions code well_formed_code;
     kept = empty_tables_kept code;

@@ -1,6 +1,5 @@
 //! The laws of scripts that are run over code.
-ghost use Rattle.std.specs.Prelude.{◌≡◌, ℕ, All, IsTrue, List, None};
-ghost use Rattle.psm_cond.specs.WellFormed.{is_numbered};
+ghost use Rattle.std.specs.Prelude.{◌≡◌, ℕ, All, List, None};
 ghost use Rattle.psm_code.specs.declared.code.RawCode.{RawCode};
 ghost use Rattle.psm_code.specs.MachineInvariant.{AreLawful};
 ghost use Rattle.psm_code.specs.RoutineRules.{first_fault};
@@ -37,7 +36,7 @@ pub fn scripts_over_well_formed_code_have_one_session()
 /// The commands of a script over well-formed code can be run, and each run of them from empty tables shows their session, with its pieces,
 /// its end, its tables and its turns.
 pub fn runs_over_well_formed_code_show_their_session()
-    ensures can { (code : RawCode) → first_fault code ≡ None → All (λ r. IsTrue (is_numbered r.handlers)) code.routines → (ss : List ℕ) (commands : List ScriptCommand) → IsScriptOf code ss commands → CanRun code commands }
+    ensures can { (code : RawCode) → first_fault code ≡ None → (ss : List ℕ) (commands : List ScriptCommand) → IsScriptOf code ss commands → CanRun code commands }
     ensures shown { (code : RawCode) → first_fault code ≡ None → (ss : List ℕ) (commands : List ScriptCommand) → IsScriptOf code ss commands → (turns : ℕ) (u : Session) → EndIn code commands turns u → AreShown code commands turns u }
 {}
 

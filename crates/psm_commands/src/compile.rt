@@ -36,7 +36,7 @@ pub(crate) fn compile<F: Shelf, K: Sink>(
 fn put_listing<K: Sink>(alloc: Global, code: &Code, out: &mut K) -> Status
     ensures { PutsLine (with_line Done (listing code.now)) (sunk_of K.written K.faults out.old out.new) result }
 {
-    match write(alloc, code) {
+    match write(alloc, code.raw()) {
         Ok(text) => put_line(&text, Status::Done, out),
         Err(_) => Status::Memory,
     }

@@ -15,7 +15,6 @@ use psm_code_session::{
 };
 use psm_files::Status;
 use psm_io::{Shelf, Sink};
-use psm_load::objects_have_numbered_handlers;
 use std::alloc::Global;
 
 /// Runs the script over the code that the object lists, with that many turns, or puts the line that says why nothing is run.
@@ -28,7 +27,6 @@ pub(crate) fn exec<F: Shelf, K: Sink>(
     ensures { Says (ForExec (as_fetched (fetches_of F.held F.faults shelf.old shelf.new)) (named files.entry.for_code.now files.entry.for_script.now files.entry.turns))
         (sunk_of K.written K.faults out.old out.new) result }
 {
-    objects_have_numbered_handlers();
     scripts_over_well_formed_code_have_one_session();
     runs_over_well_formed_code_show_their_session();
     let code = match object_code(alloc, files.for_code, shelf) {

@@ -56,7 +56,7 @@ pub(crate) fn empty_store(alloc: Global, code: &Code) -> Result<UndoStore, Alloc
     ensures marks { IfOk result (λ s. s.marks ≡ 0) }
 {
     let defs = definitions_of(alloc, code)?;
-    UndoStore::new(alloc, defs, indexed(code.keys.items()))
+    UndoStore::new(alloc, defs, indexed(code.raw().keys.items()))
 }
 
 /// The foreign keys whose columns are indexed: all, or none where more than 256 are of one table. Those of a table follow one

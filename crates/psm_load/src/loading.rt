@@ -10,16 +10,18 @@ ghost use Rattle.psm_load.specs.declared.fault.ObjectFault.{ObjectFault};
 ghost use Rattle.psm_load_line.specs.Forms.{first_at};
 
 use crate::fault::{LoadFault, ObjectFault};
-use crate::laws::{a_text_stands_for_the_code_that_it_lists, texts_are_one_thing};
+use crate::laws::{
+    a_text_stands_for_the_code_that_it_lists, objects_have_numbered_handlers, texts_are_one_thing,
+};
 use crate::left::LinesLeft;
 use crate::listed::several;
 use crate::stop::Stop;
 use crate::tables::tables;
-use psm_code::{CodeRule, RawCode};
+use psm_code::{Code, CodeRule, RawCode};
 use psm_load_line::first_head;
 use psm_object::rules_count_the_lines_of_a_listing;
 use psm_table::ForeignKeys;
-use psm_verify::{CodeFault, verified};
+use psm_verify::{CodeFault, first_fault};
 use std::alloc::Global;
 
 /// The code of which the text is the listing, where it breaks no rule of code. The text has fewer than 2^32 - 1 bytes.
@@ -28,14 +30,18 @@ use std::alloc::Global;
 /// `Refused` for a text that is no listing, with the first line that isn't one of the kind that is due there, or that is missing; and for
 /// one that is, with the first line that breaks a rule of code, and the lowest rule that it breaks. Lines are counted from 1. `Memory`
 /// where memory runs out.
-pub fn load(alloc: Global, text: &[u8]) -> Result<RawCode, LoadFault>
+pub fn load(alloc: Global, text: &[u8]) -> Result<Code, LoadFault>
     requires { length text.now < 4294967295 }
     ensures loads { Loads text.now result }
     ensures only { (code : RawCode) → IsObject text.now code → GivesCode code result }
     ensures only_fault { (line : ℕ) (fault : ObjectFault) → IsObjectFault text.now line fault → GivesRefusal line fault result }
 {
     texts_are_one_thing();
-    loaded(alloc, text)
+    objects_have_numbered_handlers();
+    match loaded(alloc, text) {
+        Ok(raw) => Ok(Code::of(raw)),
+        Err(fault) => Err(fault),
+    }
 }
 
 fn loaded(alloc: Global, text: &[u8]) -> Result<RawCode, LoadFault>
@@ -105,12 +111,12 @@ fn judged(alloc: Global, code: RawCode, odd: Option<(u32, CodeRule)>) -> Result<
     requires { IsNumbered code odd }
     ensures { Judges code odd result }
 {
-    match verified(alloc, code) {
-        Ok(Ok(right)) => match odd {
-            None => Ok(right.into_raw()),
+    match first_fault(alloc, &code) {
+        Ok(None) => match odd {
+            None => Ok(code),
             Some((line, rule)) => Err(refused(line, rule)),
         },
-        Ok(Err(fault)) => Err(refusal(fault, odd)),
+        Ok(Some(fault)) => Err(refusal(fault, odd)),
         Err(_) => Err(LoadFault::Memory),
     }
 }

@@ -17,7 +17,6 @@ pub mod Numbering
 pub mod OneStep
 pub mod Onward
 pub mod Positions
-pub mod WellFormedCode
 pub mod CodeGuarantees
 pub mod Spending
 pub mod Standing

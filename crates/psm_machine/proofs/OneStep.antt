@@ -19,7 +19,7 @@ use Rattle.psm_machine.specs.Successors.{FindsNeeds, StepsTo, is_of_data}
 use Rattle.psm_machine.specs.Stepping.{data_act}
 use Rattle.psm_machine.proofs.ActSequences.{err_is}
 use Rattle.psm_machine.proofs.Leavings.{turns_of}
-use Rattle.psm_machine.proofs.WellFormedCode.{operations_well_formed}
+use Rattle.psm_code.proofs.WellFormedCode.{operations_well_formed}
 
 -- ---- the row
 

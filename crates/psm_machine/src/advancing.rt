@@ -1,10 +1,8 @@
 //! A run that goes on by several lines.
-ghost use Rattle.std.specs.Prelude.{◌≡◌, true, None, All, IfOk, IsTrue};
+ghost use Rattle.std.specs.Prelude.{◌≡◌, true, All, IfOk};
 ghost use Rattle.psm_value.specs.SqlType.{IsType};
-ghost use Rattle.psm_cond.specs.WellFormed.{is_numbered};
 ghost use Rattle.psm_code.specs.declared.code.RawCode.{RawCode as CodeValue};
 ghost use Rattle.psm_code.specs.Parts.{slots_of};
-ghost use Rattle.psm_code.specs.RoutineRules.{first_fault};
 ghost use Rattle.psm_code.specs.Run.{done, step};
 ghost use Rattle.psm_code.specs.MachineInvariant.{MachineInvariant};
 ghost use Rattle.psm_unwind.specs.Marks.{MarksStand, SameFrames};
@@ -20,7 +18,7 @@ use crate::stop::Stop;
 use crate::successors::go_to;
 use crate::turns::{clear, turn};
 use crate::variables::store as store_in;
-use psm_code::{Instruction, RawCode, RawRoutine};
+use psm_code::{Code, Instruction, RawRoutine};
 use psm_exprcode::Next;
 use psm_store::Store;
 use psm_unwind::{Outcome, Run, routine_at};
@@ -35,12 +33,10 @@ use std::alloc::{AllocError, Global};
 /// stand afterwards too, also where memory runs out.
 pub fn advance<S: Store>(
     alloc: Global,
-    code: &RawCode,
+    code: &Code,
     run: &mut Run,
     store: &mut S,
 ) -> Result<Option<Finished>, AllocError>
-    requires well_formed_code { first_fault code.now ≡ None }
-    requires numbered { All (λ r. IsTrue (is_numbered r.handlers)) code.now.routines }
     requires machine_invariant { MachineInvariant code.now (machine_of (S.tables store.old) (S.at store.old) run.old) }
     requires stand { MarksStand (S.holds store.old) (S.marks store.old) run.old }
     ensures expected { IfOk result (λ f. Advances code.now (machine_of (S.tables store.old) (S.at store.old) run.old) f (machine_of (S.tables store.new) (S.at store.new) run.new)) }
@@ -49,6 +45,7 @@ pub fn advance<S: Store>(
     let Some(routine) = routine_at(code, run.running.routine) else {
         return one_more(alloc, code, run, store);
     };
+    code.breaks_no_rule();
     'common: while let Some(instruction) = routine.lines.instruction(run.running.line) {
         if !is_common(instruction) {
             break;
@@ -66,12 +63,10 @@ pub fn advance<S: Store>(
 #[inline(never)]
 fn one_more<S: Store>(
     alloc: Global,
-    code: &RawCode,
+    code: &Code,
     run: &mut Run,
     store: &mut S,
 ) -> Result<Option<Finished>, AllocError>
-    requires well_formed_code { first_fault code.now ≡ None }
-    requires numbered { All (λ r. IsTrue (is_numbered r.handlers)) code.now.routines }
     requires machine_invariant { MachineInvariant code.now (machine_of (S.tables store.old) (S.at store.old) run.old) }
     requires stand { MarksStand (S.holds store.old) (S.marks store.old) run.old }
     ensures expected { IfOk result (λ f. AfterStep (step code.now (machine_of (S.tables store.old) (S.at store.old) run.old)) f (machine_of (S.tables store.old) (S.at store.old) run.old) (machine_of (S.tables store.new) (S.at store.new) run.new)) }

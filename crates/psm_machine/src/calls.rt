@@ -16,7 +16,7 @@ use crate::operands::pop;
 use crate::stop::{Stop, stop_at};
 use crate::turns::turn;
 use crate::variables::stored;
-use psm_code::{Parameter, ParameterMode, RawCode, RawRoutine};
+use psm_code::{Code, Parameter, ParameterMode, RawRoutine};
 use psm_cursor::Cursor;
 use psm_sqlstate::SqlState;
 use psm_unwind::{Activation, Run, routine_at};
@@ -29,14 +29,14 @@ const MOST_DEPTH: usize = 64;
 
 /// Calls a procedure or a function: its arguments are the last operands, each of which is stored in its parameter, and a turn is
 /// used. The line of the activation that calls stays that of the call.
-pub fn call(alloc: Global, code: &RawCode, run: &mut Run, number: u32) -> Result<(), Stop>
-    requires { All (λ r. All IsType (slots_of r)) code.now.routines }
+pub fn call(alloc: Global, code: &Code, run: &mut Run, number: u32) -> Result<(), Stop>
     ensures expected { Does (call code.now number) run.old result run.new }
     ensures marks { SameMarks run.old run.new }
 {
     let Some(routine) = routine_at(code, number) else {
         return Err(Stop::Stuck);
     };
+    code.breaks_no_rule();
     let declared = routine.parameters.items();
     let arguments = arguments(alloc, declared, run)?;
     let parameters = entered(alloc, declared, arguments)?;

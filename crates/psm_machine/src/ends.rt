@@ -1,6 +1,5 @@
 //! Ends of activations (ISO/IEC 9075-4:1996, return statement and the end of a routine).
-ghost use Rattle.std.specs.Prelude.{◌≡◌, [], ◌++◌, All, IfOk, IfSome, OnOk, List, reverse};
-ghost use Rattle.psm_value.specs.SqlType.{IsType};
+ghost use Rattle.std.specs.Prelude.{◌≡◌, [], ◌++◌, IfOk, OnOk, List, reverse};
 ghost use Rattle.psm_table.specs.Table.{Contents};
 ghost use Rattle.psm_store.specs.declared.store.Mark.{Mark as MarkValue};
 ghost use Rattle.psm_code.specs.Calling.{«end», left_values, on_top};
@@ -14,7 +13,7 @@ ghost use Rattle.psm_machine.specs.Successors.{StandStill, StepsTo, resumed};
 use crate::returning::returned;
 use crate::stop::Stop;
 use crate::turns::clear;
-use psm_code::{Parameter, ParameterMode, RawCode, RawRoutine};
+use psm_code::{Code, Parameter, ParameterMode, RawRoutine};
 use psm_exprcode::Operand;
 use psm_list::{Boxed, List};
 use psm_operands::OperandStack;
@@ -29,7 +28,7 @@ use std::alloc::{AllocError, Global};
 /// The store has to hold the marks of the run. Those of the blocks that are left are closed.
 pub fn end_procedure<S: Store>(
     alloc: Global,
-    code: &RawCode,
+    code: &Code,
     run: &mut Run,
     store: &mut S,
 ) -> Result<Outcome, AllocError>
@@ -55,12 +54,11 @@ pub fn end_procedure<S: Store>(
 /// The store has to hold the marks of the run. Those of the blocks that are left are closed.
 pub fn return_value<S: Store>(
     alloc: Global,
-    code: &RawCode,
+    code: &Code,
     run: &mut Run,
     store: &mut S,
 ) -> Result<Outcome, Stop>
-    requires types { All (λ r. IfSome r.returns IsType) code.now.routines }
-    requires nested { Nested (S.holds store.old) (open_marks run.old) }
+    requires { Nested (S.holds store.old) (open_marks run.old) }
     ensures expected { StepsTo (return code.now (machine_of (S.tables store.old) (S.at store.old) run.old)) result (machine_of (S.tables store.new) (S.at store.new) run.new) }
     ensures unwinds { Unwinds (S.holds store.old) (S.at store.old) (S.marks store.old) (S.tables store.old) run.old (S.holds store.new) (S.at store.new) (S.marks store.new) (S.tables store.new) run.new }
     ensures still { StandStill (S.holds store.old) (S.at store.old) (S.marks store.old) run.old (S.holds store.new) (S.at store.new) (S.marks store.new) run.new }

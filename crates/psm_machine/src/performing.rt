@@ -1,5 +1,5 @@
 //! Instructions but for operations and those about queries, plans and cursors.
-ghost use Rattle.std.specs.Prelude.{◌≡◌, false, All, IfSome};
+ghost use Rattle.std.specs.Prelude.{◌≡◌, false, All};
 ghost use Rattle.psm_value.specs.SqlType.{IsType};
 ghost use Rattle.psm_code.specs.Parts.{slots_of};
 ghost use Rattle.psm_code.specs.Run.{call_from, done, end_action as action_end};
@@ -20,18 +20,18 @@ use crate::stop::Stop;
 use crate::successors::{following, go};
 use crate::turns::{clear, turn};
 use crate::variables::{retrieve, store as store_in, warn};
-use psm_code::{Instruction, RawCode, RawRoutine};
+use psm_code::{Code, Instruction, RawRoutine};
 use psm_store::Store;
 use psm_unwind::{Outcome, Run};
 use std::alloc::Global;
 
 /// Does an instruction that is no operation and about no query, plan or cursor, and goes on where the table of instructions says.
 ///
-/// The types of slots and results have to be types, and the marks of the run have to stand.
+/// The types of the routine's slots have to be types, and the marks of the run have to stand.
 /// They stand afterwards too, also where memory runs out.
 pub fn perform<S: Store>(
     alloc: Global,
-    code: &RawCode,
+    code: &Code,
     routine: &RawRoutine,
     instruction: &Instruction,
     run: &mut Run,
@@ -39,8 +39,6 @@ pub fn perform<S: Store>(
 ) -> Result<Outcome, Stop>
     requires kind { is_of_data instruction.now ≡ false }
     requires own { All IsType (slots_of routine.now) }
-    requires slots { All (λ r. All IsType (slots_of r)) code.now.routines }
-    requires results { All (λ r. IfSome r.returns IsType) code.now.routines }
     requires other { IsNoOperation instruction.now }
     requires stand { MarksStand (S.holds store.old) (S.marks store.old) run.old }
     ensures expected { StepsTo (done code.now routine.now instruction.now (machine_of (S.tables store.old) (S.at store.old) run.old)) result (machine_of (S.tables store.new) (S.at store.new) run.new) }
@@ -67,8 +65,7 @@ fn finish_action(routine: &RawRoutine, run: &mut Run, number: u32) -> Result<Out
     go(run, next)
 }
 
-fn call_on(alloc: Global, code: &RawCode, run: &mut Run, number: u32) -> Result<Outcome, Stop>
-    requires { All (λ r. All IsType (slots_of r)) code.now.routines }
+fn call_on(alloc: Global, code: &Code, run: &mut Run, number: u32) -> Result<Outcome, Stop>
     ensures expected { StepsOn (call_from code.now number) run.old result run.new }
     ensures marks { SameMarks run.old run.new }
 {

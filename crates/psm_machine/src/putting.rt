@@ -2,6 +2,7 @@
 ghost use Rattle.std.specs.Prelude.{◌≡◌, ◌<◌, ◌*◌, [], IfOk, IfSome, IsSome, drop, map, reverse, slice_get, take};
 ghost use Rattle.psm_store.specs.Marks.{AnyMark, Keeps, most_marks};
 ghost use Rattle.psm_tablecode.specs.NewRows.{new_row, value_for};
+ghost use Rattle.psm_code.specs.MachineInvariant.{AreLawful};
 ghost use Rattle.psm_code.specs.Plans.{in_rows, put_in};
 ghost use Rattle.psm_code.specs.Steps.{pops};
 ghost use Rattle.psm_unwind.specs.Marks.{SameFrames};
@@ -15,7 +16,7 @@ use crate::plans::table_at;
 use crate::queries::{answer_of, query_at};
 use crate::stop::{Stop, stop_at};
 use crate::table_statements::part_of;
-use psm_code::{CodeTable, RawCode, RawRoutine};
+use psm_code::{Code, CodeTable, RawCode, RawRoutine};
 use psm_cond::DataFault;
 use psm_dml::insert;
 use psm_list::List;
@@ -107,33 +108,26 @@ fn put_in<S: Store>(
 /// Puts rows of values for some columns into a table of the code, where the other columns have their DEFAULTs, and gives how many rows
 /// these are. Where that raises a condition, or memory runs out, the tables are as before.
 ///
-/// The table has to be there and as the code declares it. Marks stay as they are.
+/// The table has to be there, and the tables have to be those of the code. Marks stay as they are.
 pub fn put_rows<S: Store>(
     alloc: Global,
-    code: &RawCode,
+    code: &Code,
     store: &mut S,
     table: u32,
     columns: &[u32],
     rows: &[Row],
 ) -> Result<u32, DataFault>
     requires there { IsSome (slice_get code.now.tables table) }
-    requires may { MayPut code.now (S.tables store.old) table }
+    requires kept { AreLawful code.now (S.tables store.old) }
     requires room { S.marks store.old < most_marks }
     ensures puts { PutsRows code.now table columns.now rows.now (S.tables store.old) (S.tables store.new) result }
     ensures marks { S.marks store.new ≡ S.marks store.old }
     ensures keeps { Keeps AnyMark (S.holds store.old) (S.at store.old) (S.holds store.new) (S.at store.new) }
 {
-    let keys = &code.keys;
-    let tables = code.tables.items();
-    put_into(
-        alloc,
-        keys,
-        &tables[table as usize],
-        store,
-        table,
-        columns,
-        rows,
-    )
+    code.breaks_no_rule();
+    let raw = code.raw();
+    let declared = &raw.tables.items()[table as usize];
+    put_into(alloc, &raw.keys, declared, store, table, columns, rows)
 }
 
 // Puts rows into the table that is declared so.

@@ -1,6 +1,5 @@
 //! The value that a function returns (ISO/IEC 9075-4:1996, return statement), and ends without a statement.
-ghost use Rattle.std.specs.Prelude.{All, IfSome, codes};
-ghost use Rattle.psm_value.specs.SqlType.{IsType};
+ghost use Rattle.std.specs.Prelude.{codes};
 ghost use Rattle.psm_code.specs.Calling.{result as result_of};
 ghost use Rattle.psm_code.specs.Steps.{of_state, raises};
 ghost use Rattle.psm_unwind.specs.Marks.{SameFrames};
@@ -9,15 +8,14 @@ ghost use Rattle.psm_machine.specs.ActResults.{Does, Finds};
 use crate::operands::pop;
 use crate::stop::{Stop, stop_at};
 use crate::variables::stored;
-use psm_code::RawCode;
+use psm_code::Code;
 use psm_sqlstate::SqlState;
 use psm_unwind::{Run, routine_at};
 use psm_value::Datum;
 use std::alloc::Global;
 
 /// The value of RETURN, which is the last operand, as the type of the function's result stores it.
-pub fn returned(alloc: Global, code: &RawCode, run: &mut Run) -> Result<Datum, Stop>
-    requires { All (λ r. IfSome r.returns IsType) code.now.routines }
+pub fn returned(alloc: Global, code: &Code, run: &mut Run) -> Result<Datum, Stop>
     ensures expected { Does (result_of code.now) run.old result run.new }
     ensures same { SameFrames run.old run.new }
 {
@@ -28,6 +26,7 @@ pub fn returned(alloc: Global, code: &RawCode, run: &mut Run) -> Result<Datum, S
     let Some(kind) = routine.returns else {
         return Err(Stop::Stuck);
     };
+    code.breaks_no_rule();
     stored(alloc, kind, value)
 }
 

@@ -1,13 +1,9 @@
 //! A run of a routine, from its beginning to its end.
-ghost use Rattle.std.specs.Prelude.{◌≡◌, ◌<◌, ◌≤◌, ◌+◌, [], None, All, IfErr, IfOk, IsTrue, List};
-ghost use Rattle.psm_value.specs.SqlType.{IsType};
-ghost use Rattle.psm_cond.specs.WellFormed.{is_numbered};
+ghost use Rattle.std.specs.Prelude.{◌≡◌, ◌<◌, ◌≤◌, ◌+◌, [], IfErr, IfOk, IsTrue, List};
 ghost use Rattle.psm_table.specs.Table.{Contents};
 ghost use Rattle.psm_store.specs.declared.store.Mark.{Mark as MarkValue};
 ghost use Rattle.psm_store.specs.Marks.{AnyMark, Keeps};
 ghost use Rattle.psm_code.specs.Calling.{started};
-ghost use Rattle.psm_code.specs.Parts.{slots_of};
-ghost use Rattle.psm_code.specs.RoutineRules.{first_fault};
 ghost use Rattle.psm_code.specs.MachineInvariant.{AreLawful, MachineInvariant, is_due};
 ghost use Rattle.psm_code.specs.State.{More};
 ghost use Rattle.psm_unwind.specs.Marks.{MarksStand, most_open};
@@ -18,7 +14,7 @@ ghost use Rattle.psm_machine.specs.Running.{Begins, BeginsWellFormed, Finishes, 
 use crate::advancing::advance;
 use crate::calls::{activation, entered};
 use crate::stop::Stop;
-use psm_code::RawCode;
+use psm_code::Code;
 use psm_cond::Area;
 use psm_list::Boxed;
 use psm_operands::OperandStack;
@@ -47,17 +43,17 @@ pub struct Finished {
 /// it runs as many marks are open as the last argument says.
 pub fn start(
     alloc: Global,
-    code: &RawCode,
+    code: &Code,
     number: u32,
     arguments: Vec<Datum>,
     turns: u64,
     marks: u128,
 ) -> Result<Beginning, AllocError>
-    requires { All (λ r. All IsType (slots_of r)) code.now.routines }
     ensures expected { IfOk result (Begins (λ tables. started code.now number arguments.items tables turns) turns) }
-    ensures machine_invariant { first_fault code.now ≡ None → Takes code.now number arguments.items → IfOk result (BeginsWellFormed code.now) }
+    ensures machine_invariant { Takes code.now number arguments.items → IfOk result (BeginsWellFormed code.now) }
     ensures marks { IfOk result (HasNoMarks marks) }
 {
+    code.breaks_no_rule();
     match first(alloc, code, number, arguments) {
         Ok(running) => {
             if turns == 0 {
@@ -85,19 +81,14 @@ pub fn start(
 }
 
 // The first activation.
-fn first(
-    alloc: Global,
-    code: &RawCode,
-    number: u32,
-    arguments: Vec<Datum>,
-) -> Result<Activation, Stop>
-    requires { All (λ r. All IsType (slots_of r)) code.now.routines }
+fn first(alloc: Global, code: &Code, number: u32, arguments: Vec<Datum>) -> Result<Activation, Stop>
     ensures expected { (at : MarkValue → List Contents) → Shows (activation_of at []) (first_activation code.now number arguments.items) result }
     ensures frames { IfOk result (λ a. a.frames.items ≡ []) }
 {
     let Some(routine) = routine_at(code, number) else {
         return Err(Stop::Stuck);
     };
+    code.breaks_no_rule();
     let mut arguments = arguments;
     arguments.reverse();
     let parameters = entered(alloc, routine.parameters.items(), arguments)?;
@@ -108,21 +99,18 @@ fn first(
 /// parameters and n turns. Gives back how the run ended, and how many turns it left.
 ///
 /// The tables are those that the run leaves, or, where it ended because turns or memory ran out, those that it found. All marks
-/// that the store held stay. The code has to be well-formed, with handlers that 32 bits are enough to number, and the tables have to be
-/// those of the code.
+/// that the store held stay. The tables have to be those of the code.
 ///
 /// It ends, whatever the code does: at each instruction that goes on, the turns that are left fall; or else the number of running
 /// activations and actions; or else the number of lines to the end of the routine.
 pub fn run<S: Store>(
     alloc: Global,
-    code: &RawCode,
+    code: &Code,
     number: u32,
     arguments: Vec<Datum>,
     store: &mut S,
     turns: u64,
 ) -> Result<Finished, AllocError>
-    requires well_formed_code { first_fault code.now ≡ None }
-    requires numbered { All (λ r. IsTrue (is_numbered r.handlers)) code.now.routines }
     requires takes { Takes code.now number arguments.items }
     requires kept { AreLawful code.now (S.tables store.old) }
     requires few { S.marks store.old < most_open }
@@ -133,6 +121,7 @@ pub fn run<S: Store>(
     ensures marks { S.marks store.new ≡ S.marks store.old }
     ensures keeps { Keeps AnyMark (S.holds store.old) (S.at store.old) (S.holds store.new) (S.at store.new) }
 {
+    code.breaks_no_rule();
     let mark = store.mark(alloc)?;
     let finished = run_after(alloc, code, number, arguments, store, turns, mark.depth + 1);
     if leaves_tables(&finished) {
@@ -165,15 +154,13 @@ fn leaves_tables(finished: &Result<Finished, AllocError>) -> bool
 // Runs a routine in a store in which n marks are open.
 fn run_after<S: Store>(
     alloc: Global,
-    code: &RawCode,
+    code: &Code,
     number: u32,
     arguments: Vec<Datum>,
     store: &mut S,
     turns: u64,
     marks: u128,
 ) -> Result<Finished, AllocError>
-    requires well_formed_code { first_fault code.now ≡ None }
-    requires numbered { All (λ r. IsTrue (is_numbered r.handlers)) code.now.routines }
     requires takes { Takes code.now number arguments.items }
     requires kept { AreLawful code.now (S.tables store.old) }
     requires counted { S.marks store.old ≡ marks }
@@ -190,17 +177,16 @@ fn run_after<S: Store>(
 // One instruction after another, to the end. Each that goes on leaves fewer that there may still be.
 fn go_through<S: Store>(
     alloc: Global,
-    code: &RawCode,
+    code: &Code,
     run: Run,
     store: &mut S,
 ) -> Result<Finished, AllocError>
-    requires well_formed_code { first_fault code.now ≡ None }
-    requires numbered { All (λ r. IsTrue (is_numbered r.handlers)) code.now.routines }
     requires machine_invariant { MachineInvariant code.now (machine_of (S.tables store.old) (S.at store.old) run) }
     requires stand { MarksStand (S.holds store.old) (S.marks store.old) run }
     ensures expected { IfOk result (λ f. Finishes code.now (More (machine_of (S.tables store.old) (S.at store.old) run)) f (S.tables store.new)) }
     ensures enclosing { StayAround (S.holds store.old) (S.at store.old) run (S.holds store.new) (S.at store.new) }
 {
+    code.breaks_no_rule();
     let mut run = run;
     'rows: loop {
         if let Some(finished) = advance(alloc, code, &mut run, store)? {

@@ -1,8 +1,6 @@
 //! One instruction of a run after another.
-ghost use Rattle.std.specs.Prelude.{◌≡◌, [], None, All, IfOk, IsTrue};
-ghost use Rattle.psm_cond.specs.WellFormed.{is_numbered};
+ghost use Rattle.std.specs.Prelude.{◌≡◌, [], IfOk};
 ghost use Rattle.psm_exprcode.specs.Fits.{Fits};
-ghost use Rattle.psm_code.specs.RoutineRules.{first_fault};
 ghost use Rattle.psm_code.specs.Run.{done, next_or_end, operation as operated, step, successor_of};
 ghost use Rattle.psm_code.specs.MachineInvariant.{MachineInvariant};
 ghost use Rattle.psm_unwind.specs.Marks.{MarksStand, SameFrames};
@@ -21,7 +19,7 @@ use crate::plans::change;
 use crate::queries::{exists, scalar, select_row};
 use crate::stop::Stop;
 use crate::successors::{following, go};
-use psm_code::{Instruction, RawCode, RawRoutine};
+use psm_code::{Code, Instruction, RawRoutine};
 use psm_exprcode::{Next, Op};
 use psm_store::Store;
 use psm_unwind::{Ending, Outcome, Run, routine_at};
@@ -29,16 +27,14 @@ use std::alloc::{AllocError, Global};
 
 /// One instruction of a run: the line that comes next is done, and the condition that it may end in is raised at it.
 ///
-/// The code has to be well-formed, with handlers that 32 bits are enough to number; the machine has to be as it always is, and the marks
-/// of the run to stand. They stand afterwards too, also where memory runs out, so that who began the run can put the tables back.
+/// The machine has to be as it always is, and the marks of the run to stand. They stand afterwards too, also where memory runs out, so
+/// that who began the run can put the tables back.
 pub fn step<S: Store>(
     alloc: Global,
-    code: &RawCode,
+    code: &Code,
     run: &mut Run,
     store: &mut S,
 ) -> Result<Outcome, AllocError>
-    requires well_formed_code { first_fault code.now ≡ None }
-    requires numbered { All (λ r. IsTrue (is_numbered r.handlers)) code.now.routines }
     requires machine_invariant { MachineInvariant code.now (machine_of (S.tables store.old) (S.at store.old) run.old) }
     requires stand { MarksStand (S.holds store.old) (S.marks store.old) run.old }
     ensures expected { IfOk result (λ o. LeadsTo (step code.now (machine_of (S.tables store.old) (S.at store.old) run.old)) o (machine_of (S.tables store.new) (S.at store.new) run.new)) }
@@ -50,6 +46,7 @@ pub fn step<S: Store>(
     let Some(instruction) = routine.lines.instruction(run.running.line) else {
         return Ok(Outcome::Over(Ending::Stuck));
     };
+    code.breaks_no_rule();
     let done = obey(alloc, code, routine, instruction, run, store);
     settle(alloc, code, run, store, done)
 }
@@ -60,7 +57,7 @@ pub fn step<S: Store>(
 /// marks of the run have to stand. They stand afterwards too, also where memory runs out.
 pub fn obey<S: Store>(
     alloc: Global,
-    code: &RawCode,
+    code: &Code,
     routine: &RawRoutine,
     instruction: &Instruction,
     run: &mut Run,
@@ -143,7 +140,7 @@ fn is_of_data(instruction: &Instruction) -> bool
 // An instruction about queries, plans or cursors that goes on at the line that follows, or raises a condition.
 fn on_tables<S: Store>(
     alloc: Global,
-    code: &RawCode,
+    code: &Code,
     routine: &RawRoutine,
     instruction: &Instruction,
     run: &mut Run,
@@ -158,7 +155,7 @@ fn on_tables<S: Store>(
         Instruction::Exists(number) => exists(alloc, routine, run, store, *number),
         Instruction::Scalar(number) => scalar(alloc, routine, run, store, *number),
         Instruction::Row(number) => select_row(alloc, routine, run, store, *number),
-        Instruction::Data(number) => change(alloc, code, routine, run, store, *number),
+        Instruction::Data(number) => change(alloc, code.raw(), routine, run, store, *number),
         Instruction::Open(number) => open(alloc, routine, run, store, *number),
         Instruction::Close(number) => close(alloc, routine, run, *number),
         Instruction::Fetch(number) => fetch(alloc, routine, run, store, *number),

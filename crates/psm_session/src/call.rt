@@ -1,10 +1,8 @@
 //! CALL (ISO/IEC 9075-4:1996, call statement).
-ghost use Rattle.std.specs.Prelude.{◌≡◌, ◌<◌, All, IfOk, IsSome, IsTrue, List, None, Some};
-ghost use Rattle.psm_cond.specs.WellFormed.{is_numbered};
+ghost use Rattle.std.specs.Prelude.{◌≡◌, ◌<◌, IfOk, IsSome, List, Some};
 ghost use Rattle.psm_table.specs.Table.{Contents};
 ghost use Rattle.psm_store.specs.Marks.{AnyMark, Keeps};
 ghost use Rattle.psm_code.specs.Parts.{routine_at};
-ghost use Rattle.psm_code.specs.RoutineRules.{first_fault};
 ghost use Rattle.psm_code.specs.MachineInvariant.{AreLawful};
 ghost use Rattle.psm_unwind.specs.Marks.{most_open};
 ghost use Rattle.psm_unwind.specs.View.{end_of};
@@ -14,7 +12,7 @@ ghost use Rattle.psm_session.specs.declared.command.ScriptCommand.TheVariants as
 
 use crate::piece::piece_of_call;
 use crate::step::CommandEnd;
-use psm_code::{RawCode, RawRoutine};
+use psm_code::{Code, RawRoutine};
 use psm_machine::run;
 use psm_store::Store;
 use psm_unwind::Ending;
@@ -25,15 +23,13 @@ use std::alloc::{AllocError, Global};
 /// before.
 pub(crate) fn call<S: Store>(
     alloc: Global,
-    code: &RawCode,
+    code: &Code,
     number: u64,
     routine: u32,
     values: &[Datum],
     store: &mut S,
     turns: &mut u64,
 ) -> Result<CommandEnd, AllocError>
-    requires well_formed_code { first_fault code.now ≡ None }
-    requires numbered { All (λ r. IsTrue (is_numbered r.handlers)) code.now.routines }
     requires takes { Takes code.now routine values.now }
     requires kept { AreLawful code.now (S.tables store.old) }
     requires few { S.marks store.old < most_open }
@@ -51,11 +47,11 @@ pub(crate) fn call<S: Store>(
 }
 
 // A routine of the code by its number.
-fn routine_of(code: &RawCode, number: u32) -> &RawRoutine
+fn routine_of(code: &Code, number: u32) -> &RawRoutine
     requires { IsSome (routine_at code.now number) }
     ensures { routine_at code.now number ≡ Some result.now }
 {
-    &code.routines.items()[number as usize]
+    &code.raw().routines.items()[number as usize]
 }
 
 // Whether another command is due after a run that ended so.

@@ -1,9 +1,7 @@
 //! The run of a script.
-ghost use Rattle.std.specs.Prelude.{◌≡◌, ◌+◌, ◌<◌, None, All, IfOk, IfSome, IsTrue, List};
-ghost use Rattle.psm_cond.specs.WellFormed.{is_numbered};
+ghost use Rattle.std.specs.Prelude.{◌≡◌, ◌+◌, ◌<◌, All, IfOk, IfSome, List};
 ghost use Rattle.psm_table.specs.Table.{Contents};
 ghost use Rattle.psm_store.specs.Marks.{AnyMark, IsOutside, Keeps};
-ghost use Rattle.psm_code.specs.RoutineRules.{first_fault};
 ghost use Rattle.psm_code.specs.MachineInvariant.{AreLawful};
 ghost use Rattle.psm_unwind.specs.Marks.{most_open};
 ghost use Rattle.psm_session.specs.Ends.{Ends, FitsCommand, beginning};
@@ -14,7 +12,7 @@ use crate::command::{ScriptCode, ScriptCommand};
 use crate::step::{Step, close, put};
 use crate::transaction::settle;
 use crate::work::work;
-use psm_code::RawCode;
+use psm_code::Code;
 use psm_io::Sink;
 use psm_store::{Mark, Store};
 use std::alloc::{AllocError, Global};
@@ -40,17 +38,15 @@ pub enum ScriptEnd {
 /// tables are those after its command. At `Memory`, which may come at any time, the pieces of some commands are put, and the tables are
 /// those after these. All marks that the store held stay.
 ///
-/// The code has to be well-formed, what the commands name has to be there, and the tables have to be those of the code.
+/// What the commands name has to be there, and the tables have to be those of the code.
 pub fn run_script<S: Store, K: Sink>(
     alloc: Global,
-    code: &RawCode,
+    code: &Code,
     script: &ScriptCode,
     store: &mut S,
     out: &mut K,
     turns: &mut u64,
 ) -> ScriptEnd
-    requires well_formed_code { first_fault code.now ≡ None }
-    requires numbered { All (λ r. IsTrue (is_numbered r.handlers)) code.now.routines }
     requires fits { All (FitsCommand code.now) script.now.commands }
     requires kept { AreLawful code.now (S.tables store.old) }
     requires few { S.marks store.old + 2 < most_open }
@@ -91,15 +87,13 @@ fn close_left<S: Store>(left: Option<Mark>, store: &mut S)
 // Runs the commands in a transaction that has a mark. It has a mark of the same depth after them, unless there was no memory for it.
 fn run_commands<S: Store, K: Sink>(
     alloc: Global,
-    code: &RawCode,
+    code: &Code,
     commands: &[ScriptCommand],
     mark: Mark,
     store: &mut S,
     out: &mut K,
     turns: &mut u64,
 ) -> (ScriptEnd, Option<Mark>)
-    requires well_formed_code { first_fault code.now ≡ None }
-    requires numbered { All (λ r. IsTrue (is_numbered r.handlers)) code.now.routines }
     requires fits { All (FitsCommand code.now) commands.now }
     requires kept { AreLawful code.now (S.tables store.old) }
     requires few { S.marks store.old + 1 < most_open }
@@ -137,7 +131,7 @@ fn run_commands<S: Store, K: Sink>(
 // Does one command, puts its piece, and settles the transaction. Out of memory for a new mark of the transaction is an error.
 fn run_command<S: Store, K: Sink>(
     alloc: Global,
-    code: &RawCode,
+    code: &Code,
     number: u64,
     command: &ScriptCommand,
     mark: &mut Mark,
@@ -145,8 +139,6 @@ fn run_command<S: Store, K: Sink>(
     out: &mut K,
     turns: &mut u64,
 ) -> Result<Step, AllocError>
-    requires well_formed_code { first_fault code.now ≡ None }
-    requires numbered { All (λ r. IsTrue (is_numbered r.handlers)) code.now.routines }
     requires fits { FitsCommand code.now command.now }
     requires kept { AreLawful code.now (S.tables store.old) }
     requires few { S.marks store.old + 1 < most_open }
@@ -166,15 +158,13 @@ fn run_command<S: Store, K: Sink>(
 // Does a command under a mark of its own, and puts its piece. Where memory runs out, the tables are as before.
 fn show<S: Store, K: Sink>(
     alloc: Global,
-    code: &RawCode,
+    code: &Code,
     number: u64,
     command: &ScriptCommand,
     store: &mut S,
     out: &mut K,
     turns: &mut u64,
 ) -> Step
-    requires well_formed_code { first_fault code.now ≡ None }
-    requires numbered { All (λ r. IsTrue (is_numbered r.handlers)) code.now.routines }
     requires fits { FitsCommand code.now command.now }
     requires kept { AreLawful code.now (S.tables store.old) }
     requires few { S.marks store.old + 1 < most_open }
@@ -194,15 +184,13 @@ fn show<S: Store, K: Sink>(
 // The same, but for the tables where memory runs out.
 fn work_and_put<S: Store, K: Sink>(
     alloc: Global,
-    code: &RawCode,
+    code: &Code,
     number: u64,
     command: &ScriptCommand,
     store: &mut S,
     out: &mut K,
     turns: &mut u64,
 ) -> Step
-    requires well_formed_code { first_fault code.now ≡ None }
-    requires numbered { All (λ r. IsTrue (is_numbered r.handlers)) code.now.routines }
     requires fits { FitsCommand code.now command.now }
     requires kept { AreLawful code.now (S.tables store.old) }
     requires few { S.marks store.old < most_open }

@@ -1,7 +1,5 @@
 //! The run of a script that puts nothing.
-ghost use Rattle.std.specs.Prelude.{◌≡◌, ◌+◌, ◌<◌, None, All, IfOk, IsTrue};
-ghost use Rattle.psm_cond.specs.WellFormed.{is_numbered};
-ghost use Rattle.psm_code.specs.RoutineRules.{first_fault};
+ghost use Rattle.std.specs.Prelude.{◌≡◌, ◌+◌, ◌<◌, All, IfOk};
 ghost use Rattle.psm_code.specs.MachineInvariant.{AreLawful};
 ghost use Rattle.psm_unwind.specs.Marks.{most_open};
 ghost use Rattle.psm_session.specs.Ends.{EndsWith, FitsCommand, beginning};
@@ -11,7 +9,7 @@ use crate::command::{ScriptCode, ScriptCommand};
 use crate::step::{CommandEnd, Step};
 use crate::transaction::settle;
 use crate::work::work;
-use psm_code::RawCode;
+use psm_code::Code;
 use psm_store::{Mark, Store};
 use std::alloc::{AllocError, Global};
 
@@ -26,19 +24,17 @@ pub struct SilentEnd {
 
 /// Runs the commands of a script in order over the tables of a store, as `run_script` does, and puts nothing. The store is used up.
 ///
-/// The code has to be well-formed, what the commands name has to be there, and the tables have to be those of the code.
+/// What the commands name has to be there, and the tables have to be those of the code.
 ///
 /// # Errors
 /// Memory ran out.
 pub fn run_silently<S: Store + Drop>(
     alloc: Global,
-    code: &RawCode,
+    code: &Code,
     script: &ScriptCode,
     store: S,
     turns: u64,
 ) -> Result<SilentEnd, AllocError>
-    requires well_formed_code { first_fault code.now ≡ None }
-    requires numbered { All (λ r. IsTrue (is_numbered r.handlers)) code.now.routines }
     requires fits { All (FitsCommand code.now) script.now.commands }
     requires kept { AreLawful code.now (S.tables store) }
     requires few { S.marks store + 1 < most_open }
@@ -59,14 +55,12 @@ pub fn run_silently<S: Store + Drop>(
 // Runs the commands in a transaction that has a mark.
 fn run_commands<S: Store>(
     alloc: Global,
-    code: &RawCode,
+    code: &Code,
     commands: &[ScriptCommand],
     mark: &mut Mark,
     store: &mut S,
     turns: u64,
 ) -> Result<SilentEnd, AllocError>
-    requires well_formed_code { first_fault code.now ≡ None }
-    requires numbered { All (λ r. IsTrue (is_numbered r.handlers)) code.now.routines }
     requires fits { All (FitsCommand code.now) commands.now }
     requires kept { AreLawful code.now (S.tables store.old) }
     requires few { S.marks store.old < most_open }
@@ -97,15 +91,13 @@ fn run_commands<S: Store>(
 // Does one command, and settles the transaction.
 fn run_command<S: Store>(
     alloc: Global,
-    code: &RawCode,
+    code: &Code,
     number: u64,
     command: &ScriptCommand,
     mark: &mut Mark,
     store: &mut S,
     turns: &mut u64,
 ) -> Result<CommandEnd, AllocError>
-    requires well_formed_code { first_fault code.now ≡ None }
-    requires numbered { All (λ r. IsTrue (is_numbered r.handlers)) code.now.routines }
     requires fits { FitsCommand code.now command.now }
     requires kept { AreLawful code.now (S.tables store.old) }
     requires few { S.marks store.old < most_open }

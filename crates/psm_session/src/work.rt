@@ -1,9 +1,7 @@
 //! One command of a script: what it does to the tables, and its piece.
-ghost use Rattle.std.specs.Prelude.{◌≡◌, ◌<◌, None, All, IfOk, IsTrue, List};
-ghost use Rattle.psm_cond.specs.WellFormed.{is_numbered};
+ghost use Rattle.std.specs.Prelude.{◌≡◌, ◌<◌, IfOk, List};
 ghost use Rattle.psm_table.specs.Table.{Contents};
 ghost use Rattle.psm_store.specs.Marks.{AnyMark, Keeps};
-ghost use Rattle.psm_code.specs.RoutineRules.{first_fault};
 ghost use Rattle.psm_code.specs.MachineInvariant.{AreLawful};
 ghost use Rattle.psm_unwind.specs.Marks.{most_open};
 ghost use Rattle.psm_session.specs.Ends.{FitsCommand};
@@ -15,7 +13,7 @@ use crate::insert::insert;
 use crate::piece::piece_of;
 use crate::select::select;
 use crate::step::CommandEnd;
-use psm_code::RawCode;
+use psm_code::Code;
 use psm_store::Store;
 use std::alloc::{AllocError, Global};
 
@@ -23,14 +21,12 @@ use std::alloc::{AllocError, Global};
 /// before.
 pub(crate) fn work<S: Store>(
     alloc: Global,
-    code: &RawCode,
+    code: &Code,
     number: u64,
     command: &ScriptCommand,
     store: &mut S,
     turns: &mut u64,
 ) -> Result<CommandEnd, AllocError>
-    requires well_formed_code { first_fault code.now ≡ None }
-    requires numbered { All (λ r. IsTrue (is_numbered r.handlers)) code.now.routines }
     requires fits { FitsCommand code.now command.now }
     requires kept { AreLawful code.now (S.tables store.old) }
     requires few { S.marks store.old < most_open }

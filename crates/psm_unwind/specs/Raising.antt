@@ -1,11 +1,8 @@
 -- What a condition meets in the activations of a run.
-use Rattle.std.specs.Prelude.{◌≡◌, ℕ, true, [], Option, Some, None, IsTrue, if◌then◌else◌}
-use Rattle.std.specs.List.{All}
+use Rattle.std.specs.Prelude.{◌≡◌, ℕ, true, [], Option, Some, None, if◌then◌else◌}
 use Rattle.psm_sqlstate.specs.Kind.{kind_of}
 use Rattle.psm_cond.specs.Choice.{is_exception}
 use Rattle.psm_cond.specs.Condition.{Entries}
-use Rattle.psm_cond.specs.WellFormed.{is_well_formed_table}
-use Rattle.psm_code.specs.declared.code.RawCode.{RawCode}
 use Rattle.psm_code.specs.declared.code.RawRoutine.{RawRoutine}
 use Rattle.psm_code.specs.declared.lines.CodeLine.{CodeLine}
 use Rattle.psm_code.specs.Parts.{handler_at}
@@ -16,10 +13,6 @@ use Rattle.psm_unwind.specs.declared.raising.Met.{Met}
 use Rattle.psm_unwind.specs.declared.raising.Met.TheVariants.{Here, Outside}
 use Rattle.psm_unwind.specs.declared.run.Run.{Run}
 use Rattle.psm_unwind.specs.View.{LeadsTo, at_end}
-
--- the contexts and handlers of each routine fit together
-abbrev pub HasWellFormedHandlers : RawCode → Type 0
-HasWellFormedHandlers code = All (λ (r : RawRoutine). IsTrue (is_well_formed_table r.handlers)) code.routines
 
 -- where a line stands
 abbrev pub IsPlace : Option CodeLine → Option Place → Type 0

@@ -5,7 +5,7 @@ ghost use Rattle.psm_code.specs.Parts.{block_at, handler_at, line_at, routine_at
 ghost use Rattle.psm_cond.specs.Choice.{is_exception};
 ghost use Rattle.psm_unwind.specs.Raising.{IsPlace};
 
-use psm_code::{RawCode, RawRoutine};
+use psm_code::{Code, RawRoutine};
 use psm_cond::{Block, ContextKind, Handler};
 use psm_sqlstate::Kind;
 
@@ -31,10 +31,10 @@ pub(crate) fn place_of(routine: &RawRoutine, line: usize) -> Option<Place>
 }
 
 /// A routine by its number.
-pub fn routine_at(code: &RawCode, number: u32) -> Option<&RawRoutine>
+pub fn routine_at(code: &Code, number: u32) -> Option<&RawRoutine>
     ensures { option_copied result ≡ routine_at code.now number }
 {
-    code.routines.items().get(number as usize)
+    code.raw().routines.items().get(number as usize)
 }
 
 /// A handler by its number.

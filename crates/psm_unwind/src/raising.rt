@@ -11,14 +11,14 @@ ghost use Rattle.psm_code.specs.Parts.{handler_at, routine_at};
 ghost use Rattle.psm_code.specs.Raising.{acting, arrived, asked, chosen, found_first, handled, passed_over, put_back, raised, undone};
 ghost use Rattle.psm_code.specs.State.{holding};
 ghost use Rattle.psm_unwind.specs.Marks.{Leaves, MarksStand, Nested, SameFrames, StayDeepest, Unwinds, marks_in, open_marks};
-ghost use Rattle.psm_unwind.specs.Raising.{HasLeft, HasWellFormedHandlers, Meets, met_at};
+ghost use Rattle.psm_unwind.specs.Raising.{HasLeft, Meets, met_at};
 ghost use Rattle.psm_unwind.specs.View.{LeadsTo, frames_of, machine_of};
 
 use crate::ending::{Ending, Outcome};
 use crate::leaving::leave_until;
 use crate::parts::{Place, handler_at, is_exception, place_of, routine_at};
 use crate::run::{Frame, Run};
-use psm_code::{RawCode, RawRoutine};
+use psm_code::{Code, RawRoutine};
 use psm_cond::{Condition, Handler, HandlerKind, choose};
 use psm_list::Boxed;
 use psm_store::{Store, go_back};
@@ -37,17 +37,16 @@ enum Met {
 /// goes on after the statement, and an exception leaves the routine and is raised again where it was called, from then on by its
 /// SQLSTATE alone; where nothing called it the run is over.
 ///
-/// The handlers and contexts of the code have to fit together, and the marks of the run to stand. They stand afterwards too, also
-/// where memory runs out, so that who began the run can put the tables back.
+/// The marks of the run have to stand. They stand afterwards too, also where memory runs out, so that who began the run can put the
+/// tables back.
 pub fn raise<S: Store>(
     alloc: Global,
-    code: &RawCode,
+    code: &Code,
     run: &mut Run,
     store: &mut S,
     condition: Condition,
 ) -> Result<Outcome, AllocError>
-    requires well_formed_handlers { HasWellFormedHandlers code.now }
-    requires stand { MarksStand (S.holds store.old) (S.marks store.old) run.old }
+    requires { MarksStand (S.holds store.old) (S.marks store.old) run.old }
     ensures expected { IfOk result (λ o. LeadsTo (raised code.now condition (machine_of (S.tables store.old) (S.at store.old) run.old)) o (machine_of (S.tables store.new) (S.at store.new) run.new)) }
     ensures stand { MarksStand (S.holds store.new) (S.marks store.new) run.new }
     ensures unwinds { Unwinds (S.holds store.old) (S.at store.old) (S.marks store.old) (S.tables store.old) run.old (S.holds store.new) (S.at store.new) (S.marks store.new) (S.tables store.new) run.new }
@@ -74,13 +73,12 @@ pub fn raise<S: Store>(
 // What a condition meets in the activation that runs.
 fn ask<S: Store>(
     alloc: Global,
-    code: &RawCode,
+    code: &Code,
     run: &mut Run,
     store: &mut S,
     condition: &Condition,
 ) -> Result<Met, AllocError>
-    requires well_formed_handlers { HasWellFormedHandlers code.now }
-    requires nested { Nested (S.holds store.old) (open_marks run.old) }
+    requires { Nested (S.holds store.old) (open_marks run.old) }
     ensures expected { IfOk result (λ met. Meets (λ outside. asked (routine_at code.now run.old.running.routine) condition.now outside (machine_of (S.tables store.old) (S.at store.old) run.old)) met (machine_of (S.tables store.new) (S.at store.new) run.new)) }
     ensures left { IfOk result (λ met. HasLeft met run.new) }
     ensures callers { run.new.callers ≡ run.old.callers }
@@ -89,7 +87,10 @@ fn ask<S: Store>(
 {
     match routine_at(code, run.running.routine) {
         None => Ok(Met::Here(Outcome::Over(Ending::Stuck))),
-        Some(routine) => ask_in(alloc, routine, run, store, condition),
+        Some(routine) => {
+            code.breaks_no_rule();
+            ask_in(alloc, routine, run, store, condition)
+        }
     }
 }
 

@@ -1,10 +1,10 @@
 -- What the verifier answers.
-use Rattle.std.specs.Prelude.{◌≡◌, Some, None, Result, Ok, Err}
+use Rattle.std.specs.Prelude.{◌≡◌, Option, Some, None}
 use Rattle.psm_code.specs.declared.code.RawCode.{RawCode}
 use Rattle.psm_code.specs.RoutineRules.{first_fault}
 use Rattle.psm_verify.specs.declared.fault.CodeFault.{CodeFault}
 
--- the code itself where no line breaks a rule, and else the first line that does, with the rule
-abbrev pub Verifies : RawCode → Result RawCode CodeFault → Type 0
-Verifies code (Ok right) = (right ≡ code) × (first_fault code ≡ None)
-Verifies code (Err fault) = first_fault code ≡ Some (fault.line, fault.rule)
+-- the first line of the listing that breaks a rule, with the rule, or none
+abbrev pub IsFirstFault : RawCode → Option CodeFault → Type 0
+IsFirstFault code None = first_fault code ≡ None
+IsFirstFault code (Some fault) = first_fault code ≡ Some (fault.line, fault.rule)

@@ -4,7 +4,6 @@
 mod calls;
 mod changes;
 mod changing;
-mod code;
 mod effects;
 mod expressions;
 mod fault;
@@ -26,6 +25,5 @@ mod types;
 mod verify;
 mod verify_context;
 
-pub use code::Code;
 pub use fault::CodeFault;
-pub use verify::verified;
+pub use verify::first_fault;

@@ -8,11 +8,10 @@ ghost use Rattle.psm_verify.specs.Called.{call_of};
 ghost use Rattle.psm_verify.specs.Checked.{Finds, checked, item_at};
 ghost use Rattle.psm_verify.specs.Earlier.{at_index, is_new_routine};
 ghost use Rattle.psm_verify.specs.VerifyContext.{letters_with};
-ghost use Rattle.psm_verify.specs.Verified.{Verifies};
+ghost use Rattle.psm_verify.specs.Verified.{IsFirstFault};
 ghost use Rattle.psm_code.specs.TableRules as rules;
 
 use crate::calls::{Call, calls_of};
-use crate::code::Code;
 use crate::fault::{CodeFault, Stop};
 use crate::inserts::rows_of_plans;
 use crate::listing::next;
@@ -25,16 +24,19 @@ use psm_keys::SignatureSet;
 use psm_list::List;
 use std::alloc::{AllocError, Global};
 
-/// The code as code that keeps its rules, or the first line of its listing that breaks one, and which: a line that breaks several is
-/// reported by the rule that comes first in [`psm_code::CodeRule`]. Out of memory is the one other answer.
+/// The first line of the listing of the code that breaks a rule, and which: a line that breaks several is reported by the rule that
+/// comes first in [`psm_code::CodeRule`]. `None` where the code breaks no rule.
 ///
 /// It reads the listing a few times at most. What may not stand twice is found by maps.
-pub fn verified(alloc: Global, code: RawCode) -> Result<Result<Code, CodeFault>, AllocError>
-    ensures { IfOk result (λ answer. Verifies code answer) }
+///
+/// # Errors
+/// Memory ran out.
+pub fn first_fault(alloc: Global, code: &RawCode) -> Result<Option<CodeFault>, AllocError>
+    ensures { IfOk result (λ fault. IsFirstFault code.now fault) }
 {
-    match code_lines(alloc, &code) {
-        Ok(_) => Ok(Ok(Code::right(code))),
-        Err(Stop::Fault(fault)) => Ok(Err(fault)),
+    match code_lines(alloc, code) {
+        Ok(_) => Ok(None),
+        Err(Stop::Fault(fault)) => Ok(Some(fault)),
         Err(Stop::Memory) => Err(AllocError),
     }
 }

@@ -39,7 +39,7 @@ fn over_undoing(alloc: Global, case: &Case, program: &Program) -> Result<String>
     requires second { IfSome program.now.following (λ s. CanRun program.now.code s.commands) }
 {
     let definitions = definitions_of(alloc, &program.code)?;
-    let mut store = UndoStore::new(alloc, definitions, program.code.keys.items())?;
+    let mut store = UndoStore::new(alloc, definitions, program.code.raw().keys.items())?;
     run_session(alloc, case, program, &mut store)
 }
 
@@ -48,6 +48,6 @@ fn over_copying(alloc: Global, case: &Case, program: &Program) -> Result<String>
     requires second { IfSome program.now.following (λ s. CanRun program.now.code s.commands) }
 {
     let definitions = definitions_of(alloc, &program.code)?;
-    let mut store = CopyStore::new(alloc, definitions, program.code.keys.items())?;
+    let mut store = CopyStore::new(alloc, definitions, program.code.raw().keys.items())?;
     run_session(alloc, case, program, &mut store)
 }

@@ -4,6 +4,6 @@ use Rattle.psm_code_session.proofs.laws.runs_over_well_formed_code_show_their_se
 
 pub returns : goal.returns
 returns c = record {
-  can = λ code well_formed_code numbered ss commands is. script_runs code well_formed_code ss numbered commands is;
+  can = λ code well_formed_code ss commands is. script_runs code well_formed_code ss commands is;
   shown = script_shown;
 }

@@ -8,8 +8,7 @@ pub run_session-requires : goal.run_session-requires
 run_session-requires g c =
     let first = c.in-Ok.ensures.gives in
     let second = c.in-Ok-script_over.ensures in
-    let numbered = c.objects_have_numbered_handlers.ensures first.bytes c.in-Ok.code first.is in
-    c.runs_over_well_formed_code_show_their_session.ensures.can c.in-Ok.code first.is.well_formed numbered second.bytes c.in-Ok-script_over.script.commands second.is
+    c.runs_over_well_formed_code_show_their_session.ensures.can c.in-Ok.code first.is.well_formed second.bytes c.in-Ok-script_over.script.commands second.is
 
 pub returns-in-Ok-script_over : goal.returns-in-Ok-script_over
 returns-in-Ok-script_over g c =

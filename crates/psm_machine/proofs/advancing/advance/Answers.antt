@@ -12,7 +12,7 @@ use Rattle.psm_machine.proofs.ActSequences.{one_of, same_then}
 use Rattle.psm_machine.proofs.Finishing.{goes_further, machine_invariant_further}
 use Rattle.psm_machine.proofs.OneStep.{needs_well_formed}
 use Rattle.psm_machine.proofs.Onward.{advances, after_step, done_more, done_step}
-use Rattle.psm_machine.proofs.WellFormedCode.{handlers_well_formed, slots_well_formed}
+use Rattle.psm_code.proofs.WellFormedCode.{slots_well_formed}
 use Rattle.psm_machine.proofs.advancing.advance.Given.{Over}
 use Rattle.psm_machine.proofs.advancing.advance.Goals.{In_default-follow}
 use Rattle.psm_machine.proofs.advancing.advance.Goals as goal
@@ -44,15 +44,12 @@ common-init g c = record {
 
 pub follow-requires-clause-types : goal.follow-requires-clause-types
 follow-requires-clause-types g c =
-    one_of (λ (r : RawRoutine). All IsType (slots_of r)) c.args.code.now.routines c.common.run.running.routine c.in-Some.routine.now (slots_well_formed c.args.code.now c.requires.well_formed_code) c.common.invariant.routine
+    one_of (λ (r : RawRoutine). All IsType (slots_of r)) c.args.code.now.routines c.common.run.running.routine c.in-Some.routine.now (slots_well_formed c.args.code.now c.breaks_no_rule.ensures.well_formed) c.common.invariant.routine
 
 pub follow-requires-clause-needs : goal.follow-requires-clause-needs
 follow-requires-clause-needs g c =
     let m = machine_of (g.S.Store.tables c.common.store) (g.S.Store.at c.common.store) c.common.run in
-    needs_well_formed c.args.code.now c.requires.well_formed_code m c.common.invariant.machine_invariant c.in-Some.routine.now c.in-Some-instruction.instruction.now c.common.invariant.routine (sym (ap option_copied c.in-Some-instruction.is) ∙ c.instruction.ensures.instruction)
-
-pub settle-requires-clause-well_formed_handlers : goal.settle-requires-clause-well_formed_handlers
-settle-requires-clause-well_formed_handlers g c = handlers_well_formed c.args.code.now c.requires.well_formed_code c.requires.numbered
+    needs_well_formed c.args.code.now c.breaks_no_rule.ensures.well_formed m c.common.invariant.machine_invariant c.in-Some.routine.now c.in-Some-instruction.instruction.now c.common.invariant.routine (sym (ap option_copied c.in-Some-instruction.is) ∙ c.instruction.ensures.instruction)
 
 pub returns-in-Err-clause-expected : goal.returns-in-Err-clause-expected
 returns-in-Err-clause-expected g c =
@@ -71,7 +68,7 @@ returns-in-Err-clause-expected g c =
 pub common-smaller : goal.common-smaller
 common-smaller g c =
     let x = (goal.at.common-smaller g c).In_default-follow in
-    step_less c.args.code.now c.requires.well_formed_code (before g x) (following g x) c.common.invariant.machine_invariant (goes_on g x)
+    step_less c.args.code.now c.breaks_no_rule.ensures.well_formed (before g x) (following g x) c.common.invariant.machine_invariant (goes_on g x)
 
 pub common-preserved : goal.common-preserved
 common-preserved g c =
@@ -80,7 +77,7 @@ common-preserved g c =
     let x = (goal.at.common-preserved g c).In_default-follow in
     record {
       before = (c.common.invariant.before.0 + 1, goes_further code start c.common.invariant.before.0 (before g x) (following g x) c.common.invariant.before.1 (goes_on g x));
-      machine_invariant = machine_invariant_further code c.requires.well_formed_code (before g x) (following g x) c.common.invariant.machine_invariant (goes_on g x);
+      machine_invariant = machine_invariant_further code c.breaks_no_rule.ensures.well_formed (before g x) (following g x) c.common.invariant.machine_invariant (goes_on g x);
       same = same_then c.args.run.now c.common.run c.follow.new.run c.common.invariant.same c.follow.ensures.same;
       routine = ap (routine_at code) c.follow.ensures.routine ∙ c.common.invariant.routine;
       store = c.common.invariant.store;

@@ -6,6 +6,7 @@ use Rattle.psm_code.specs.declared.code.RawRoutine.{RawRoutine}
 use Rattle.psm_code.specs.Calling.{bounded, entered}
 use Rattle.psm_code.specs.Parts.{slots_of, taking}
 use Rattle.psm_code.specs.Steps.{Came, pops, turn}
+use Rattle.psm_code.proofs.WellFormedCode.{slots_well_formed}
 use Rattle.psm_unwind.specs.View.{machine_of}
 use Rattle.psm_machine.specs.ActResults.{Evaluates}
 use Rattle.psm_machine.proofs.Callings.{after_arguments, after_bound, after_parameters, after_turn, parameter_types, with_arguments, with_bound, with_parameters, with_routine, with_turn}
@@ -25,7 +26,7 @@ returns-in_err-arguments-clause-expected c = λ tables at.
 pub entered-requires : goal.entered-requires
 entered-requires c =
     subst (λ ps. All (λ (p : Parameter). IsType p.kind) ps) (sym c.items-declared.ensures)
-    (parameter_types c.in-Some.routine.now (one_of (λ (r : RawRoutine). All IsType (slots_of r)) c.args.code.now.routines c.args.number c.in-Some.routine.now c.requires (sym c.routine_at.ensures ∙ ap option_copied c.in-Some.is)))
+    (parameter_types c.in-Some.routine.now (one_of (λ (r : RawRoutine). All IsType (slots_of r)) c.args.code.now.routines c.args.number c.in-Some.routine.now (slots_well_formed c.args.code.now c.breaks_no_rule.ensures.well_formed) (sym c.routine_at.ensures ∙ ap option_copied c.in-Some.is)))
 
 pub returns-in_err-parameters-clause-expected : goal.returns-in_err-parameters-clause-expected
 returns-in_err-parameters-clause-expected c = λ tables at.

@@ -16,11 +16,11 @@ returns-in_err-value-in-Some-clause-expected g c =
 
 pub returns-in_err-value-in-Some-clause-unwinds : goal.returns-in_err-value-in-Some-clause-unwinds
 returns-in_err-value-in-Some-clause-unwinds g c =
-    unwinds_same (g.S.Store.holds c.args.store.now) (g.S.Store.at c.args.store.now) (g.S.Store.marks c.args.store.now) (g.S.Store.tables c.args.store.now) c.args.run.now c.returned.new.run c.requires.nested c.returned.ensures.same
+    unwinds_same (g.S.Store.holds c.args.store.now) (g.S.Store.at c.args.store.now) (g.S.Store.marks c.args.store.now) (g.S.Store.tables c.args.store.now) c.args.run.now c.returned.new.run c.requires c.returned.ensures.same
 
 pub returns-in_err-push-in-Some-clause-unwinds : goal.returns-in_err-push-in-Some-clause-unwinds
 returns-in_err-push-in-Some-clause-unwinds g c =
-    unwinds_same (g.S.Store.holds c.args.store.now) (g.S.Store.at c.args.store.now) (g.S.Store.marks c.args.store.now) (g.S.Store.tables c.args.store.now) c.args.run.now c.returned.new.run c.requires.nested c.returned.ensures.same
+    unwinds_same (g.S.Store.holds c.args.store.now) (g.S.Store.at c.args.store.now) (g.S.Store.marks c.args.store.now) (g.S.Store.tables c.args.store.now) c.args.run.now c.returned.new.run c.requires c.returned.ensures.same
 
 pub returns-in_err-leave-in-Some-clause-still : goal.returns-in_err-leave-in-Some-clause-still
 returns-in_err-leave-in-Some-clause-still g c =
@@ -36,7 +36,7 @@ returns-in_err-leave-in-Some-clause-still g c =
 
 pub returns-in-None-clause-unwinds : goal.returns-in-None-clause-unwinds
 returns-in-None-clause-unwinds g c =
-    unwinds_none (g.S.Store.holds c.args.store.now) (g.S.Store.at c.args.store.now) (g.S.Store.marks c.args.store.now) (g.S.Store.tables c.args.store.now) c.args.run.now c.args.run.now c.requires.nested refl refl refl refl
+    unwinds_none (g.S.Store.holds c.args.store.now) (g.S.Store.at c.args.store.now) (g.S.Store.marks c.args.store.now) (g.S.Store.tables c.args.store.now) c.args.run.now c.args.run.now c.requires refl refl refl refl
 
 pub returns-in_ok-leave-in-Some-clause-expected : goal.returns-in_ok-leave-in-Some-clause-expected
 returns-in_ok-leave-in-Some-clause-expected g c =

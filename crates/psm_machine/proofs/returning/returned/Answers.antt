@@ -2,6 +2,7 @@ use Rattle.std.proofs.Common.{IfSome, refl, ap, sym, subst, ◌∙◌}
 use Rattle.std.specs.Option.{option_copied}
 use Rattle.psm_value.specs.SqlType.{IsType}
 use Rattle.psm_code.specs.declared.code.RawRoutine.{RawRoutine}
+use Rattle.psm_code.proofs.WellFormedCode.{results_well_formed}
 use Rattle.psm_unwind.specs.View.{machine_of}
 use Rattle.psm_machine.proofs.ActSequences.{one_of, stopped}
 use Rattle.psm_machine.proofs.returning.returned.Goals as goal
@@ -19,7 +20,7 @@ returns-in_default-returns-clause-expected c = λ tables at.
 pub stored-requires : goal.stored-requires
 stored-requires c =
     subst (λ o. IfSome o IsType) c.in-Some-returns.is
-    (one_of (λ (r : RawRoutine). IfSome r.returns IsType) c.args.code.now.routines c.pop.new.run.running.routine c.in-Some.routine.now c.requires (sym c.routine_at.ensures ∙ ap option_copied c.in-Some.is))
+    (one_of (λ (r : RawRoutine). IfSome r.returns IsType) c.args.code.now.routines c.pop.new.run.running.routine c.in-Some.routine.now (results_well_formed c.args.code.now c.breaks_no_rule.ensures.well_formed) (sym c.routine_at.ensures ∙ ap option_copied c.in-Some.is))
 
 pub returns-clause-expected : goal.returns-clause-expected
 returns-clause-expected c = λ tables at.

@@ -9,6 +9,7 @@ use Rattle.psm_code.specs.Calling.{activation, entered}
 use Rattle.psm_code.specs.Parts.{slots_of}
 use Rattle.psm_code.specs.State.{Activation}
 use Rattle.psm_code.specs.Steps.{Came, Got, got}
+use Rattle.psm_code.proofs.WellFormedCode.{slots_well_formed}
 use Rattle.psm_unwind.specs.View.{activation_of}
 use Rattle.psm_machine.specs.ActResults.{Evaluates}
 use Rattle.psm_machine.proofs.Callings.{parameter_types}
@@ -19,7 +20,7 @@ use Rattle.psm_machine.proofs.running.first.Goals as goal
 pub entered-requires : goal.entered-requires
 entered-requires c =
     subst (λ ps. All (λ (p : Parameter). IsType p.kind) ps) (sym c.items.ensures)
-    (parameter_types c.in-Some.routine.now (one_of (λ (r : RawRoutine). All IsType (slots_of r)) c.args.code.now.routines c.args.number c.in-Some.routine.now c.requires (sym c.routine_at.ensures ∙ ap option_copied c.in-Some.is)))
+    (parameter_types c.in-Some.routine.now (one_of (λ (r : RawRoutine). All IsType (slots_of r)) c.args.code.now.routines c.args.number c.in-Some.routine.now (slots_well_formed c.args.code.now c.breaks_no_rule.ensures.well_formed) (sym c.routine_at.ensures ∙ ap option_copied c.in-Some.is)))
 
 pub returns-in_err-parameters-clause-expected : goal.returns-in_err-parameters-clause-expected
 returns-in_err-parameters-clause-expected c = λ at m.

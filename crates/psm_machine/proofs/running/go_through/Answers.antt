@@ -35,7 +35,7 @@ rows-init g c = record {
 pub rows-smaller : goal.rows-smaller
 rows-smaller g c =
     let x = (goal.at.rows-smaller g c).In_default in
-    advance_less c.args.code.now c.requires.well_formed_code (before g x) (following g x) c.rows.invariant.machine_invariant (goes_on g x)
+    advance_less c.args.code.now c.breaks_no_rule.ensures.well_formed (before g x) (following g x) c.rows.invariant.machine_invariant (goes_on g x)
 
 pub rows-preserved : goal.rows-preserved
 rows-preserved g c =
@@ -46,7 +46,7 @@ rows-preserved g c =
     let leads = advance_leads code (before g x) (following g x) a in
     record {
       before = (c.rows.invariant.before.0 + (a.count + 1), onward code from (before g x) (following g x) c.rows.invariant.before.0 (a.count + 1) c.rows.invariant.before.1 leads);
-      machine_invariant = machine_invariant_there code c.requires.well_formed_code (before g x) (following g x) (a.count + 1) c.rows.invariant.machine_invariant leads;
+      machine_invariant = machine_invariant_there code c.breaks_no_rule.ensures.well_formed (before g x) (following g x) (a.count + 1) c.rows.invariant.machine_invariant leads;
       stand = c.advance.ensures.still.stand c.rows.invariant.stand;
       still =
           still_then (g.S.Store.holds c.args.store.now) (g.S.Store.at c.args.store.now) (g.S.Store.marks c.args.store.now) c.args.run
@@ -63,6 +63,6 @@ returns-in-Some-clause-expected g c =
     let now : Machine = machine_of (g.S.Store.tables c.advance.new.store) (g.S.Store.at c.advance.new.store) c.advance.new.run in
     let a = c.in_ok-finished.ensures.expected in
     let last = subst (λ f. AfterStep (step code a.last) f a.last now) c.in-Some.is a.next in
-    finishes_over code c.requires.well_formed_code from c.in-Some.finished (g.S.Store.tables c.advance.new.store) (c.rows.invariant.before.0 + a.count) a.last now (outcome.Over c.in-Some.finished.ending)
-    (machine_invariant_there code c.requires.well_formed_code m a.last a.count c.rows.invariant.machine_invariant a.leads)
+    finishes_over code c.breaks_no_rule.ensures.well_formed from c.in-Some.finished (g.S.Store.tables c.advance.new.store) (c.rows.invariant.before.0 + a.count) a.last now (outcome.Over c.in-Some.finished.ending)
+    (machine_invariant_there code c.breaks_no_rule.ensures.well_formed m a.last a.count c.rows.invariant.machine_invariant a.leads)
     (onward code from m a.last c.rows.invariant.before.0 a.count c.rows.invariant.before.1 a.leads) refl (sym last.1) refl last.0

@@ -12,7 +12,7 @@ pub returns-then-leaves_tables-clause-kept : goal.returns-then-leaves_tables-cla
 returns-then-leaves_tables-clause-kept g c =
     subst (AreLawful c.args.code.now) (sym c.release.ensures.tables)
     (kept_on c.args.code.now c.args.number c.args.arguments.items c.args.turns (g.S.Store.tables c.args.store.now) (g.S.Store.tables c.mark.new.self) (g.S.Store.tables c.run_after-finished.new.store) c.mark.ensures.tables
-    c.requires.well_formed_code c.requires.takes c.requires.kept c.run_after-finished.result c.run_after-finished.ensures.expected (sym c.leaves_tables.ensures ∙ c.if-leaves_tables.true))
+    c.breaks_no_rule.ensures.well_formed c.requires.takes c.requires.kept c.run_after-finished.result c.run_after-finished.ensures.expected (sym c.leaves_tables.ensures ∙ c.if-leaves_tables.true))
 
 pub returns-else-leaves_tables-clause-expected : goal.returns-else-leaves_tables-clause-expected
 returns-else-leaves_tables-clause-expected g c =
@@ -23,4 +23,4 @@ returns-else-leaves_tables-clause-expected g c =
 pub returns-else-leaves_tables-clause-ends : goal.returns-else-leaves_tables-clause-ends
 returns-else-leaves_tables-clause-ends g c =
     ends_expected c.args.code.now c.args.number c.args.arguments.items c.args.turns (g.S.Store.tables c.args.store.now) (g.S.Store.tables c.mark.new.self) (g.S.Store.tables c.run_after-finished.new.store) c.mark.ensures.tables
-    c.requires.well_formed_code c.requires.takes c.requires.kept c.run_after-finished.result c.run_after-finished.ensures.expected
+    c.breaks_no_rule.ensures.well_formed c.requires.takes c.requires.kept c.run_after-finished.result c.run_after-finished.ensures.expected

@@ -1,23 +1,14 @@
 use Rattle.std.proofs.Common.{refl, subst}
-use Rattle.psm_code.specs.MachineInvariant.{StaysWellFormed}
-use Rattle.psm_code.proofs.NeverStuck.{starts}
-use Rattle.psm_machine.specs.Running.{Begins, HasNoMarks}
+use Rattle.psm_machine.specs.Running.{Begins, BeginsWellFormed, HasNoMarks}
 use Rattle.psm_machine.specs.declared.running.Beginning.{Beginning}
 use Rattle.psm_code.specs.Calling.{before_start, started}
 use Rattle.psm_machine.proofs.Finishing.{finishes_at_once}
 use Rattle.psm_machine.proofs.Marking.{stand_first}
-use Rattle.psm_machine.proofs.WellFormedCode.{slots_well_formed}
 use Rattle.psm_machine.proofs.running.run_after.Goals as goal
-
-pub start-requires : goal.start-requires
-start-requires g c = slots_well_formed c.args.code.now c.requires.well_formed_code
 
 pub go_through-requires-clause-machine_invariant : goal.go_through-requires-clause-machine_invariant
 go_through-requires-clause-machine_invariant g c =
-    let args = c.args.arguments.items in
-    subst (StaysWellFormed c.args.code.now)
-    (subst (λ (b : Beginning). Begins (λ tables. started c.args.code.now c.args.number args tables c.args.turns) c.args.turns b) c.in-Runs.is c.in_ok-ending.ensures.expected (g.S.Store.tables c.args.store.now) (g.S.Store.at c.args.store.now))
-    (starts c.args.code.now c.requires.well_formed_code c.args.number c.requires.takes.routine c.requires.takes.there args (g.S.Store.tables c.args.store.now) c.args.turns c.requires.takes.many c.requires.kept)
+    subst (λ (b : Beginning). BeginsWellFormed c.args.code.now b) c.in-Runs.is (c.in_ok-ending.ensures.machine_invariant c.requires.takes) (g.S.Store.tables c.args.store.now) (g.S.Store.at c.args.store.now) c.requires.kept
 
 pub go_through-requires-clause-stand : goal.go_through-requires-clause-stand
 go_through-requires-clause-stand g c =

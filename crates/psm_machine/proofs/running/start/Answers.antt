@@ -49,6 +49,6 @@ returns-in-Err-Stuck-clause-expected c = λ tables.
     begins_ending c.args.code.now c.args.number c.args.arguments.items tables c.args.turns Stuck expected.0
 
 pub returns-else-turns-eq0-clause-machine_invariant : goal.returns-else-turns-eq0-clause-machine_invariant
-returns-else-turns-eq0-clause-machine_invariant c = λ well_formed_code takes tables at kept.
+returns-else-turns-eq0-clause-machine_invariant c = λ takes tables at kept.
     subst (StaysWellFormed c.args.code.now) (returns-else-turns-eq0-clause-expected c tables at)
-    (starts c.args.code.now well_formed_code c.args.number takes.routine takes.there c.args.arguments.items tables c.args.turns takes.many kept)
+    (starts c.args.code.now c.breaks_no_rule.ensures.well_formed c.args.number takes.routine takes.there c.args.arguments.items tables c.args.turns takes.many kept)

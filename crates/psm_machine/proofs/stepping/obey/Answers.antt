@@ -10,7 +10,7 @@ use Rattle.psm_machine.specs.Successors.{StepsTo}
 use Rattle.psm_machine.specs.Stepping.{data_act}
 use Rattle.psm_machine.proofs.ActSequences.{one_of}
 use Rattle.psm_machine.proofs.OneStep.{data_done}
-use Rattle.psm_machine.proofs.WellFormedCode.{results_well_formed, slots_well_formed}
+use Rattle.psm_code.proofs.WellFormedCode.{slots_well_formed}
 use Rattle.psm_machine.proofs.CodeGuarantees.{may_move}
 use Rattle.psm_machine.proofs.Standing.{still_same, still_then}
 use Rattle.psm_machine.proofs.stepping.obey.Goals as goal
@@ -28,8 +28,6 @@ pub perform-requires : goal.perform-requires
 perform-requires g c = record {
   kind = sym c.is_of_data.ensures ∙ c.if-is_of_data.false;
   own = one_of (λ (r : RawRoutine). All IsType (slots_of r)) c.args.code.now.routines c.requires.runs.routine c.args.routine.now (slots_well_formed c.args.code.now c.requires.runs.well_formed_code) c.requires.runs.there;
-  slots = slots_well_formed c.args.code.now c.requires.runs.well_formed_code;
-  results = results_well_formed c.args.code.now c.requires.runs.well_formed_code;
   other = c.in_default.not-Operation;
   stand = c.requires.stand;
 }

@@ -21,7 +21,7 @@ pub fetch-requires : goal.fetch-requires
 fetch-requires g c = may_move c.args.code.now c.args.routine.now (g.S.Store.tables c.args.store.now) c.args.run.now.running.variables.items c.args.run.now.running.cursors.items c.requires.runs _
 
 pub change-requires-clause-may : goal.change-requires-clause-may
-change-requires-clause-may g c = may_do c.args.code.now c.args.routine.now (g.S.Store.tables c.args.store.now) c.args.run.now.running.variables.items c.args.run.now.running.cursors.items c.requires.runs _
+change-requires-clause-may g c = rw c.raw.ensures (may_do c.args.code.now c.args.routine.now (g.S.Store.tables c.args.store.now) c.args.run.now.running.variables.items c.args.run.now.running.cursors.items c.requires.runs _)
 
 pub returns-in-Exists-clause-expected : goal.returns-in-Exists-clause-expected
 returns-in-Exists-clause-expected g c = rw c.in-Exists.is (c.exists.ensures.expected (g.S.Store.at c.args.store.now))
@@ -60,7 +60,7 @@ pub returns-in-Close-clause-still : goal.returns-in-Close-clause-still
 returns-in-Close-clause-still g c = still_same (g.S.Store.holds c.args.store.now) (g.S.Store.at c.args.store.now) (g.S.Store.marks c.args.store.now) c.args.run.now c.close.new.run c.close.ensures.same
 
 pub returns-in-Data-clause-expected : goal.returns-in-Data-clause-expected
-returns-in-Data-clause-expected g c = rw c.in-Data.is c.change.ensures.expected
+returns-in-Data-clause-expected g c = rw (c.in-Data.is, ← c.raw.ensures) c.change.ensures.expected
 
 pub returns-in-Data-clause-still : goal.returns-in-Data-clause-still
 returns-in-Data-clause-still g c = record {

@@ -4,11 +4,7 @@ use Rattle.psm_cond.specs.declared.fault.DataFault.{DataFault}
 use Rattle.psm_meaning.specs.Lines.{condition_lines, first_line, ok_line}
 use Rattle.psm_machine.specs.Inserting.{PutsRows}
 use Rattle.psm_session.proofs.Inserts.{if_ok_map, kept_after, put_raised, put_well}
-use Rattle.psm_machine.proofs.CodeGuarantees.{put_right}
 use Rattle.psm_session.proofs.insert.insert.Goals as goal
-
-pub put_rows-requires-clause-may : goal.put_rows-requires-clause-may
-put_rows-requires-clause-may g c = put_right c.args.code.now (g.S.Store.tables c.args.store.now) c.requires.well_formed_code c.requires.kept c.args.table
 
 pub returns-in-Ok-clause-made : goal.returns-in-Ok-clause-made
 returns-in-Ok-clause-made g c =
@@ -19,7 +15,7 @@ returns-in-Ok-clause-made g c =
 pub returns-in-Ok-clause-kept : goal.returns-in-Ok-clause-kept
 returns-in-Ok-clause-kept g c =
     kept_after c.args.code.now c.args.number c.args.table c.args.columns.now c.args.rows.now (g.S.Store.tables c.args.store.now) (g.S.Store.tables c.put_rows.new.store) c.table_of-declared.result.now c.table_of-declared.ensures c.requires.kept
-    c.requires.well_formed_code c.put_rows.result c.put_rows.ensures.puts
+    c.breaks_no_rule.ensures.well_formed c.put_rows.result c.put_rows.ensures.puts
 
 pub returns-in-Err-Raised-clause-made : goal.returns-in-Err-Raised-clause-made
 returns-in-Err-Raised-clause-made g c =
@@ -30,9 +26,9 @@ returns-in-Err-Raised-clause-made g c =
 pub returns-in-Err-Raised-clause-kept : goal.returns-in-Err-Raised-clause-kept
 returns-in-Err-Raised-clause-kept g c =
     kept_after c.args.code.now c.args.number c.args.table c.args.columns.now c.args.rows.now (g.S.Store.tables c.args.store.now) (g.S.Store.tables c.put_rows.new.store) c.table_of-declared.result.now c.table_of-declared.ensures c.requires.kept
-    c.requires.well_formed_code c.put_rows.result c.put_rows.ensures.puts
+    c.breaks_no_rule.ensures.well_formed c.put_rows.result c.put_rows.ensures.puts
 
 pub returns-in-Err-Memory-clause-kept : goal.returns-in-Err-Memory-clause-kept
 returns-in-Err-Memory-clause-kept g c =
     kept_after c.args.code.now c.args.number c.args.table c.args.columns.now c.args.rows.now (g.S.Store.tables c.args.store.now) (g.S.Store.tables c.put_rows.new.store) c.table_of-declared.result.now c.table_of-declared.ensures c.requires.kept
-    c.requires.well_formed_code c.put_rows.result c.put_rows.ensures.puts
+    c.breaks_no_rule.ensures.well_formed c.put_rows.result c.put_rows.ensures.puts

@@ -2,13 +2,18 @@ use Rattle.std.proofs.Common.{Some, refl, ap, sym, ◌∙◌}
 use Rattle.std.specs.Option.{option_copied}
 use Rattle.psm_code.specs.Parts.{routine_at}
 use Rattle.psm_code.specs.Raising.{asked}
+use Rattle.psm_code.proofs.WellFormedCode.{handlers_fit}
 use Rattle.psm_unwind.specs.View.{machine_of}
 use Rattle.psm_unwind.proofs.Arriving.{if_ok_map, meets_same}
 use Rattle.psm_unwind.proofs.Unwinding.{unwinds_none}
 use Rattle.psm_unwind.proofs.raising.ask.Goals as goal
 
+pub ask_in-requires-clause-well_formed_handlers : goal.ask_in-requires-clause-well_formed_handlers
+ask_in-requires-clause-well_formed_handlers g c =
+    handlers_fit c.args.code.now c.breaks_no_rule.ensures.well_formed c.breaks_no_rule.ensures.numbered c.args.run.now.running.routine c.in-Some.routine.now (sym c.routine_at.ensures ∙ ap option_copied c.in-Some.is)
+
 pub returns-in-None-clause-unwinds : goal.returns-in-None-clause-unwinds
-returns-in-None-clause-unwinds g c = unwinds_none (g.S.Store.holds c.args.store.now) (g.S.Store.at c.args.store.now) (g.S.Store.marks c.args.store.now) (g.S.Store.tables c.args.store.now) c.args.run.now c.args.run.now c.requires.nested refl refl refl refl
+returns-in-None-clause-unwinds g c = unwinds_none (g.S.Store.holds c.args.store.now) (g.S.Store.at c.args.store.now) (g.S.Store.marks c.args.store.now) (g.S.Store.tables c.args.store.now) c.args.run.now c.args.run.now c.requires refl refl refl refl
 
 pub returns-in-Some-clause-expected : goal.returns-in-Some-clause-expected
 returns-in-Some-clause-expected g c =

@@ -15,22 +15,22 @@ use Rattle.psm_unwind.proofs.Unwinding.{callers_now, nested_unwound, stand_unwou
 use Rattle.psm_unwind.proofs.raising.raise.Goals as goal
 
 pub loop-condition-init : goal.loop-condition-init
-loop-condition-init g c = record { expected = refl; unwinds = unwinds_none (g.S.Store.holds c.args.store.now) (g.S.Store.at c.args.store.now) (g.S.Store.marks c.args.store.now) (g.S.Store.tables c.args.store.now) c.args.run.now c.args.run.now c.requires.stand.nested refl refl refl refl }
+loop-condition-init g c = record { expected = refl; unwinds = unwinds_none (g.S.Store.holds c.args.store.now) (g.S.Store.at c.args.store.now) (g.S.Store.marks c.args.store.now) (g.S.Store.tables c.args.store.now) c.args.run.now c.args.run.now c.requires.nested refl refl refl refl }
 
-pub ask-requires-clause-nested : goal.ask-requires-clause-nested
-ask-requires-clause-nested g c = nested_unwound (g.S.Store.holds c.args.store.now) (g.S.Store.at c.args.store.now) (g.S.Store.marks c.args.store.now) (g.S.Store.tables c.args.store.now) c.args.run.now (g.S.Store.holds c.loop-condition.store) (g.S.Store.at c.loop-condition.store) (g.S.Store.marks c.loop-condition.store) (g.S.Store.tables c.loop-condition.store) c.loop-condition.run c.requires.stand.nested c.loop-condition.invariant.unwinds
+pub ask-requires : goal.ask-requires
+ask-requires g c = nested_unwound (g.S.Store.holds c.args.store.now) (g.S.Store.at c.args.store.now) (g.S.Store.marks c.args.store.now) (g.S.Store.tables c.args.store.now) c.args.run.now (g.S.Store.holds c.loop-condition.store) (g.S.Store.at c.loop-condition.store) (g.S.Store.marks c.loop-condition.store) (g.S.Store.tables c.loop-condition.store) c.loop-condition.run c.requires.nested c.loop-condition.invariant.unwinds
 
 pub returns-in_err-outcome-clause-unwinds : goal.returns-in_err-outcome-clause-unwinds
 returns-in_err-outcome-clause-unwinds g c = unwinds_then (g.S.Store.holds c.args.store.now) (g.S.Store.at c.args.store.now) (g.S.Store.marks c.args.store.now) (g.S.Store.tables c.args.store.now) c.args.run.now (g.S.Store.holds c.loop-condition.store) (g.S.Store.at c.loop-condition.store) (g.S.Store.marks c.loop-condition.store) (g.S.Store.tables c.loop-condition.store) c.loop-condition.run (g.S.Store.holds c.ask.new.store) (g.S.Store.at c.ask.new.store) (g.S.Store.marks c.ask.new.store) (g.S.Store.tables c.ask.new.store) c.ask.new.run c.loop-condition.invariant.unwinds c.ask.ensures.unwinds
 
 pub returns-in_err-outcome-clause-stand : goal.returns-in_err-outcome-clause-stand
-returns-in_err-outcome-clause-stand g c = stand_unwound (g.S.Store.holds c.args.store.now) (g.S.Store.at c.args.store.now) (g.S.Store.marks c.args.store.now) (g.S.Store.tables c.args.store.now) c.args.run.now (g.S.Store.holds c.ask.new.store) (g.S.Store.at c.ask.new.store) (g.S.Store.marks c.ask.new.store) (g.S.Store.tables c.ask.new.store) c.ask.new.run c.requires.stand (returns-in_err-outcome-clause-unwinds g c)
+returns-in_err-outcome-clause-stand g c = stand_unwound (g.S.Store.holds c.args.store.now) (g.S.Store.at c.args.store.now) (g.S.Store.marks c.args.store.now) (g.S.Store.tables c.args.store.now) c.args.run.now (g.S.Store.holds c.ask.new.store) (g.S.Store.at c.ask.new.store) (g.S.Store.marks c.ask.new.store) (g.S.Store.tables c.ask.new.store) c.ask.new.run c.requires (returns-in_err-outcome-clause-unwinds g c)
 
 pub returns-in-Here-clause-unwinds : goal.returns-in-Here-clause-unwinds
 returns-in-Here-clause-unwinds g c = unwinds_then (g.S.Store.holds c.args.store.now) (g.S.Store.at c.args.store.now) (g.S.Store.marks c.args.store.now) (g.S.Store.tables c.args.store.now) c.args.run.now (g.S.Store.holds c.loop-condition.store) (g.S.Store.at c.loop-condition.store) (g.S.Store.marks c.loop-condition.store) (g.S.Store.tables c.loop-condition.store) c.loop-condition.run (g.S.Store.holds c.ask.new.store) (g.S.Store.at c.ask.new.store) (g.S.Store.marks c.ask.new.store) (g.S.Store.tables c.ask.new.store) c.ask.new.run c.loop-condition.invariant.unwinds c.ask.ensures.unwinds
 
 pub returns-in-Here-clause-stand : goal.returns-in-Here-clause-stand
-returns-in-Here-clause-stand g c = stand_unwound (g.S.Store.holds c.args.store.now) (g.S.Store.at c.args.store.now) (g.S.Store.marks c.args.store.now) (g.S.Store.tables c.args.store.now) c.args.run.now (g.S.Store.holds c.ask.new.store) (g.S.Store.at c.ask.new.store) (g.S.Store.marks c.ask.new.store) (g.S.Store.tables c.ask.new.store) c.ask.new.run c.requires.stand (returns-in-Here-clause-unwinds g c)
+returns-in-Here-clause-stand g c = stand_unwound (g.S.Store.holds c.args.store.now) (g.S.Store.at c.args.store.now) (g.S.Store.marks c.args.store.now) (g.S.Store.tables c.args.store.now) c.args.run.now (g.S.Store.holds c.ask.new.store) (g.S.Store.at c.ask.new.store) (g.S.Store.marks c.ask.new.store) (g.S.Store.tables c.ask.new.store) c.ask.new.run c.requires (returns-in-Here-clause-unwinds g c)
 
 pub returns-in-Here-clause-expected : goal.returns-in-Here-clause-expected
 returns-in-Here-clause-expected g c =
@@ -42,19 +42,19 @@ pub returns-in-None-clause-unwinds : goal.returns-in-None-clause-unwinds
 returns-in-None-clause-unwinds g c =
     unwinds_then (g.S.Store.holds c.args.store.now) (g.S.Store.at c.args.store.now) (g.S.Store.marks c.args.store.now) (g.S.Store.tables c.args.store.now) c.args.run.now (g.S.Store.holds c.loop-condition.store) (g.S.Store.at c.loop-condition.store) (g.S.Store.marks c.loop-condition.store) (g.S.Store.tables c.loop-condition.store) c.loop-condition.run (g.S.Store.holds c.ask.new.store) (g.S.Store.at c.ask.new.store) (g.S.Store.marks c.ask.new.store) (g.S.Store.tables c.ask.new.store) (record c.ask.new.run { callers = c.pop.new.self }) c.loop-condition.invariant.unwinds
     (unwinds_then (g.S.Store.holds c.loop-condition.store) (g.S.Store.at c.loop-condition.store) (g.S.Store.marks c.loop-condition.store) (g.S.Store.tables c.loop-condition.store) c.loop-condition.run (g.S.Store.holds c.ask.new.store) (g.S.Store.at c.ask.new.store) (g.S.Store.marks c.ask.new.store) (g.S.Store.tables c.ask.new.store) c.ask.new.run (g.S.Store.holds c.ask.new.store) (g.S.Store.at c.ask.new.store) (g.S.Store.marks c.ask.new.store) (g.S.Store.tables c.ask.new.store) (record c.ask.new.run { callers = c.pop.new.self }) c.ask.ensures.unwinds
-    (unwinds_items (g.S.Store.holds c.ask.new.store) (g.S.Store.at c.ask.new.store) (g.S.Store.marks c.ask.new.store) (g.S.Store.tables c.ask.new.store) c.ask.new.run c.pop.new.self (nested_unwound (g.S.Store.holds c.args.store.now) (g.S.Store.at c.args.store.now) (g.S.Store.marks c.args.store.now) (g.S.Store.tables c.args.store.now) c.args.run.now (g.S.Store.holds c.ask.new.store) (g.S.Store.at c.ask.new.store) (g.S.Store.marks c.ask.new.store) (g.S.Store.tables c.ask.new.store) c.ask.new.run c.requires.stand.nested (unwinds_then (g.S.Store.holds c.args.store.now) (g.S.Store.at c.args.store.now) (g.S.Store.marks c.args.store.now) (g.S.Store.tables c.args.store.now) c.args.run.now (g.S.Store.holds c.loop-condition.store) (g.S.Store.at c.loop-condition.store) (g.S.Store.marks c.loop-condition.store) (g.S.Store.tables c.loop-condition.store) c.loop-condition.run (g.S.Store.holds c.ask.new.store) (g.S.Store.at c.ask.new.store) (g.S.Store.marks c.ask.new.store) (g.S.Store.tables c.ask.new.store) c.ask.new.run c.loop-condition.invariant.unwinds c.ask.ensures.unwinds)) c.in-None.ensures.items))
+    (unwinds_items (g.S.Store.holds c.ask.new.store) (g.S.Store.at c.ask.new.store) (g.S.Store.marks c.ask.new.store) (g.S.Store.tables c.ask.new.store) c.ask.new.run c.pop.new.self (nested_unwound (g.S.Store.holds c.args.store.now) (g.S.Store.at c.args.store.now) (g.S.Store.marks c.args.store.now) (g.S.Store.tables c.args.store.now) c.args.run.now (g.S.Store.holds c.ask.new.store) (g.S.Store.at c.ask.new.store) (g.S.Store.marks c.ask.new.store) (g.S.Store.tables c.ask.new.store) c.ask.new.run c.requires.nested (unwinds_then (g.S.Store.holds c.args.store.now) (g.S.Store.at c.args.store.now) (g.S.Store.marks c.args.store.now) (g.S.Store.tables c.args.store.now) c.args.run.now (g.S.Store.holds c.loop-condition.store) (g.S.Store.at c.loop-condition.store) (g.S.Store.marks c.loop-condition.store) (g.S.Store.tables c.loop-condition.store) c.loop-condition.run (g.S.Store.holds c.ask.new.store) (g.S.Store.at c.ask.new.store) (g.S.Store.marks c.ask.new.store) (g.S.Store.tables c.ask.new.store) c.ask.new.run c.loop-condition.invariant.unwinds c.ask.ensures.unwinds)) c.in-None.ensures.items))
 
 pub returns-in-None-clause-stand : goal.returns-in-None-clause-stand
-returns-in-None-clause-stand g c = stand_unwound (g.S.Store.holds c.args.store.now) (g.S.Store.at c.args.store.now) (g.S.Store.marks c.args.store.now) (g.S.Store.tables c.args.store.now) c.args.run.now (g.S.Store.holds c.ask.new.store) (g.S.Store.at c.ask.new.store) (g.S.Store.marks c.ask.new.store) (g.S.Store.tables c.ask.new.store) (record c.ask.new.run { callers = c.pop.new.self }) c.requires.stand (returns-in-None-clause-unwinds g c)
+returns-in-None-clause-stand g c = stand_unwound (g.S.Store.holds c.args.store.now) (g.S.Store.at c.args.store.now) (g.S.Store.marks c.args.store.now) (g.S.Store.tables c.args.store.now) c.args.run.now (g.S.Store.holds c.ask.new.store) (g.S.Store.at c.ask.new.store) (g.S.Store.marks c.ask.new.store) (g.S.Store.tables c.ask.new.store) (record c.ask.new.run { callers = c.pop.new.self }) c.requires (returns-in-None-clause-unwinds g c)
 
 pub returns-in_err-last-in-None-clause-unwinds : goal.returns-in_err-last-in-None-clause-unwinds
 returns-in_err-last-in-None-clause-unwinds g c =
     unwinds_then (g.S.Store.holds c.args.store.now) (g.S.Store.at c.args.store.now) (g.S.Store.marks c.args.store.now) (g.S.Store.tables c.args.store.now) c.args.run.now (g.S.Store.holds c.loop-condition.store) (g.S.Store.at c.loop-condition.store) (g.S.Store.marks c.loop-condition.store) (g.S.Store.tables c.loop-condition.store) c.loop-condition.run (g.S.Store.holds c.ask.new.store) (g.S.Store.at c.ask.new.store) (g.S.Store.marks c.ask.new.store) (g.S.Store.tables c.ask.new.store) (record c.ask.new.run { callers = c.pop.new.self }) c.loop-condition.invariant.unwinds
     (unwinds_then (g.S.Store.holds c.loop-condition.store) (g.S.Store.at c.loop-condition.store) (g.S.Store.marks c.loop-condition.store) (g.S.Store.tables c.loop-condition.store) c.loop-condition.run (g.S.Store.holds c.ask.new.store) (g.S.Store.at c.ask.new.store) (g.S.Store.marks c.ask.new.store) (g.S.Store.tables c.ask.new.store) c.ask.new.run (g.S.Store.holds c.ask.new.store) (g.S.Store.at c.ask.new.store) (g.S.Store.marks c.ask.new.store) (g.S.Store.tables c.ask.new.store) (record c.ask.new.run { callers = c.pop.new.self }) c.ask.ensures.unwinds
-    (unwinds_items (g.S.Store.holds c.ask.new.store) (g.S.Store.at c.ask.new.store) (g.S.Store.marks c.ask.new.store) (g.S.Store.tables c.ask.new.store) c.ask.new.run c.pop.new.self (nested_unwound (g.S.Store.holds c.args.store.now) (g.S.Store.at c.args.store.now) (g.S.Store.marks c.args.store.now) (g.S.Store.tables c.args.store.now) c.args.run.now (g.S.Store.holds c.ask.new.store) (g.S.Store.at c.ask.new.store) (g.S.Store.marks c.ask.new.store) (g.S.Store.tables c.ask.new.store) c.ask.new.run c.requires.stand.nested (unwinds_then (g.S.Store.holds c.args.store.now) (g.S.Store.at c.args.store.now) (g.S.Store.marks c.args.store.now) (g.S.Store.tables c.args.store.now) c.args.run.now (g.S.Store.holds c.loop-condition.store) (g.S.Store.at c.loop-condition.store) (g.S.Store.marks c.loop-condition.store) (g.S.Store.tables c.loop-condition.store) c.loop-condition.run (g.S.Store.holds c.ask.new.store) (g.S.Store.at c.ask.new.store) (g.S.Store.marks c.ask.new.store) (g.S.Store.tables c.ask.new.store) c.ask.new.run c.loop-condition.invariant.unwinds c.ask.ensures.unwinds)) c.in-None.ensures.items))
+    (unwinds_items (g.S.Store.holds c.ask.new.store) (g.S.Store.at c.ask.new.store) (g.S.Store.marks c.ask.new.store) (g.S.Store.tables c.ask.new.store) c.ask.new.run c.pop.new.self (nested_unwound (g.S.Store.holds c.args.store.now) (g.S.Store.at c.args.store.now) (g.S.Store.marks c.args.store.now) (g.S.Store.tables c.args.store.now) c.args.run.now (g.S.Store.holds c.ask.new.store) (g.S.Store.at c.ask.new.store) (g.S.Store.marks c.ask.new.store) (g.S.Store.tables c.ask.new.store) c.ask.new.run c.requires.nested (unwinds_then (g.S.Store.holds c.args.store.now) (g.S.Store.at c.args.store.now) (g.S.Store.marks c.args.store.now) (g.S.Store.tables c.args.store.now) c.args.run.now (g.S.Store.holds c.loop-condition.store) (g.S.Store.at c.loop-condition.store) (g.S.Store.marks c.loop-condition.store) (g.S.Store.tables c.loop-condition.store) c.loop-condition.run (g.S.Store.holds c.ask.new.store) (g.S.Store.at c.ask.new.store) (g.S.Store.marks c.ask.new.store) (g.S.Store.tables c.ask.new.store) c.ask.new.run c.loop-condition.invariant.unwinds c.ask.ensures.unwinds)) c.in-None.ensures.items))
 
 pub returns-in_err-last-in-None-clause-stand : goal.returns-in_err-last-in-None-clause-stand
-returns-in_err-last-in-None-clause-stand g c = stand_unwound (g.S.Store.holds c.args.store.now) (g.S.Store.at c.args.store.now) (g.S.Store.marks c.args.store.now) (g.S.Store.tables c.args.store.now) c.args.run.now (g.S.Store.holds c.ask.new.store) (g.S.Store.at c.ask.new.store) (g.S.Store.marks c.ask.new.store) (g.S.Store.tables c.ask.new.store) (record c.ask.new.run { callers = c.pop.new.self }) c.requires.stand (returns-in_err-last-in-None-clause-unwinds g c)
+returns-in_err-last-in-None-clause-stand g c = stand_unwound (g.S.Store.holds c.args.store.now) (g.S.Store.at c.args.store.now) (g.S.Store.marks c.args.store.now) (g.S.Store.tables c.args.store.now) c.args.run.now (g.S.Store.holds c.ask.new.store) (g.S.Store.at c.ask.new.store) (g.S.Store.marks c.ask.new.store) (g.S.Store.tables c.ask.new.store) (record c.ask.new.run { callers = c.pop.new.self }) c.requires (returns-in_err-last-in-None-clause-unwinds g c)
 
 pub returns-in-None-clause-expected : goal.returns-in-None-clause-expected
 returns-in-None-clause-expected g c =
@@ -78,6 +78,6 @@ loop-condition-preserved g c = record {
   unwinds =
       unwinds_then (g.S.Store.holds c.args.store.now) (g.S.Store.at c.args.store.now) (g.S.Store.marks c.args.store.now) (g.S.Store.tables c.args.store.now) c.args.run.now (g.S.Store.holds c.loop-condition.store) (g.S.Store.at c.loop-condition.store) (g.S.Store.marks c.loop-condition.store) (g.S.Store.tables c.loop-condition.store) c.loop-condition.run (g.S.Store.holds c.ask.new.store) (g.S.Store.at c.ask.new.store) (g.S.Store.marks c.ask.new.store) (g.S.Store.tables c.ask.new.store) (record c.ask.new.run { running = c.in-Some.caller; callers = c.pop.new.self; operands = c.end.new.self }) c.loop-condition.invariant.unwinds
       (unwinds_then (g.S.Store.holds c.loop-condition.store) (g.S.Store.at c.loop-condition.store) (g.S.Store.marks c.loop-condition.store) (g.S.Store.tables c.loop-condition.store) c.loop-condition.run (g.S.Store.holds c.ask.new.store) (g.S.Store.at c.ask.new.store) (g.S.Store.marks c.ask.new.store) (g.S.Store.tables c.ask.new.store) c.ask.new.run (g.S.Store.holds c.ask.new.store) (g.S.Store.at c.ask.new.store) (g.S.Store.marks c.ask.new.store) (g.S.Store.tables c.ask.new.store) (record c.ask.new.run { running = c.in-Some.caller; callers = c.pop.new.self; operands = c.end.new.self }) c.ask.ensures.unwinds
-      (unwinds_returned (g.S.Store.holds c.ask.new.store) (g.S.Store.at c.ask.new.store) (g.S.Store.marks c.ask.new.store) (g.S.Store.tables c.ask.new.store) c.ask.new.run c.in-Some.caller c.pop.new.self c.end.new.self (nested_unwound (g.S.Store.holds c.args.store.now) (g.S.Store.at c.args.store.now) (g.S.Store.marks c.args.store.now) (g.S.Store.tables c.args.store.now) c.args.run.now (g.S.Store.holds c.ask.new.store) (g.S.Store.at c.ask.new.store) (g.S.Store.marks c.ask.new.store) (g.S.Store.tables c.ask.new.store) c.ask.new.run c.requires.stand.nested (unwinds_then (g.S.Store.holds c.args.store.now) (g.S.Store.at c.args.store.now) (g.S.Store.marks c.args.store.now) (g.S.Store.tables c.args.store.now) c.args.run.now (g.S.Store.holds c.loop-condition.store) (g.S.Store.at c.loop-condition.store) (g.S.Store.marks c.loop-condition.store) (g.S.Store.tables c.loop-condition.store) c.loop-condition.run (g.S.Store.holds c.ask.new.store) (g.S.Store.at c.ask.new.store) (g.S.Store.marks c.ask.new.store) (g.S.Store.tables c.ask.new.store) c.ask.new.run c.loop-condition.invariant.unwinds c.ask.ensures.unwinds))
+      (unwinds_returned (g.S.Store.holds c.ask.new.store) (g.S.Store.at c.ask.new.store) (g.S.Store.marks c.ask.new.store) (g.S.Store.tables c.ask.new.store) c.ask.new.run c.in-Some.caller c.pop.new.self c.end.new.self (nested_unwound (g.S.Store.holds c.args.store.now) (g.S.Store.at c.args.store.now) (g.S.Store.marks c.args.store.now) (g.S.Store.tables c.args.store.now) c.args.run.now (g.S.Store.holds c.ask.new.store) (g.S.Store.at c.ask.new.store) (g.S.Store.marks c.ask.new.store) (g.S.Store.tables c.ask.new.store) c.ask.new.run c.requires.nested (unwinds_then (g.S.Store.holds c.args.store.now) (g.S.Store.at c.args.store.now) (g.S.Store.marks c.args.store.now) (g.S.Store.tables c.args.store.now) c.args.run.now (g.S.Store.holds c.loop-condition.store) (g.S.Store.at c.loop-condition.store) (g.S.Store.marks c.loop-condition.store) (g.S.Store.tables c.loop-condition.store) c.loop-condition.run (g.S.Store.holds c.ask.new.store) (g.S.Store.at c.ask.new.store) (g.S.Store.marks c.ask.new.store) (g.S.Store.tables c.ask.new.store) c.ask.new.run c.loop-condition.invariant.unwinds c.ask.ensures.unwinds))
       (subst (λ x. HasLeft x c.ask.new.run) c.in-Outside.is c.in_ok-outcome.ensures.left) c.in-Some.ensures.items));
 }

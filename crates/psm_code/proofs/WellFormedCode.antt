@@ -1,11 +1,12 @@
 -- Well-formed code has what those ask that run it.
-use Rattle.std.proofs.Common.{◌≡◌, ℕ, zero, suc, ◌<◌, ◌&&◌, Bool, true, false, List, [], ◌∷◌, length, map, get_or, slice_get, Option, Some, None, All, IfSome, IsTrue, refl, subst, arith}
+use Rattle.std.proofs.Common.{◌≡◌, ℕ, ◌&&◌, Bool, true, false, List, [], map, get_or, slice_get, Option, Some, None, All, IfSome, IsTrue, refl, subst}
 use Rattle.std.specs.Prelude.{not, reverse}
 use Rattle.std.specs.List.{list_all}
-use Rattle.std.proofs.lemmas.List.Elements.{All-append, All-map}
+use Rattle.std.proofs.lemmas.List.Elements.{All-append, All-get_or, All-map}
+use Rattle.std.proofs.lemmas.Option.{get_or_from_slice_get, slice_get-get_or, slice_get_within}
 use Rattle.psm_value.specs.declared.sqltype.SqlType.{SqlType}
 use Rattle.psm_value.specs.SqlType.{IsType}
-use Rattle.psm_cond.specs.WellFormed.{is_numbered}
+use Rattle.psm_cond.specs.WellFormed.{is_numbered, is_well_formed_table}
 use Rattle.psm_exprcode.specs.declared.op.Op.{Op}
 use Rattle.psm_exprcode.specs.Fits.{Fits}
 use Rattle.psm_exprcode.specs.WellFormed.{is_type}
@@ -17,29 +18,24 @@ use Rattle.psm_code.specs.declared.instruction.Instruction.{Instruction}
 use Rattle.psm_code.specs.declared.instruction.Instruction.TheVariants as instruction
 use Rattle.psm_code.specs.declared.rule.CodeRule.{CodeRule}
 use Rattle.psm_code.specs.declared.rule.CodeRule.TheVariants as rule
-use Rattle.psm_code.specs.Parts.{slots_of}
+use Rattle.psm_code.specs.Parts.{gives, routine_at, slots_of}
 use Rattle.psm_code.specs.RoutineRules as rules
 use Rattle.psm_code.specs.RoutineRules.{first_fault, parameter_fault, type_fault}
 use Rattle.psm_code.specs.Rules.{is_same, is_some, there, unless, where_there}
-use Rattle.psm_code.specs.Parts.{gives}
 use Rattle.psm_code.specs.MachineInvariant.{MachineInvariant}
 use Rattle.psm_code.specs.State.{Machine}
 use Rattle.psm_code.proofs.Acts.{Has}
 use Rattle.psm_code.proofs.Faults.{clean_each, clean_head, clean_map, routine_well_formed, three_hold, two_hold, WellFormedRoutineCode}
 use Rattle.psm_code.proofs.Operating.{operation_fits}
 use Rattle.psm_code.proofs.HandlerTables.{table_stands}
-use Rattle.psm_unwind.specs.Raising.{HasWellFormedHandlers}
-use Rattle.psm_machine.proofs.ActSequences.{one_of}
 
 -- ---- all of some
 
-there_at : {A : Type 0} (xs : List A) (k : ℕ) (d : A) → k < length xs → slice_get xs k ≡ Some (get_or xs k d)
-there_at [] k d h = absurd (omega (arith, h))
-there_at (x ∷ xs) zero d h = refl
-there_at (x ∷ xs) (suc k) d h = there_at xs k d (omega (arith, h))
-
 of_each : {A : Type 0} (P : A → Type 0) (xs : List A) → ((k : ℕ) (x : A) → slice_get xs k ≡ Some x → P x) → All P xs
-of_each P xs f = λ k d h. f k (get_or xs k d) (there_at xs k d h)
+of_each P xs f = λ k d h. f k (get_or xs k d) (slice_get-get_or xs k d h)
+
+one_of : {A : Type 0} (P : A → Type 0) (xs : List A) (k : ℕ) (x : A) → slice_get xs k ≡ Some x → All P xs → P x
+one_of P xs k x e h = subst P (get_or_from_slice_get xs k x x e) (All-get_or P xs k x (slice_get_within xs k x e) h)
 
 -- ---- types
 
@@ -73,8 +69,11 @@ results_well_formed code well_formed_code = of_each (λ (r : RawRoutine). IfSome
 
 -- ---- handlers
 
-pub handlers_well_formed : (code : RawCode) → first_fault code ≡ None → All (λ (r : RawRoutine). IsTrue (is_numbered r.handlers)) code.routines → HasWellFormedHandlers code
-handlers_well_formed code well_formed_code h = of_each _ code.routines (λ n r e. table_stands code r (routine_well_formed code n r well_formed_code e) (one_of (λ (r : RawRoutine). IsTrue (is_numbered r.handlers)) code.routines n r h e))
+pub handlers_fit : (code : RawCode) → first_fault code ≡ None → All (λ (r : RawRoutine). IsTrue (is_numbered r.handlers)) code.routines → (n : ℕ) (r : RawRoutine) → routine_at code n ≡ Some r → IsTrue (is_well_formed_table r.handlers)
+handlers_fit code well_formed_code numbered n r e = table_stands code r (routine_well_formed code n r well_formed_code e) (one_of (λ (r : RawRoutine). IsTrue (is_numbered r.handlers)) code.routines n r e numbered)
+
+pub handlers_well_formed : (code : RawCode) → first_fault code ≡ None → All (λ (r : RawRoutine). IsTrue (is_numbered r.handlers)) code.routines → All (λ (r : RawRoutine). IsTrue (is_well_formed_table r.handlers)) code.routines
+handlers_well_formed code well_formed_code numbered = of_each _ code.routines (handlers_fit code well_formed_code numbered)
 
 -- ---- operations
 
