@@ -1,6 +1,6 @@
 -- What is answered for a file, from the answers of its steps.
 use Rattle.std.proofs.Common.{◌≡◌, ℕ, List, Result, Ok, Err, refl, sym, subst, inl, inr}
-use Rattle.std.specs.Prelude.{All, IfOk, IsOkUnless, IsTrue, None}
+use Rattle.std.specs.Prelude.{All, IfOk, IsOkUnless}
 use Rattle.std.proofs.lemmas.List.Elements.{All-from_recursion}
 use Rattle.psm_tree.specs.declared.file.FileTree.{FileTree}
 use Rattle.psm_tree.specs.declared.script.ScriptTree.{ScriptTree}
@@ -11,10 +11,7 @@ use Rattle.psm_check_script.specs.Known.{known_of}
 use Rattle.psm_check_script.specs.There.{IsThere}
 use Rattle.psm_check_script.specs.declared.check.CheckFault.{CheckFault}
 use Rattle.psm_check_script.specs.declared.check.CheckFault.TheVariants as checks
-use Rattle.psm_cond.specs.WellFormed.{is_numbered}
 use Rattle.psm_code.specs.declared.code.RawCode.{RawCode}
-use Rattle.psm_code.specs.declared.code.RawRoutine.{RawRoutine}
-use Rattle.psm_code.specs.RoutineRules.{first_fault}
 use Rattle.psm_session.specs.declared.command.ScriptCode.{ScriptCode}
 use Rattle.psm_faults.specs.Source.{module_files, scripts, Accepts, IsTreeOf, IsAccepted, IsAcceptedScript}
 use Rattle.psm_faults.specs.Reported.{reported_of_script}
@@ -37,12 +34,6 @@ module_without_tree bytes Memory h = tt
 pub module_with_fault : (bytes : List ℕ) (tree : FileTree) (e : BuildFault) → IsTreeOf module_files bytes tree → Accepts tree (Err e) → Builds bytes (Err e)
 module_with_fault bytes tree (Refused line column fault) is h = inr (record { tree = tree; tree_is = is; breaks = h })
 module_with_fault bytes tree Memory is h = tt
-
--- code that is written for an accepted tree is well-formed, and its handlers are numbered
-pub compiled_well_formed : (bytes : List ℕ) (tree : FileTree) (answer : Result RawCode BuildFault) → IsTreeOf module_files bytes tree → IsAccepted tree → Compiles tree answer
-    → IfOk answer (λ code. (first_fault code ≡ None) × All (λ (r : RawRoutine). IsTrue (is_numbered r.handlers)) code.routines)
-compiled_well_formed bytes tree (Ok code) is accepted h = ((compiled_stands bytes tree code is accepted h).well_formed_code, h.2)
-compiled_well_formed bytes tree (Err e) is accepted h = tt
 
 -- a file whose tree has no fault
 pub module_compiled : (bytes : List ℕ) (tree : FileTree) (answer : Result RawCode BuildFault) → IsTreeOf module_files bytes tree → IsAccepted tree → Compiles tree answer → Builds bytes answer

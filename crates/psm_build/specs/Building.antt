@@ -1,11 +1,10 @@
 -- What is answered for the bytes of a file.
-use Rattle.std.specs.Prelude.{◌≡◌, ℕ, ◌⊎◌, List, Result, Ok, Err, All, IsTrue}
+use Rattle.std.specs.Prelude.{◌≡◌, ℕ, ◌⊎◌, List, Result, Ok, Err}
 use Rattle.psm_token.specs.declared.token.Placed.{Placed}
 use Rattle.psm_token.specs.Listed.{Tokens}
 use Rattle.psm_token.specs.Spells.{Spells}
 use Rattle.psm_grammar.specs.Language.{Lang}
 use Rattle.psm_tree.specs.declared.file.FileTree.{FileTree}
-use Rattle.psm_cond.specs.WellFormed.{is_numbered}
 use Rattle.psm_resolve.specs.Files.{resolved_file}
 use Rattle.psm_simulation.specs.Simulation.{FileStands}
 use Rattle.psm_codegen.specs.Files.{FileWritten}
@@ -37,7 +36,7 @@ ReadsTree L bytes (Err Memory) = Unit {0}
 
 -- code that is written for the tree, and stands for it where it can
 abbrev pub Compiles : FileTree → Result RawCode BuildFault → Type 0
-Compiles tree (Ok code) = FileWritten (resolved_file tree) code × (CanStand (resolved_file tree) → FileStands (resolved_file tree) code) × All (λ r. IsTrue (is_numbered r.handlers)) code.routines
+Compiles tree (Ok code) = FileWritten (resolved_file tree) code × (CanStand (resolved_file tree) → FileStands (resolved_file tree) code)
 Compiles tree (Err (Refused line column fault)) = ⊥
 Compiles tree (Err Memory) = Unit {0}
 

@@ -1,7 +1,7 @@
 //! Code of a module file, and scripts over it.
-ghost use Rattle.std.specs.Prelude.{◌≡◌, ◌<◌, ℕ, All, IfOk, IsOkUnless, IsTrue, List as Seq, None, length};
-ghost use Rattle.psm_cond.specs.WellFormed.{is_numbered};
-ghost use Rattle.psm_code.specs.RoutineRules.{first_fault};
+ghost use Rattle.std.specs.Prelude.{◌<◌, ℕ, List as Seq, length, IfOk, IsOkUnless};
+ghost use Rattle.psm_resolve.specs.Files.{resolved_file};
+ghost use Rattle.psm_wellformed.specs.Files.{WellFormedFile};
 ghost use Rattle.psm_faults.specs.declared.fault.Fault.{Fault as FirstFault};
 ghost use Rattle.psm_build.specs.Program.{IsModuleFault, IsModuleFile, IsScriptFault, IsScriptFile, StandsFor};
 ghost use Rattle.psm_build.specs.Outcome.{RunsOver};
@@ -45,29 +45,19 @@ fn code_of(alloc: Global, bytes: &[u8]) -> Result<Code, BuildFault>
 {
     let tree = module_tree(alloc, bytes)?;
     accept(alloc, &tree)?;
-    as_code(compiled(alloc, &tree))
+    compiled(alloc, &tree)
 }
 
-/// Code of an accepted module file is well-formed.
-fn as_code(compiled: Result<RawCode, BuildFault>) -> Result<Code, BuildFault>
-    requires { IfOk compiled (λ code. (first_fault code ≡ None) × All (λ r. IsTrue (is_numbered r.handlers)) code.routines) }
-    ensures { result ≡ compiled }
-{
-    match compiled {
-        Ok(raw) => Ok(Code::of(raw)),
-        Err(fault) => Err(fault),
-    }
-}
-
-/// The code that is written for a tree whose names are resolved.
-fn compiled(alloc: Global, tree: &FileTree) -> Result<RawCode, BuildFault>
+/// The code that is written for a tree, whose resolved file has to be well-formed.
+fn compiled(alloc: Global, tree: &FileTree) -> Result<Code, BuildFault>
+    requires { WellFormedFile (resolved_file tree.now) }
     ensures { Compiles tree.now result }
 {
     let Ok(file) = resolve_file(alloc, tree) else {
         return Err(BuildFault::Memory);
     };
     match lower(alloc, &file) {
-        Ok(code) => Ok(code),
+        Ok(code) => Ok(Code::of(code)),
         Err(_) => Err(BuildFault::Memory),
     }
 }

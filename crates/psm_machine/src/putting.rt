@@ -125,9 +125,36 @@ pub fn put_rows<S: Store>(
     ensures keeps { Keeps AnyMark (S.holds store.old) (S.at store.old) (S.holds store.new) (S.at store.new) }
 {
     code.breaks_no_rule();
-    let raw = code.raw();
-    let declared = &raw.tables.items()[table as usize];
-    put_into(alloc, &raw.keys, declared, store, table, columns, rows)
+    put_declared(alloc, code.raw(), store, table, columns, rows)
+}
+
+// The same where the table is known to be as the code declares it.
+fn put_declared<S: Store>(
+    alloc: Global,
+    code: &RawCode,
+    store: &mut S,
+    table: u32,
+    columns: &[u32],
+    rows: &[Row],
+) -> Result<u32, DataFault>
+    requires there { IsSome (slice_get code.now.tables table) }
+    requires may { MayPut code.now (S.tables store.old) table }
+    requires room { S.marks store.old < most_marks }
+    ensures puts { PutsRows code.now table columns.now rows.now (S.tables store.old) (S.tables store.new) result }
+    ensures marks { S.marks store.new ≡ S.marks store.old }
+    ensures keeps { Keeps AnyMark (S.holds store.old) (S.at store.old) (S.holds store.new) (S.at store.new) }
+{
+    let keys = &code.keys;
+    let tables = code.tables.items();
+    put_into(
+        alloc,
+        keys,
+        &tables[table as usize],
+        store,
+        table,
+        columns,
+        rows,
+    )
 }
 
 // Puts rows into the table that is declared so.
