@@ -8,7 +8,7 @@ use std::marker::Model;
 
 /// Well-formed code: it breaks no rule, and the declared conditions, contexts and handlers of its routines have numbers of 32 bits.
 /// It is seen as the raw code.
-#[derive(Debug, Drop)]
+#[derive(Drop)]
 pub struct Code {
     raw: RawCode,
 }
