@@ -1,5 +1,5 @@
 //! The words of a line, most of them after a blank.
-ghost use Rattle.std.specs.Prelude.{◌≡◌, ◌++◌, ◌∷◌, [], IfOk, OnOk};
+ghost use Rattle.std.specs.Prelude.{◌≡◌, ◌++◌, ◌∷◌, [], OnOk};
 ghost use Rattle.psm_words.specs.Words.{datum_word, number, quoted, type_word};
 ghost use Rattle.psm_object.specs.Words.{flag, further, numbers};
 
@@ -7,7 +7,7 @@ use itoa::Buffer;
 use psm_text::Name;
 use psm_value::{Datum, SqlType};
 use psm_words::{put_datum, put_number, put_quoted, put_type};
-use std::alloc::{AllocError, Global};
+use std::alloc::AllocError;
 
 /// Appends a blank and a word.
 pub(crate) fn put_word(out: &mut Vec<u8>, word: &str) -> Result<(), AllocError>
@@ -58,15 +58,8 @@ pub(crate) fn put_flag(out: &mut Vec<u8>, is_so: bool) -> Result<(), AllocError>
 pub(crate) fn put_name(out: &mut Vec<u8>, name: &Name) -> Result<(), AllocError>
     ensures { OnOk result (out.new.items ≡ out.old.items ++ 32 ∷ quoted name.now) }
 {
-    let characters = characters(*out.allocator(), name)?;
     out.push(b' ')?;
-    put_quoted(out, characters.as_slice())
-}
-
-fn characters(alloc: Global, name: &Name) -> Result<Vec<char>, AllocError>
-    ensures { IfOk result (λ v. v.items ≡ name.now) }
-{
-    name.as_str().chars().collect(alloc)
+    put_quoted(out, name.as_str())
 }
 
 /// Appends a blank and a type.

@@ -3,6 +3,7 @@ pub mod CommandResults
 pub mod Commands
 pub mod Inserts
 pub mod Marking
+pub mod Messages
 pub mod Puts
 pub mod Queries
 pub mod Scripts

@@ -1,5 +1,6 @@
 //! The lines of pieces of text.
-ghost use Rattle.std.specs.Prelude.{◌≡◌, ◌++◌, ℕ, IfOk, OnOk, List as Seq, encode_utf8_all};
+ghost use Rattle.std.specs.Prelude.{◌≡◌, ◌++◌, ℕ, IfOk, OnOk, List as Seq};
+ghost use Rattle.std.specs.Str.{chars};
 ghost use Rattle.psm_value.specs.declared.datum.Datum.{Datum};
 ghost use Rattle.psm_meaning.specs.Lines.{after_blank, condition_lines, entry_line, first_line, further_values, ok_line, row_line, row_lines, values};
 ghost use Rattle.psm_session.specs.Pieces.{named_value, next_value, value_lines};
@@ -60,29 +61,21 @@ fn put_entry(alloc: Global, out: &mut Vec<u8>, entry: &Entry) -> Result<(), Allo
 {
     out.extend_from_slice(b"SQLSTATE ")?;
     out.extend_from_slice(entry.state.text().as_bytes())?;
-    put_message(out, entry.message.text(alloc)?.chars())?;
+    put_message(out, entry.message.text(alloc)?.as_str())?;
     out.extend_from_slice(b"\n")?;
     Ok(())
 }
 
 // A message after a blank, if there is one.
-fn put_message(out: &mut Vec<u8>, message: &[char]) -> Result<(), AllocError>
-    ensures { OnOk result (out.new.items ≡ out.old.items ++ after_blank message.now) }
+#[tactic(auto, using(crate::proofs::Messages::no_message, crate::proofs::Messages::message_bytes))]
+fn put_message(out: &mut Vec<u8>, message: &str) -> Result<(), AllocError>
+    ensures { OnOk result (out.new.items ≡ out.old.items ++ after_blank (chars message.now)) }
 {
     if message.is_empty() {
         return Ok(());
     }
     out.extend_from_slice(b" ")?;
-    put_characters(out, message)
-}
-
-fn put_characters(out: &mut Vec<u8>, characters: &[char]) -> Result<(), AllocError>
-    ensures { OnOk result (out.new.items ≡ out.old.items ++ encode_utf8_all characters.now) }
-{
-    for c in characters {
-        out.extend_from_slice(c.encode_utf8(&mut [0; 4]).as_bytes())?;
-    }
-    Ok(())
+    out.extend_from_slice(message.as_bytes())
 }
 
 // ---- values

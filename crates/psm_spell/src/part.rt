@@ -10,9 +10,9 @@ use psm_token::{Sign, Word};
 #[derive(Clone, Copy, Drop)]
 pub(crate) enum Part<'a> {
     Word(Word),
-    Name(&'a [char]),
+    Name(&'a str),
     Number(Dec),
-    Text(&'a [char]),
+    Text(&'a str),
     Sign(Sign),
 }
 

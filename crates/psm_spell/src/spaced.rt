@@ -9,7 +9,7 @@ ghost use Rattle.psm_spell.specs.Written.{AreSpellable, IsFileOf};
 use crate::gaps::{Gaps, is_open};
 use crate::log::Log;
 use crate::part::Part;
-use crate::spell::{characters, spelled};
+use crate::spell::spelled;
 use psm_num::Dec;
 use psm_text::{Name, Text};
 use psm_token::{Sign, Word};
@@ -84,8 +84,7 @@ impl SpacedWriter {
     pub fn name(&mut self, name: &Name) -> Result<(), AllocError>
         ensures { MatchResult result (λ _. self.new ≡ with_token self.old (token.Name name.now)) (λ _. self.new ≡ self.old) }
     {
-        let kept = characters(self.alloc, name)?;
-        self.put(&Part::Name(kept.as_slice()))
+        self.put(&Part::Name(name.as_str()))
     }
 
     /// Writes a number as an exact numeric literal (ISO/IEC 9075:1992, 5.3), which a number below 0 has none of:
@@ -100,7 +99,7 @@ impl SpacedWriter {
     pub fn text(&mut self, text: &Text) -> Result<(), AllocError>
         ensures { MatchResult result (λ _. self.new ≡ with_token self.old (token.Text text.now)) (λ _. self.new ≡ self.old) }
     {
-        self.put(&Part::Text(text.chars()))
+        self.put(&Part::Text(text.as_str()))
     }
 
     /// The text of the tokens. Read again, it is these tokens, if each can stand in a file and there are at

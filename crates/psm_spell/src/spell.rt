@@ -9,7 +9,6 @@ ghost use Rattle.psm_spell.specs.Written.{is_fraction as is_fraction_of, number_
 use crate::gaps::{Gaps, gap_after, has_blank};
 use crate::part::Part;
 use psm_num::Dec;
-use psm_text::Name;
 use std::alloc::{AllocError, Global};
 
 /// Puts a character after a text.
@@ -37,21 +36,14 @@ fn push_doubled(text: &mut String, quote: char, c: char) -> Result<(), AllocErro
 }
 
 /// Puts characters between quotes after a text.
-fn push_quoted(text: &mut String, quote: char, kept: &[char]) -> Result<(), AllocError>
-    ensures { OnOk result (chars (string_bytes text.new) ≡ chars (string_bytes text.old) ++ quoted quote kept.now) }
+fn push_quoted(text: &mut String, quote: char, kept: &str) -> Result<(), AllocError>
+    ensures { OnOk result (chars (string_bytes text.new) ≡ chars (string_bytes text.old) ++ quoted quote (chars kept.now)) }
 {
     push(text, quote)?;
-    for c in kept {
-        push_doubled(text, quote, *c)?;
+    for c in kept.chars() {
+        push_doubled(text, quote, c)?;
     }
     push(text, quote)
-}
-
-/// The characters of a name.
-pub(crate) fn characters(alloc: Global, name: &Name) -> Result<Vec<char>, AllocError>
-    ensures { IfOk result (λ v. v.items ≡ name.now) }
-{
-    name.as_str().chars().collect(alloc)
 }
 
 /// Whether the number is from 0 to 1 and has decimals.

@@ -1,7 +1,9 @@
+pub mod CodePoints
 pub mod Orders
 pub mod Positions
 pub mod Retries
 pub mod Spellings
 pub mod Steps
 pub mod Trims
+pub mod Utf8
 pub mod Values

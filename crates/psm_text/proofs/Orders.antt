@@ -1,11 +1,17 @@
 -- The padded comparison: one step of it, and that it is a total order.
-use Rattle.std.proofs.Common.{◌≡◌, ℕ, zero, suc, ◌+◌, ◌-◌, ◌<◌, ◌≤◌, max, List, [], ◌∷◌, ◌++◌, length, get_or, drop, refl, ap, sym, ◌∙◌, arith}
+use Rattle.std.proofs.Common.{◌≡◌, ℕ, zero, suc, ◌+◌, ◌-◌, ◌<◌, ◌≤◌, max, List, [], ◌∷◌, ◌++◌, length, get_or, drop, refl, ap, sym, ◌∙◌, arith, cond, nat_eq, inl, inr, ◌≢◌, encode_utf8_all}
 use Rattle.std.proofs.Math.ListN.{replicate}
 use Rattle.std.specs.declared.cmp.Ordering.{Ordering}
 use Rattle.std.specs.declared.cmp.Ordering.TheVariants.{Less, Equal, Greater}
 use Rattle.std.specs.Ordering.{nat_cmp, ordering_then, ordering_reverse, is_eq}
-use Rattle.std.specs.Cmp.{tied_itself}
+use Rattle.std.specs.Prelude.{encode_utf8}
+use Rattle.std.specs.Cmp.{tied_itself, nat_cmp_total}
+use Rattle.std.specs.Str.{chars, IsUtf8}
+use Rattle.std.proofs.lemmas.Bool.{cases_order, lt-ltb}
+use Rattle.std.proofs.lemmas.List.{append_assoc, append-nil, length-append}
+use Rattle.std.proofs.lemmas.Str.{chars-append, encodes-chars}
 use Rattle.std.specs.Cmp.Lexicographic.{slice_cmp, nat_list_cmp_total, texts_ties, bytes_decides}
+use Rattle.psm_text.proofs.CodePoints.{first_less}
 use Rattle.psm_text.specs.Order.{padded, padded_order, SamePadded}
 
 -- the order of the two at the width n
@@ -84,23 +90,82 @@ equal_from_same a b e =
     let n = max (length a) (length b) in
     ap (λ p. slice_cmp nat_cmp p (padded n b)) e ∙ tied_itself nat_list_cmp_total (padded n b)
 
--- one turn of the comparison's loop, where the first characters are equal
-pub order_goes : (s o a b a' b' : List ℕ) (x y : ℕ) → padded_order s o ≡ padded_order a b → 0 < max (length a) (length b)
-    → x ≡ get_or a 0 32 → y ≡ get_or b 0 32 → Equal ≡ nat_cmp x y → a' ≡ drop 1 a → b' ≡ drop 1 b → padded_order s o ≡ padded_order a' b'
-order_goes s o a b a' b' x y h k p q e f g =
-    let t : nat_cmp (get_or a 0 32) (get_or b 0 32) ≡ Equal = sym (e ∙ ap (λ z. nat_cmp z y) p ∙ ap (λ z. nat_cmp (get_or a 0 32) z) q) in
-    h ∙ order_step a b (omega (arith, k)) ∙ ap (λ r. ordering_then r (padded_order (drop 1 a) (drop 1 b))) t
-    ∙ ap (λ r. padded_order r (drop 1 b)) (sym f) ∙ ap (λ r. padded_order a' r) (sym g)
+-- ---- a text and blanks
+
+pub blanks_on : (s left others : List ℕ) (c : ℕ) → padded_order s [] ≡ padded_order left [] → left ≡ c ∷ others → Equal ≡ nat_cmp c 32
+    → padded_order s [] ≡ padded_order others []
+blanks_on s left others c h e q =
+    h ∙ ap (λ l. padded_order l []) e ∙ order_step (c ∷ others) [] (omega arith) ∙ ap (λ r. ordering_then r (padded_order others [])) (sym q)
 
 unequal_decides : (r q : Ordering) → (r ≡ Equal → ⊥) → r ≡ ordering_then r q
 unequal_decides Less q n = refl
 unequal_decides Equal q n = absurd (n refl)
 unequal_decides Greater q n = refl
 
--- its answer, where they are not
-pub order_decided : (s o a b : List ℕ) (x y : ℕ) (r : Ordering) → padded_order s o ≡ padded_order a b → 0 < max (length a) (length b)
-    → x ≡ get_or a 0 32 → y ≡ get_or b 0 32 → r ≡ nat_cmp x y → (r ≡ Equal → ⊥) → r ≡ padded_order s o
-order_decided s o a b x y r h k p q e n =
-    let t : r ≡ nat_cmp (get_or a 0 32) (get_or b 0 32) = e ∙ ap (λ z. nat_cmp z y) p ∙ ap (λ z. nat_cmp (get_or a 0 32) z) q in
-    unequal_decides r (padded_order (drop 1 a) (drop 1 b)) n ∙ ap (λ z. ordering_then z (padded_order (drop 1 a) (drop 1 b))) t
-    ∙ sym (order_step a b (omega (arith, k))) ∙ sym h
+pub blanks_decided : (s left others : List ℕ) (c : ℕ) (r : Ordering) → padded_order s [] ≡ padded_order left [] → left ≡ c ∷ others → r ≡ nat_cmp c 32
+    → (r ≡ Equal → ⊥) → r ≡ padded_order s []
+blanks_decided s left others c r h e q n =
+    unequal_decides r (padded_order others []) n ∙ ap (λ o. ordering_then o (padded_order others [])) q
+    ∙ sym (order_step (c ∷ others) [] (omega arith)) ∙ sym (h ∙ ap (λ l. padded_order l []) e)
+
+pub blanks_alone : (s left : List ℕ) → padded_order s [] ≡ padded_order left [] → left ≡ [] → Equal ≡ padded_order s []
+blanks_alone s left h e = sym (h ∙ ap (λ l. padded_order l []) e)
+
+-- ---- a text that begins with the other
+
+common : (a b : List ℕ) → padded_order (a ++ b) a ≡ padded_order b []
+common [] b = refl
+common (c ∷ a) b =
+    order_step (c ∷ (a ++ b)) (c ∷ a) (omega arith) ∙ ap (λ r. ordering_then r (padded_order (a ++ b) a)) (tied_itself nat_cmp_total c) ∙ common a b
+
+pub prefixed : (long short rest : List ℕ) → IsUtf8 short → long ≡ short ++ rest → padded_order (chars long) (chars short) ≡ padded_order (chars rest) []
+prefixed long short rest u e = ap (λ s. padded_order s (chars short)) (ap chars e ∙ chars-append short rest u) ∙ common (chars short) (chars rest)
+
+-- ---- two texts of which neither begins with the other
+
+common_bytes : (s a b : List ℕ) → slice_cmp nat_cmp (s ++ a) (s ++ b) ≡ slice_cmp nat_cmp a b
+common_bytes [] a b = refl
+common_bytes (x ∷ s) a b = ap (λ r. ordering_then r (slice_cmp nat_cmp (s ++ a) (s ++ b))) (tied_itself nat_cmp_total x) ∙ common_bytes s a b
+
+less : (x y : ℕ) → x < y → nat_cmp x y ≡ Less
+less x y h = ap (λ t. cond t Less (cond (nat_eq x y) Equal Greater)) (lt-ltb x y h)
+
+greater : (x y : ℕ) → y < x → nat_cmp x y ≡ Greater
+greater x y h = nat_cmp_total.antisymm x y ∙ ap ordering_reverse (less y x h)
+
+-- the characters have the order of their bytes
+pub bytes_decide : (n : ℕ) (a b : List ℕ) → length a ≤ n → length b ≤ n → ((r : List ℕ) → encode_utf8_all a ≢ encode_utf8_all b ++ r)
+    → ((r : List ℕ) → encode_utf8_all b ≢ encode_utf8_all a ++ r) → slice_cmp nat_cmp (encode_utf8_all a) (encode_utf8_all b) ≡ order_at n a b
+bytes_decide n a [] g h p q = absurd (p (encode_utf8_all a) refl)
+bytes_decide n [] (d ∷ b) g h p q = absurd (q (encode_utf8_all (d ∷ b)) refl)
+bytes_decide zero (c ∷ a) (d ∷ b) g h p q = absurd (omega (arith, g))
+bytes_decide (suc n) (c ∷ a) (d ∷ b) g h p q = elim (cases_order c d) as (λ _. slice_cmp nat_cmp (encode_utf8_all (c ∷ a)) (encode_utf8_all (d ∷ b)) ≡ order_at (suc n) (c ∷ a) (d ∷ b)) [
+  | inl same ↦
+      ap (λ x. slice_cmp nat_cmp (encode_utf8 c ++ encode_utf8_all a) (encode_utf8 x ++ encode_utf8_all b)) (sym same)
+      ∙ common_bytes (encode_utf8 c) (encode_utf8_all a) (encode_utf8_all b)
+      ∙ bytes_decide n a b (omega (arith, g)) (omega (arith, h)) (λ r e. p r (longer_by (encode_utf8 c) (encode_utf8 d) (encode_utf8_all a) (encode_utf8_all b) r (ap encode_utf8 same) e)) (λ r e. q r (longer_by (encode_utf8 d) (encode_utf8 c) (encode_utf8_all b) (encode_utf8_all a) r (ap encode_utf8 (sym same)) e))
+      ∙ sym (ap (λ o. ordering_then o (order_at n a b)) (ap (λ x. nat_cmp c x) (sym same) ∙ tied_itself nat_cmp_total c)) ∙ sym (order_at_head n (c ∷ a) (d ∷ b))
+  | inr different ↦ elim different as (λ _. slice_cmp nat_cmp (encode_utf8_all (c ∷ a)) (encode_utf8_all (d ∷ b)) ≡ order_at (suc n) (c ∷ a) (d ∷ b)) [
+    | inl l ↦ first_less c d (encode_utf8_all a) (encode_utf8_all b) l ∙ sym (ap (λ o. ordering_then o (order_at n a b)) (less c d l)) ∙ sym (order_at_head n (c ∷ a) (d ∷ b))
+    | inr l ↦
+        nat_list_cmp_total.antisymm (encode_utf8_all (c ∷ a)) (encode_utf8_all (d ∷ b)) ∙ ap ordering_reverse (first_less d c (encode_utf8_all b) (encode_utf8_all a) l)
+        ∙ sym (ap (λ o. ordering_then o (order_at n a b)) (greater c d l)) ∙ sym (order_at_head n (c ∷ a) (d ∷ b))
+  ]
+]
+  where
+    longer_by : (s t x y r : List ℕ) → s ≡ t → x ≡ y ++ r → s ++ x ≡ (t ++ y) ++ r
+    longer_by s t x y r e f = ap (λ z. z ++ x) e ∙ ap (λ z. t ++ z) f ∙ sym (append_assoc t y r)
+
+pub not_prefixed : (long short : List ℕ) → IsUtf8 long → IsUtf8 short → length short ≤ length long → ((r : List ℕ) → long ≢ short ++ r)
+    → slice_cmp nat_cmp long short ≡ padded_order (chars long) (chars short)
+not_prefixed long short u v l p =
+    let x : encode_utf8_all (chars long) ≡ long = encodes-chars long u in
+    let y : encode_utf8_all (chars short) ≡ short = encodes-chars short v in
+    ap (λ s. slice_cmp nat_cmp s short) (sym x) ∙ ap (λ s. slice_cmp nat_cmp (encode_utf8_all (chars long)) s) (sym y)
+    ∙ bytes_decide (max (length (chars long)) (length (chars short))) (chars long) (chars short) (omega arith) (omega arith)
+        (λ r e. p r (sym x ∙ e ∙ ap (λ s. s ++ r) y))
+        (λ r e. not_longer r (sym y ∙ e ∙ ap (λ s. s ++ r) x))
+  where
+    not_longer : (r : List ℕ) → short ≡ long ++ r → ⊥
+    not_longer [] e = p [] (sym (append-nil long) ∙ sym e ∙ sym (append-nil short))
+    not_longer (z ∷ r) e = omega (arith, l, ap length e, length-append long (z ∷ r))

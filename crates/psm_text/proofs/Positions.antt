@@ -1,10 +1,13 @@
 -- The characters at an interval of positions, as a piece of the list; and the first position of a part.
-use Rattle.std.proofs.Common.{◌≡◌, ℕ, zero, suc, ◌+◌, ◌-◌, ◌<◌, ◌≤◌, max, List, [], ◌∷◌, length, take, drop, map, refl, ap, sym, ◌∙◌, arith, Bool, true, false, cond, ◌&&◌, inl, inr, Option}
+use Rattle.std.proofs.Common.{◌≡◌, ℕ, zero, suc, ◌+◌, ◌-◌, ◌<◌, ◌≤◌, max, List, [], ◌∷◌, ◌++◌, length, take, drop, map, refl, ap, sym, ◌∙◌, arith, Bool, true, false, cond, ◌&&◌, inl, inr, Option, Some, None, encode_utf8_all}
 use Rattle.std.specs.Prelude.{ℤ, pos, int_le, nat_lt, nat_le, nat_eq}
 use Rattle.std.specs.List.{filter, enumerate_from, starts_with}
-use Rattle.std.specs.Cmp.Lexicographic.{unequal}
-use Rattle.std.proofs.lemmas.List.{length-take, length-drop, drop-drop}
-use Rattle.std.proofs.lemmas.Bool.{cases_lt, lt-ltb, le-ltb, le-leb, lt-leb, true≢false}
+use Rattle.std.specs.Str.{chars, IsCharBoundary, IsUtf8}
+use Rattle.std.specs.Str.Pattern.{FindsText, LacksTextAt}
+use Rattle.std.specs.Cmp.Lexicographic.{bytes_decides}
+use Rattle.std.proofs.lemmas.List.{drop_at, length-append, length-drop, length-take-le, take-append-drop, take-take, take_at}
+use Rattle.std.proofs.lemmas.Bool.{cases_Bool, cases_lt, lt-ltb, le-ltb, le-leb, lt-leb}
+use Rattle.std.proofs.lemmas.Str.{IsUtf8-take, chars-append, encodes-append, encodes-chars, length-le-encodes}
 use Rattle.psm_text.specs.Parts.{is_asked, is_before_end, asked_part, stands_at, IsPosition}
 
 abbrev pub kept : (ℕ → Bool) → ℕ → List ℕ → List ℕ
@@ -78,59 +81,72 @@ asked_is from wide same count t f e w v h g =
 
 -- ---- the first position of a part
 
--- no position up to before has the part
-abbrev pub Passed : List ℕ → List ℕ → ℕ → Type 0
-Passed part t before = (k : ℕ) → 0 < k → k ≤ before → stands_at part t k ≡ false
-
 stands_here : (part t left : List ℕ) (before : ℕ) → left ≡ drop before t → starts_with nat_eq left part ≡ stands_at part t (before + 1)
 stands_here part t left before e =
     let p : before ≡ before + 1 - 1 = omega arith in
     ap (λ xs. starts_with nat_eq xs part) e ∙ ap (λ n. starts_with nat_eq (drop n t) part) p
 
-too_short : (part xs : List ℕ) → length xs < length part → starts_with nat_eq xs part ≡ false
-too_short part xs h = unequal nat_eq part (take (length part) xs) (λ e. omega (arith, h, e, length-take (length part) xs))
+begun : (part z xs : List ℕ) → xs ≡ part ++ z → starts_with nat_eq xs part ≡ true
+begun part z xs e = (bytes_decides part (take (length part) xs)).1 (sym (ap (λ s. take (length part) s) e ∙ take_at part z (length part) refl))
 
-pub position_found : (part t left wanted : List ℕ) (before : ℕ) (b : Bool) → wanted ≡ part → left ≡ drop before t → Passed part t before → b ≡ starts_with nat_eq left wanted → b ≡ true
-    → IsPosition part t (before + 1)
-position_found part t left wanted before b w e passed q h = record {
-  found = λ _. sym (ap (λ p. starts_with nat_eq left p) w ∙ stands_here part t left before e) ∙ sym q ∙ h;
-  first = λ k p l. passed k p (omega (arith, l));
-  none = λ z. absurd (omega (arith, z));
-}
+begins : (part xs : List ℕ) → starts_with nat_eq xs part ≡ true → (z : List ℕ) × (xs ≡ part ++ z)
+begins part xs h =
+    (drop (length part) xs, sym (take-append-drop (length part) xs) ∙ ap (λ s. s ++ drop (length part) xs) (sym ((bytes_decides part (take (length part) xs)).0 h)))
 
-pub position_none : (part t left wanted : List ℕ) (before : ℕ) → wanted ≡ part → left ≡ drop before t → Passed part t before → length left < length wanted → IsPosition part t 0
-position_none part t left wanted before w e passed h = record {
-  found = λ p. absurd (omega (arith, p));
-  first = λ k p l. absurd (omega (arith, l));
-  none = λ z k p. elim (cases_lt before k) as (λ _. stands_at part t k ≡ false) [
-    | inl after ↦ too_short part (drop (k - 1) t) (omega (arith, h, after, ap length e, ap length w, length-drop before t, length-drop (k - 1) t))
-    | inr within ↦ passed k p within
+-- where the characters of a part stand, its bytes do
+bytes_at : (p s : List ℕ) (m : ℕ) → IsUtf8 p → IsUtf8 s → starts_with nat_eq (drop m (chars s)) (chars p) ≡ true
+    → LacksTextAt p s (length (encode_utf8_all (take m (chars s)))) → ⊥
+bytes_at p s m u v h lacks =
+    let z = begins (chars p) (drop m (chars s)) h in
+    let whole : s ≡ encode_utf8_all (take m (chars s)) ++ (p ++ encode_utf8_all z.0) =
+        sym (encodes-chars s v) ∙ ap encode_utf8_all (sym (take-append-drop m (chars s))) ∙ encodes-append (take m (chars s)) (drop m (chars s))
+        ∙ ap (λ t. encode_utf8_all (take m (chars s)) ++ encode_utf8_all t) z.1
+        ∙ ap (λ t. encode_utf8_all (take m (chars s)) ++ t) (encodes-append (chars p) z.0 ∙ ap (λ t. t ++ encode_utf8_all z.0) (encodes-chars p u)) in
+    lacks (encode_utf8_all z.0)
+    (ap (λ t. drop (length (encode_utf8_all (take m (chars s)))) t) whole
+    ∙ drop_at (encode_utf8_all (take m (chars s))) (p ++ encode_utf8_all z.0) (length (encode_utf8_all (take m (chars s)))) refl)
+
+-- more characters have more bytes
+fewer_bytes : (t : List ℕ) (m k : ℕ) → m < k → k ≤ length t → length (encode_utf8_all (take m t)) < length (encode_utf8_all (take k t))
+fewer_bytes t m k h g =
+    let parts : take k t ≡ take m t ++ drop m (take k t) = sym (take-append-drop m (take k t)) ∙ ap (λ s. s ++ drop m (take k t)) (take-take m k t (omega (arith, h))) in
+    let bytes : length (encode_utf8_all (take k t)) ≡ length (encode_utf8_all (take m t)) + length (encode_utf8_all (drop m (take k t))) =
+        ap (λ s. length (encode_utf8_all s)) parts ∙ ap length (encodes-append (take m t) (drop m (take k t))) ∙ length-append (encode_utf8_all (take m t)) (encode_utf8_all (drop m (take k t))) in
+    omega (arith, h, g, bytes, length-le-encodes (drop m (take k t)), length-drop m (take k t), length-take-le k t g)
+
+pub first_found : (p s before : List ℕ) (at j n : ℕ) → IsUtf8 p → IsUtf8 s → FindsText p s (Some (at, j)) → IsCharBoundary s at → IsCharBoundary s j
+    → before ≡ take at s → n ≡ length (chars before) → IsPosition (chars p) (chars s) (n + 1)
+first_found p s before at j n u v found at_edge j_edge e w =
+    let x : IsUtf8 (take at s) = IsUtf8-take s at v at_edge in
+    let there : s ≡ take at s ++ (p ++ drop j s) = sym (take-append-drop at s) ∙ ap (λ t. take at s ++ t) found.1.split in
+    let whole : chars s ≡ chars (take at s) ++ (chars p ++ chars (drop j s)) = ap chars there ∙ chars-append (take at s) (p ++ drop j s) x ∙ ap (λ t. chars (take at s) ++ t) (chars-append p (drop j s) u) in
+    let k : n ≡ length (chars (take at s)) = w ∙ ap (λ t. length (chars t)) e in
+    let rest : drop n (chars s) ≡ chars p ++ chars (drop j s) = ap (λ t. drop n t) whole ∙ drop_at (chars (take at s)) (chars p ++ chars (drop j s)) n (sym k) in
+    let within : n ≤ length (chars s) = omega (arith, k, ap length whole, length-append (chars (take at s)) (chars p ++ chars (drop j s))) in
+    let front : take n (chars s) ≡ chars (take at s) = ap (λ t. take n t) whole ∙ take_at (chars (take at s)) (chars p ++ chars (drop j s)) n (sym k) in
+    let at_is : at ≡ length (encode_utf8_all (take n (chars s))) = sym (length-take-le at s at_edge.0) ∙ ap length (sym (ap encode_utf8_all front ∙ encodes-chars (take at s) x)) in
+    record {
+      found = λ _. sym (stands_here (chars p) (chars s) (drop n (chars s)) n refl) ∙ begun (chars p) (chars (drop j s)) (drop n (chars s)) rest;
+      first = λ other l m. earlier other l m (at_is) within;
+      none = λ z. absurd (omega (arith, z));
+    }
+  where
+    earlier : (other : ℕ) → 0 < other → other < n + 1 → at ≡ length (encode_utf8_all (take n (chars s))) → n ≤ length (chars s) → stands_at (chars p) (chars s) other ≡ false
+    earlier other l m a w = elim (cases_Bool (stands_at (chars p) (chars s) other)) as (λ _. stands_at (chars p) (chars s) other ≡ false) [
+      | inl h ↦ absurd (bytes_at p s (other - 1) u v h (found.0 (length (encode_utf8_all (take (other - 1) (chars s)))) (omega (arith, a, fewer_bytes (chars s) (other - 1) n (omega (arith, l, m)) w))))
+      | inr h ↦ h
+    ]
+
+pub never_found : (p s : List ℕ) → IsUtf8 p → IsUtf8 s → FindsText p s None → IsPosition (chars p) (chars s) 0
+never_found p s u v lacks = record {
+  found = λ l. absurd (omega (arith, l));
+  first = λ k l m. absurd (omega (arith, m));
+  none = λ z k l. elim (cases_Bool (stands_at (chars p) (chars s) k)) as (λ _. stands_at (chars p) (chars s) k ≡ false) [
+    | inl h ↦ absurd (bytes_at p s (k - 1) u v h (lacks (length (encode_utf8_all (take (k - 1) (chars s)))) (within (k - 1))))
+    | inr h ↦ h
   ];
 }
-
-nonempty : (left wanted : List ℕ) → starts_with nat_eq left wanted ≡ false → length wanted ≤ length left → 0 < length left
-nonempty [] [] h g = absurd (true≢false h)
-nonempty [] (x ∷ xs) h g = absurd (omega (arith, g))
-nonempty (y ∷ ys) wanted h g = omega arith
-
--- one turn of the search's loop
-pub record Searching (part t left : List ℕ) (before : ℕ) : Type 0 where
-  pub here : left ≡ drop before t
-  pub within : before ≤ length t
-  pub passed : Passed part t before
-
-pub left_nonempty : (left wanted : List ℕ) (b : Bool) → b ≡ starts_with nat_eq left wanted → b ≡ false → length wanted ≤ length left → 0 < length left
-left_nonempty left wanted b q h g = nonempty left wanted (sym q ∙ h) g
-
-pub searching_on : (part t left wanted next : List ℕ) (before : ℕ) (b : Bool) → wanted ≡ part → Searching part t left before → b ≡ starts_with nat_eq left wanted → b ≡ false
-    → length wanted ≤ length left → next ≡ drop 1 left → Searching part t next (before + 1)
-searching_on part t left wanted next before b w s q h g n = record {
-  here = n ∙ ap (λ xs. drop 1 xs) s.here ∙ drop-drop 1 before t;
-  within = omega (arith, left_nonempty left wanted b q h g, ap length s.here, length-drop before t);
-  passed = λ k p l. elim (cases_lt before k) as (λ _. stands_at part t k ≡ false) [
-    | inl after ↦
-        let e : k ≡ before + 1 = omega (arith, after, l) in
-        ap (λ m. stands_at part t m) e ∙ sym (ap (λ p. starts_with nat_eq left p) w ∙ stands_here part t left before s.here) ∙ sym q ∙ h
-    | inr within ↦ s.passed k p within
-  ];
-}
+  where
+    within : (m : ℕ) → length (encode_utf8_all (take m (chars s))) ≤ length s
+    within m =
+        omega (arith, ap length (encodes-chars s v), ap (λ t. length (encode_utf8_all t)) (take-append-drop m (chars s)), ap length (encodes-append (take m (chars s)) (drop m (chars s))), length-append (encode_utf8_all (take m (chars s))) (encode_utf8_all (drop m (chars s))))

@@ -1,6 +1,7 @@
 -- What the matcher keeps true: only the last item for any characters can still take another number.
 use Rattle.std.proofs.Common.{◌≡◌, ℕ, suc, ◌+◌, ◌*◌, ◌<◌, ◌≤◌, List, [], ◌∷◌, length, get_or, drop, ap, sym, subst, arith, Option, Some, None, Bor}
 use Rattle.std.specs.Prelude.{◌↔◌}
+use Rattle.std.specs.Str.{chars}
 use Rattle.std.proofs.Math.Nat.{mul-le-mul_right}
 use Rattle.psm_text.specs.declared.like.Step.TheVariants.{Skip, Take, Stop}
 use Rattle.psm_text.specs.Like.{Item, Any, Matches, items_of, step_at}
@@ -20,12 +21,12 @@ Retry = Option (Bor (List ℕ) × Bor (List ℕ))
 
 abbrev pub Going : Option ℕ → Retry → List ℕ → List ℕ → List ℕ → List ℕ → Type 0
 Going e None pattern text items rest = (Matches (items_of e pattern) text ↔ Matches (items_of e items) rest) × (length rest ≤ length text)
-Going e (Some r) pattern text items rest = Again e pattern text r.0.now r.1.now items rest
+Going e (Some r) pattern text items rest = Again e pattern text (chars r.0.now) (chars r.1.now) items rest
 
 -- how much text can still be tried from the start of
 abbrev pub room : Retry → List ℕ → ℕ
 room None text = length text
-room (Some r) text = length r.1.now
+room (Some r) text = length (chars r.1.now)
 
 pub going_room : (e : Option ℕ) (retry : Retry) (pattern text items rest : List ℕ) → Going e retry pattern text items rest → length rest ≤ room retry text
 going_room e None pattern text items rest g = g.1
@@ -104,5 +105,5 @@ skip_nonempty e [] c h = absurd (cc)
 skip_nonempty e (x ∷ items) c h = omega arith
 
 pub again_at : (e : Option ℕ) (retry : Retry) (r : Bor (List ℕ) × Bor (List ℕ)) (pattern text items rest : List ℕ) → retry ≡ Some r
-    → Going e retry pattern text items rest → Again e pattern text r.0.now r.1.now items rest
+    → Going e retry pattern text items rest → Again e pattern text (chars r.0.now) (chars r.1.now) items rest
 again_at e retry r pattern text items rest s g = subst (λ o. Going e o pattern text items rest) s g

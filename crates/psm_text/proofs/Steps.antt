@@ -1,10 +1,10 @@
 -- How a match of a pattern changes as the matcher reads an item or a character.
-use Rattle.std.proofs.Common.{◌≡◌, ℕ, zero, suc, ◌+◌, ◌<◌, List, [], ◌∷◌, length, get_or, drop, refl, ap, sym, ◌∙◌, subst, arith, true, cond, nat_eq, inl, inr}
+use Rattle.std.proofs.Common.{◌≡◌, ℕ, zero, suc, ◌+◌, ◌<◌, List, [], ◌∷◌, length, get_or, drop, refl, ap, sym, ◌∙◌, subst, arith, true, false, cond, not, nat_eq, inl, inr, Option}
 use Rattle.std.specs.Prelude.{◌↔◌}
 use Rattle.std.proofs.lemmas.List.{drop-drop}
 use Rattle.std.proofs.lemmas.Bool.{cases_eq, ne_eqb, eq-eqb, true≢false}
 use Rattle.psm_text.specs.declared.like.Step.TheVariants.{Skip, Take, Stop}
-use Rattle.psm_text.specs.Like.{Item, Literal, One, Any, Matches, step_at, begins_any}
+use Rattle.psm_text.specs.Like.{Item, Literal, One, Any, Matches, step_at, begins_any, item_of, items_of, escapes, escapable, well_formed}
 
 drop_nil : (k : ℕ) → let none : List ℕ = [] in drop k none ≡ none
 drop_nil zero = refl
@@ -90,3 +90,19 @@ any_at_end (Any ∷ p) q h e =
     ((λ m. subst (λ i. Matches i []) (sym e) (subst (λ s. Matches p s) (drop_nil m.0) m.1)), (λ m. (0, subst (λ i. Matches i []) e m)))
 any_at_end (One ∷ p) q h e = absurd (true≢false (sym h))
 any_at_end (Literal d ∷ p) q h e = absurd (true≢false (sym h))
+
+-- ---- escapes
+
+pub items_plain : (e : Option ℕ) (c : ℕ) (t : List ℕ) → escapes e c ≡ false → items_of e (c ∷ t) ≡ item_of c ∷ items_of e t
+items_plain e c [] h = refl
+items_plain e c (d ∷ p) h = ap (λ b. cond b (Literal d ∷ items_of e p) (item_of c ∷ items_of e (d ∷ p))) h
+
+pub items_escaped : (e : Option ℕ) (c d : ℕ) (p : List ℕ) → escapes e c ≡ true → items_of e (c ∷ d ∷ p) ≡ Literal d ∷ items_of e p
+items_escaped e c d p h = ap (λ b. cond b (Literal d ∷ items_of e p) (item_of c ∷ items_of e (d ∷ p))) h
+
+pub formed_plain : (e : Option ℕ) (c : ℕ) (t : List ℕ) → escapes e c ≡ false → well_formed e (c ∷ t) ≡ well_formed e t
+formed_plain e c [] h = ap not h
+formed_plain e c (d ∷ p) h = ap (λ b. cond b (cond (escapable e d) (well_formed e p) false) (well_formed e (d ∷ p))) h
+
+pub formed_escaped : (e : Option ℕ) (c d : ℕ) (p : List ℕ) → escapes e c ≡ true → well_formed e (c ∷ d ∷ p) ≡ cond (escapable e d) (well_formed e p) false
+formed_escaped e c d p h = ap (λ b. cond b (cond (escapable e d) (well_formed e p) false) (well_formed e (d ∷ p))) h

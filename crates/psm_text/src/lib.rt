@@ -2,6 +2,7 @@
 //! they are stored and fetched (ISO/IEC 9075:1992). Names stand here too.
 #![tactic(auto)]
 
+mod characters;
 mod fault;
 mod like;
 mod name;

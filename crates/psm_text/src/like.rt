@@ -1,11 +1,12 @@
 //! LIKE (ISO/IEC 9075:1992, 8.5).
-ghost use Rattle.std.specs.Prelude.{◌≡◌, ◌↔◌, ◌<◌, ◌≤◌, length, drop, [], if◌then◌else◌, nat_eq, IsTrue};
+ghost use Rattle.std.specs.Prelude.{◌≡◌, ◌↔◌, ◌<◌, ◌≤◌, ◌∷◌, List as Seq, length, drop, [], if◌then◌else◌, nat_eq, IsTrue};
 ghost use Rattle.std.specs.Option.{option_copied};
-ghost use Rattle.psm_text.specs.Like.{Liked, like_answer, Matches, items_of, well_formed, escapes, escapable, escape_of, begins_any, step_at};
+ghost use Rattle.std.specs.Str.{chars};
+ghost use Rattle.psm_text.specs.Like.{Item, Liked, like_answer, Matches, item_of, items_of, well_formed, escapes, escapable, escape_of, begins_any, step_at};
 ghost use Rattle.psm_text.specs.declared.like.Step.TheVariants.{Take, Stop};
 
+use crate::characters::first;
 use crate::fault::TextFault;
-use crate::order::rest as tail;
 use crate::text::Text;
 
 /// What the matcher does with a character at the first item of a pattern.
@@ -29,11 +30,11 @@ impl Text {
         ensures value { result ≡ like_answer (escape_of (option_copied escape.entry)) pattern.now self.now }
     {
         let escape = escape_character(escape)?;
-        let pattern = pattern.chars();
+        let pattern = pattern.as_str();
         if !is_well_formed(pattern, escape) {
             return Err(TextFault::EscapePair);
         }
-        Ok(is_match(self.chars(), pattern, escape))
+        Ok(is_match(self.as_str(), pattern, escape))
     }
 }
 
@@ -42,8 +43,8 @@ fn escape_character(escape: Option<&Text>) -> Result<Option<char>, TextFault>
 {
     match escape {
         None => Ok(None),
-        Some(text) => match text.chars() {
-            [c] => Ok(Some(*c)),
+        Some(text) => match first(text.as_str()) {
+            Some((c, others)) if first(others).is_none() => Ok(Some(c)),
             _ => Err(TextFault::EscapeChar),
         },
     }
@@ -58,17 +59,16 @@ fn is_escape(escape: Option<char>, c: char) -> bool
     }
 }
 
-fn is_well_formed(pattern: &[char], escape: Option<char>) -> bool
-    ensures { result ≡ well_formed escape pattern.now }
+fn is_well_formed(pattern: &str, escape: Option<char>) -> bool
+    ensures { result ≡ well_formed escape (chars pattern.now) }
 {
     let mut left = pattern;
-    while !left.is_empty() {
-        let others = tail(left);
-        if is_escape(escape, left[0]) {
-            if others.is_empty() || !is_escapable(escape, others[0]) {
-                return false;
+    while let Some((c, others)) = first(left) {
+        if is_escape(escape, c) {
+            match first(others) {
+                Some((d, after)) if is_escapable(escape, d) => left = after,
+                _ => return false,
             }
-            left = tail(others);
         } else {
             left = others;
         }
@@ -84,27 +84,27 @@ fn is_escapable(escape: Option<char>, c: char) -> bool
 
 /// Whether the text matches the pattern. Where an item fails, the last `%` before it takes one character
 /// more: no earlier one has to, since a later start of what follows it gives a later start of the rest.
-fn is_match(text: &[char], pattern: &[char], escape: Option<char>) -> bool
-    ensures { IsTrue result ↔ Matches (items_of escape pattern.now) text.now }
+fn is_match(text: &str, pattern: &str, escape: Option<char>) -> bool
+    ensures { IsTrue result ↔ Matches (items_of escape (chars pattern.now)) (chars text.now) }
 {
     let mut items = pattern;
     let mut rest = text;
     // what follows the last `%`, and the text that it was last tried on
-    let mut retry: Option<(&[char], &[char])> = None;
-    while !rest.is_empty() {
-        match first_step(items, escape, rest[0]) {
+    let mut retry: Option<(&str, &str)> = None;
+    while let Some((c, after)) = first(rest) {
+        match first_step(items, escape, c) {
             Step::Skip => {
                 items = after_item(items, escape);
                 retry = Some((items, rest));
             }
             Step::Take => {
                 items = after_item(items, escape);
-                rest = tail(rest);
+                rest = after;
             }
             Step::Stop => match retry {
                 None => return false,
                 Some((others, from)) => {
-                    let later = tail(from);
+                    let later = without_first(from);
                     items = others;
                     rest = later;
                     retry = Some((others, later));
@@ -115,17 +115,36 @@ fn is_match(text: &[char], pattern: &[char], escape: Option<char>) -> bool
     is_all_any(items, escape)
 }
 
-fn first_step(pattern: &[char], escape: Option<char>, c: char) -> Step
-    ensures { result ≡ step_at (items_of escape pattern.now) c }
+fn without_first(s: &str) -> &str
+    ensures { chars result.now ≡ drop 1 (chars s.now) }
 {
-    match pattern {
-        [] => Step::Stop,
-        [first, second, ..] if is_escape(escape, *first) => literal_step(*second, c),
-        [first, ..] => match *first {
-            '%' => Step::Skip,
-            '_' => Step::Take,
-            d => literal_step(d, c),
+    match first(s) {
+        Some((_, others)) => others,
+        None => s,
+    }
+}
+
+fn first_step(pattern: &str, escape: Option<char>, c: char) -> Step
+    ensures { result ≡ step_at (items_of escape (chars pattern.now)) c }
+{
+    match first(pattern) {
+        None => Step::Stop,
+        Some((item, others)) if is_escape(escape, item) => match first(others) {
+            Some((d, _)) => literal_step(d, c),
+            None => plain_step(item, c),
         },
+        Some((item, _)) => plain_step(item, c),
+    }
+}
+
+/// What the matcher does at an item that a character stands for without an escape.
+fn plain_step(item: char, c: char) -> Step
+    ensures { (others : Seq Item) → result ≡ step_at (item_of item ∷ others) c }
+{
+    match item {
+        '%' => Step::Skip,
+        '_' => Step::Take,
+        d => literal_step(d, c),
     }
 }
 
@@ -136,36 +155,36 @@ fn literal_step(d: char, c: char) -> Step
 }
 
 /// The pattern without its first item.
-fn after_item(pattern: &[char], escape: Option<char>) -> &[char]
-    ensures items { items_of escape result.now ≡ drop 1 (items_of escape pattern.now) }
-    ensures shorter { 0 < length pattern.now → length result.now < length pattern.now }
-    ensures within { length result.now ≤ length pattern.now }
+fn after_item(pattern: &str, escape: Option<char>) -> &str
+    ensures items { items_of escape (chars result.now) ≡ drop 1 (items_of escape (chars pattern.now)) }
+    ensures shorter { 0 < length (chars pattern.now) → length (chars result.now) < length (chars pattern.now) }
+    ensures within { length (chars result.now) ≤ length (chars pattern.now) }
 {
-    match pattern {
-        [first, _, after @ ..] if is_escape(escape, *first) => after,
-        [_, after @ ..] => after,
-        [] => pattern,
+    match first(pattern) {
+        None => pattern,
+        Some((item, others)) if is_escape(escape, item) => without_first(others),
+        Some((_, others)) => others,
     }
 }
 
 /// Whether each item stands for any characters, so that the pattern matches the empty text.
 #[tactic(auto, using(crate::proofs::Steps::any_at_end))]
-fn is_all_any(pattern: &[char], escape: Option<char>) -> bool
-    ensures { IsTrue result ↔ Matches (items_of escape pattern.now) [] }
+fn is_all_any(pattern: &str, escape: Option<char>) -> bool
+    ensures { IsTrue result ↔ Matches (items_of escape (chars pattern.now)) [] }
 {
     let mut left = pattern;
     while first_is_any(left, escape) {
         left = after_item(left, escape);
     }
-    left.is_empty()
+    first(left).is_none()
 }
 
-fn first_is_any(pattern: &[char], escape: Option<char>) -> bool
-    ensures { result ≡ begins_any (items_of escape pattern.now) }
+fn first_is_any(pattern: &str, escape: Option<char>) -> bool
+    ensures { result ≡ begins_any (items_of escape (chars pattern.now)) }
 {
-    match pattern {
-        [] => false,
-        [first, _, ..] if is_escape(escape, *first) => false,
-        [first, ..] => *first == '%',
+    match first(pattern) {
+        None => false,
+        Some((item, others)) if is_escape(escape, item) && first(others).is_some() => false,
+        Some((item, _)) => item == '%',
     }
 }

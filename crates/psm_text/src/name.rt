@@ -1,9 +1,10 @@
 //! Names (ISO/IEC 9075:1992, 5.4).
 ghost use Rattle.std.specs.Prelude.{◌≡◌, ◌↔◌, ◌<◌, ◌≤◌, ℕ, length, encode_utf8_all, IsTrue, IfOk};
+ghost use Rattle.std.specs.Str.{chars};
 ghost use Rattle.psm_text.specs.Name.{GivesName, named};
 
 use crate::fault::NameFault;
-use crate::text::count;
+use crate::characters::count;
 use std::alloc::{AllocError, Global};
 use std::marker::Model;
 
@@ -48,6 +49,7 @@ impl Name {
     /// The name as it was written.
     pub fn as_str(&self) -> &str
         ensures spelled { result.now ≡ encode_utf8_all self.now }
+        ensures characters { chars result.now ≡ self.now }
         ensures nonempty { 0 < length self.now }
         ensures bound { length self.now ≤ 128 }
     {

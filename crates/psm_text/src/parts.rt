@@ -1,11 +1,11 @@
 //! The functions of texts (ISO/IEC 9075:1992, 6.6 and 6.7).
-ghost use Rattle.std.specs.Prelude.{◌≡◌, ◌↔◌, ◌≤◌, ◌<◌, ◌-◌, ℕ, pos, int_lt, int_le, nat_lt, nat_le, length, take, drop, slice_get, IsTrue, IfOk};
+ghost use Rattle.std.specs.Prelude.{◌≡◌, ◌≤◌, ◌<◌, ◌-◌, ◌+◌, ℕ, pos, int_lt, int_le, nat_lt, nat_le, length, take, drop, IfOk};
+ghost use Rattle.std.specs.Str.{chars};
 ghost use Rattle.psm_text.specs.Text.{Gives};
-ghost use Rattle.psm_text.specs.Order.{blank};
 ghost use Rattle.psm_text.specs.Parts.{joined, substring_of, has_negative, is_before_end, asked_part, upper_of, lower_of, IsPosition, position_of, Trimmed, trimmed_of, TrimmedFront, TrimmedEnd};
 
+use crate::characters::{count as count_of, split};
 use crate::fault::TextFault;
-use crate::order::rest;
 use crate::text::{MOST_CHARACTERS, Text};
 use std::alloc::{AllocError, Global};
 
@@ -23,15 +23,14 @@ impl Text {
     pub fn concat(&self, alloc: Global, other: &Text) -> Result<Text, TextFault>
         ensures { Gives (joined self.now other.now) result }
     {
-        let front = self.chars();
-        let end = other.chars();
-        if front.len() + end.len() > MOST_CHARACTERS {
+        let (front, end) = (self.as_str(), other.as_str());
+        if count_of(front) + count_of(end) > MOST_CHARACTERS {
             return Err(TextFault::TooLong);
         }
-        let mut items = Vec::with_capacity(alloc, front.len() + end.len())?;
-        items.extend_from_slice(front)?;
-        items.extend_from_slice(end)?;
-        Ok(Text::from_vec(items))
+        let mut joined = String::with_capacity(alloc, front.len() + end.len())?;
+        joined.push_str(front)?;
+        joined.push_str(end)?;
+        Ok(Text::from_string(joined))
     }
 
     /// The characters at the positions from `from` on that exist: `count` positions, or all (ISO/IEC 9075:1992,
@@ -43,7 +42,7 @@ impl Text {
         if is_negative(count) {
             return Err(TextFault::Substring);
         }
-        Ok(Text::of(alloc, asked_characters(self.chars(), from, count))?)
+        Ok(Text::of(alloc, asked_characters(self.as_str(), from, count))?)
     }
 
     /// The first position, from 1, at which the part stands, or 0 where it stands nowhere (ISO/IEC 9075:1992,
@@ -53,40 +52,43 @@ impl Text {
         ensures first { IsPosition part.now self.now result }
         ensures value { result ≡ position_of part.now self.now }
     {
-        first_position(self.chars(), part.chars())
+        first_position(self.as_str(), part.as_str())
     }
 
     /// The text without the blanks at that side (ISO/IEC 9075:1992, 6.7).
-    #[tactic(auto, using(crate::proofs::Values::trimmed_is))]
     pub fn trim(&self, alloc: Global, side: Side) -> Result<Text, AllocError>
         ensures trimmed { IfOk result (λ t. Trimmed side self.now t) }
         ensures value { IfOk result (λ t. t ≡ trimmed_of side self.now) }
     {
-        Text::of(alloc, trimmed(self.chars(), side))
+        Text::of(alloc, self.trimmed(side))
+    }
+
+    /// Lends the characters without the blanks at that side.
+    #[tactic(auto, using(crate::proofs::Values::trimmed_is))]
+    pub fn trimmed(&self, side: Side) -> &str
+        ensures trimmed { Trimmed side self.now (chars result.now) }
+        ensures value { chars result.now ≡ trimmed_of side self.now }
+        ensures within { length (chars result.now) ≤ 4000 }
+    {
+        trimmed(self.as_str(), side)
     }
 
     /// The text with a to z as capital letters; no other character changes (ISO/IEC 9075:1992, 6.7).
     pub fn upper(&self, alloc: Global) -> Result<Text, AllocError>
         ensures { IfOk result (λ t. t ≡ upper_of self.now) }
     {
-        let items = self
-            .chars()
-            .iter()
-            .map(|c| c.to_ascii_uppercase())
-            .collect(alloc)?;
-        Ok(Text::from_vec(items))
+        let mut letters = String::from_str(alloc, self.as_str())?;
+        letters.make_ascii_uppercase();
+        Ok(Text::from_string(letters))
     }
 
     /// The text with A to Z as small letters; no other character changes (ISO/IEC 9075:1992, 6.7).
     pub fn lower(&self, alloc: Global) -> Result<Text, AllocError>
         ensures { IfOk result (λ t. t ≡ lower_of self.now) }
     {
-        let items = self
-            .chars()
-            .iter()
-            .map(|c| c.to_ascii_lowercase())
-            .collect(alloc)?;
-        Ok(Text::from_vec(items))
+        let mut letters = String::from_str(alloc, self.as_str())?;
+        letters.make_ascii_lowercase();
+        Ok(Text::from_string(letters))
     }
 }
 
@@ -99,14 +101,15 @@ fn is_negative(count: Option<i64>) -> bool
     }
 }
 
-fn asked_characters(characters: &[char], from: i64, count: Option<i64>) -> &[char]
-    requires { length characters.now ≤ 4000 }
-    ensures value { result.now ≡ asked_part from count characters.now }
-    ensures shorter { length result.now ≤ length characters.now }
+fn asked_characters(s: &str, from: i64, count: Option<i64>) -> &str
+    requires { length (chars s.now) ≤ 4000 }
+    ensures value { chars result.now ≡ asked_part from count (chars s.now) }
+    ensures within { length (chars result.now) ≤ 4000 }
 {
-    let start = positions_before(i128::from(from), characters.len());
-    let end = positions_before_end(from, count, characters.len());
-    between(characters, start, end)
+    let len = count_of(s);
+    let start = positions_before(i128::from(from), len);
+    let end = positions_before_end(from, count, len);
+    between(s, start, end)
 }
 
 /// How many of the positions from 1 to `len` lie before the position.
@@ -137,85 +140,54 @@ fn positions_before_end(from: i64, count: Option<i64>, len: usize) -> usize
     }
 }
 
-fn between(characters: &[char], start: usize, end: usize) -> &[char]
-    requires start_within { start ≤ length characters.now }
-    requires end_within { end ≤ length characters.now }
-    ensures value { result.now ≡ take (end - start) (drop start characters.now) }
-    ensures shorter { length result.now ≤ length characters.now }
+fn between(s: &str, start: usize, end: usize) -> &str
+    ensures value { chars result.now ≡ take (end - start) (drop start (chars s.now)) }
+    ensures shorter { length (chars result.now) ≤ length (chars s.now) }
 {
-    if start < end {
-        &characters[start..end]
-    } else {
-        &characters[start..start]
+    let (_, after) = split(s, start);
+    let (asked, _) = split(after, end.saturating_sub(start));
+    asked
+}
+
+fn first_position(s: &str, wanted: &str) -> u32
+    requires { length (chars s.now) ≤ 4000 }
+    ensures { IsPosition (chars wanted.now) (chars s.now) result }
+{
+    match s.find(wanted) {
+        Some(at) => count_of(s.split_at(at).0) as u32 + 1,
+        None => 0,
     }
 }
 
-fn first_position(characters: &[char], wanted: &[char]) -> u32
-    requires { length characters.now ≤ 4000 }
-    ensures { IsPosition wanted.now characters.now result }
-{
-    let mut left = characters;
-    let mut before = 0;
-    while wanted.len() <= left.len() {
-        if left.starts_with(wanted) {
-            return before + 1;
-        }
-        left = rest(left);
-        before += 1;
-    }
-    0
-}
-
-fn trimmed(characters: &[char], side: Side) -> &[char]
-    ensures value { Trimmed side characters.now result.now }
-    ensures shorter { length result.now ≤ length characters.now }
+fn trimmed(s: &str, side: Side) -> &str
+    ensures value { Trimmed side (chars s.now) (chars result.now) }
+    ensures shorter { length (chars result.now) ≤ length (chars s.now) }
 {
     match side {
-        Side::Leading => without_front(characters),
-        Side::Trailing => without_end(characters),
-        Side::Both => without_end(without_front(characters)),
+        Side::Leading => without_front(s),
+        Side::Trailing => without_end(s),
+        Side::Both => without_end(without_front(s)),
     }
 }
 
-fn without_front(characters: &[char]) -> &[char]
-    ensures value { TrimmedFront characters.now result.now }
-    ensures shorter { length result.now ≤ length characters.now }
+fn without_front(s: &str) -> &str
+    ensures value { TrimmedFront (chars s.now) (chars result.now) }
+    ensures shorter { length (chars result.now) ≤ length (chars s.now) }
 {
-    let mut left = characters;
-    while begins_blank(left) {
-        left = rest(left);
-    }
-    left
-}
-
-fn begins_blank(characters: &[char]) -> bool
-    ensures { IsTrue result ↔ (slice_get characters.now 0 ≡ Some blank) }
-{
-    matches!(characters, [' ', ..])
-}
-
-fn without_end(characters: &[char]) -> &[char]
-    ensures value { TrimmedEnd characters.now result.now }
-    ensures shorter { length result.now ≤ length characters.now }
-{
-    let mut left = characters;
-    while ends_blank(left) {
-        left = without_last(left);
+    let mut left = s;
+    while let Some(after) = left.strip_prefix(' ') {
+        left = after;
     }
     left
 }
 
-fn ends_blank(characters: &[char]) -> bool
-    ensures { IsTrue result ↔ (slice_get characters.now (length characters.now - 1) ≡ Some blank) }
+fn without_end(s: &str) -> &str
+    ensures value { TrimmedEnd (chars s.now) (chars result.now) }
+    ensures shorter { length (chars result.now) ≤ length (chars s.now) }
 {
-    matches!(characters, [.., ' '])
-}
-
-fn without_last(characters: &[char]) -> &[char]
-    ensures { result.now ≡ take (length characters.now - 1) characters.now }
-{
-    match characters {
-        [before @ .., _] => before,
-        [] => characters,
+    let mut left = s;
+    while let Some(before) = left.strip_suffix(' ') {
+        left = before;
     }
+    left
 }

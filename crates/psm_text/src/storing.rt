@@ -1,8 +1,11 @@
 //! A text as a column or a variable stores it (ISO/IEC 9075:1992, 9.1 and 9.2).
-ghost use Rattle.std.specs.Prelude.{◌≡◌, ◌≤◌, length, take, drop, IfOk};
+ghost use Rattle.std.specs.Prelude.{◌≡◌, ◌++◌, ◌≤◌, length, replicate, IfOk, OnOk, string_bytes};
+ghost use Rattle.std.specs.Str.{chars};
 ghost use Rattle.psm_text.specs.Text.{Gives};
+ghost use Rattle.psm_text.specs.Order.{blank};
 ghost use Rattle.psm_text.specs.Storing.{filled, is_blank as is_blank_text, stored, fetched};
 
+use crate::characters::{count, split};
 use crate::fault::TextFault;
 use crate::text::Text;
 use std::alloc::{AllocError, Global};
@@ -15,7 +18,7 @@ impl Text {
         requires { n ≤ 4000 }
         ensures { Gives (stored n pad self.now) result }
     {
-        let (kept, lost) = split(self.chars(), n as usize);
+        let (kept, lost) = split(self.as_str(), n as usize);
         if !is_blank(lost) {
             return Err(TextFault::Lost);
         }
@@ -28,35 +31,39 @@ impl Text {
         requires { n ≤ 4000 }
         ensures { IfOk result (λ r. r ≡ fetched n pad self.now) }
     {
-        let (kept, lost) = split(self.chars(), n as usize);
-        Ok((sized(alloc, kept, n as usize, pad)?, !lost.is_empty()))
+        let (kept, lost) = split(self.as_str(), n as usize);
+        Ok((sized(alloc, kept, n as usize, pad)?, count(lost) > 0))
     }
 }
 
-/// The first `n` characters, and those that follow them.
-#[tactic(auto, using(std::proofs::lemmas::List::take_min, std::proofs::lemmas::List::drop_min))]
-fn split(characters: &[char], n: usize) -> (&[char], &[char])
-    ensures kept { result.0.now ≡ take n characters.now }
-    ensures lost { result.1.now ≡ drop n characters.now }
+#[tactic(auto, using(std::proofs::lemmas::Str::chars_from_encodes))]
+fn is_blank(s: &str) -> bool
+    ensures { result ≡ is_blank_text (chars s.now) }
 {
-    characters.split_at(n.min(characters.len()))
-}
-
-fn is_blank(characters: &[char]) -> bool
-    ensures { result ≡ is_blank_text characters.now }
-{
-    characters.iter().all(|c| *c == ' ')
+    s.chars().all(|c| c == ' ')
 }
 
 /// The characters, filled with blanks up to `n` where `pad` is set.
-fn sized(alloc: Global, characters: &[char], n: usize, pad: bool) -> Result<Text, AllocError>
+fn sized(alloc: Global, kept: &str, n: usize, pad: bool) -> Result<Text, AllocError>
     requires limit { n ≤ 4000 }
-    requires within { length characters.now ≤ n }
-    ensures { IfOk result (λ t. t ≡ filled n pad characters.now) }
+    requires within { length (chars kept.now) ≤ n }
+    ensures { IfOk result (λ t. t ≡ filled n pad (chars kept.now)) }
 {
-    let mut items = Vec::from_slice(alloc, characters)?;
-    if pad {
-        items.resize(n, ' ')?;
+    if !pad {
+        return Text::of(alloc, kept);
     }
-    Ok(Text::from_vec(items))
+    let missing = n - count(kept);
+    let mut text = String::with_capacity(alloc, kept.len() + missing)?;
+    text.push_str(kept)?;
+    push_blanks(&mut text, missing)?;
+    Ok(Text::from_string(text))
+}
+
+fn push_blanks(text: &mut String, count: usize) -> Result<(), AllocError>
+    ensures { OnOk result (string_bytes text.new ≡ string_bytes text.old ++ replicate count blank) }
+{
+    for _ in 0..count {
+        text.push(' ')?;
+    }
+    Ok(())
 }

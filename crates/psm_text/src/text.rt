@@ -1,31 +1,35 @@
 //! Texts of at most 4000 characters.
-ghost use Rattle.std.specs.Prelude.{◌≡◌, ◌≤◌, length, IfOk, encode_utf8_all, vec_len};
+ghost use Rattle.std.specs.Prelude.{◌≡◌, ◌≤◌, length, IfOk, encode_utf8_all, string_bytes};
 ghost use Rattle.std.specs.Str.{chars};
 ghost use Rattle.psm_text.specs.Text.{Gives, made, most};
 
+use crate::characters::count;
 use crate::fault::TextFault;
 use std::alloc::{AllocError, Global};
 use std::marker::Model;
 
 pub(crate) const MOST_CHARACTERS: usize = 4000;
 
-/// A text of at most 4000 characters, seen as the list of their code points and kept as a `Vec`.
+/// A text of at most 4000 characters, seen as the list of their code points and kept as a `String`, so that a
+/// character of ASCII takes one byte.
 #[derive(Debug, Drop)]
 pub struct Text {
-    items: Vec<char>,
+    spelled: String,
 }
 
 impl Model for Text {
     ghost use Rattle.std.specs.Prelude.{ℕ, List, ◌≤◌, length};
     ghost use Rattle.std.specs.Coded.{coded_list, coded_ℕ};
+    ghost use Rattle.std.specs.String.{string_bytes};
+    ghost use Rattle.std.specs.Str.{chars};
 
     ghost Value = { List ℕ };
 
     ghost coded = { coded_list coded_ℕ };
 
-    ghost view = { λ t. t.items.items };
+    ghost view = { λ t. chars (string_bytes t.spelled) };
 
-    ghost invariant = { λ t. length t.items.items ≤ 4000 };
+    ghost invariant = { λ t. length (chars (string_bytes t.spelled)) ≤ 4000 };
 }
 
 impl Text {
@@ -39,33 +43,33 @@ impl Text {
             return Err(TextFault::TooLong);
         }
         Ok(Text {
-            items: gathered(alloc, s)?,
+            spelled: String::from_str(alloc, s)?,
         })
     }
 
-    /// The text of the characters.
-    pub(crate) fn of(alloc: Global, characters: &[char]) -> Result<Text, AllocError>
-        requires { length characters.now ≤ 4000 }
-        ensures { IfOk result (λ t. t ≡ characters.now) }
+    /// The text of the characters of a string that has no more than a text may have.
+    pub(crate) fn of(alloc: Global, s: &str) -> Result<Text, AllocError>
+        requires { length (chars s.now) ≤ 4000 }
+        ensures { IfOk result (λ t. t ≡ chars s.now) }
     {
         Ok(Text {
-            items: Vec::from_slice(alloc, characters)?,
+            spelled: String::from_str(alloc, s)?,
         })
     }
 
-    /// The text of the characters in a vector.
-    pub(crate) fn from_vec(items: Vec<char>) -> Text
-        requires { vec_len items ≤ 4000 }
-        ensures { result ≡ items.items }
+    /// The same, in the memory of the string.
+    pub(crate) fn from_string(spelled: String) -> Text
+        requires { length (chars (string_bytes spelled)) ≤ 4000 }
+        ensures { result ≡ chars (string_bytes spelled) }
     {
-        Text { items }
+        Text { spelled }
     }
 
     /// The same text in memory of its own.
     pub fn copy(&self, alloc: Global) -> Result<Text, AllocError>
         ensures { IfOk result (λ t. t ≡ self.now) }
     {
-        Text::of(alloc, self.chars())
+        Text::of(alloc, self.as_str())
     }
 
     /// The number of characters.
@@ -73,30 +77,15 @@ impl Text {
         ensures value { result ≡ length self.now }
         ensures bound { result ≤ most }
     {
-        self.items.len() as u32
+        count(self.as_str()) as u32
     }
 
     /// Lends the characters.
-    pub fn chars(&self) -> &[char]
-        ensures value { result.now ≡ self.now }
+    pub fn as_str(&self) -> &str
+        ensures spelled { result.now ≡ encode_utf8_all self.now }
+        ensures characters { chars result.now ≡ self.now }
         ensures bound { length self.now ≤ most }
     {
-        self.items.as_slice()
+        self.spelled.as_str()
     }
-}
-
-/// The number of a string's characters.
-#[tactic(auto, using(std::proofs::lemmas::Str::chars_from_encodes))]
-pub(crate) fn count(s: &str) -> usize
-    ensures { result ≡ length (chars s.now) }
-{
-    s.chars().count()
-}
-
-#[tactic(auto, using(std::proofs::lemmas::Str::chars_from_encodes))]
-fn gathered(alloc: Global, s: &str) -> Result<Vec<char>, AllocError>
-    ensures characters { IfOk result (λ v. v.items ≡ chars s.now) }
-    ensures spelled { IfOk result (λ v. encode_utf8_all v.items ≡ s.now) }
-{
-    s.chars().collect(alloc)
 }

@@ -3,4 +3,3 @@ pub mod Literals
 pub mod Quoting
 pub mod Ranges
 pub mod Stable
-pub mod Trims

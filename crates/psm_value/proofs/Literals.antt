@@ -1,12 +1,12 @@
 -- A literal is of ASCII, and a text that spells none has no number.
-use Rattle.std.proofs.Common.{◌≡◌, ◌≢◌, ℕ, ℤ, zero, suc, pos, ◌+◌, ◌-◌, ◌^◌, ◌/◌, ◌%◌, ◌<◌, ◌≤◌, Bool, true, false, ◌&&◌, nat_lt, nat_le, int_lt, List, [], ◌∷◌, ◌++◌, length, unsigned_abs, Result, Ok, Err, IfOk, refl, ap, sym, ◌∙◌, subst, arith, lt-ltb, le-leb, ltb-true, leb-true, length-append}
-use Rattle.std.specs.Prelude.{replicate, decimal, encode_utf8_all, Option, Some, None, if◌then◌else◌}
-use Rattle.std.specs.Str.{IsAscii, chars}
+use Rattle.std.proofs.Common.{◌≡◌, ◌≢◌, ℕ, ℤ, zero, suc, pos, ◌+◌, ◌-◌, ◌^◌, ◌/◌, ◌%◌, ◌<◌, ◌≤◌, Bool, true, false, ◌&&◌, nat_lt, nat_le, int_lt, List, [], ◌∷◌, ◌++◌, length, unsigned_abs, Result, Ok, Err, IfOk, refl, ap, sym, ◌∙◌, subst, arith, lt-ltb, le-leb, ltb-true, leb-true, length-append, get_or}
+use Rattle.std.specs.Prelude.{replicate, decimal, Option, Some, None, if◌then◌else◌}
+use Rattle.std.specs.Str.{IsAscii, IsNotAscii, IsUtf8, chars}
 use Rattle.std.specs.Char.{is_ascii, is_ascii_digit}
 use Rattle.std.specs.List.{list_all}
 use Rattle.std.proofs.lemmas.List.Folds.{list_all-append}
 use Rattle.std.proofs.lemmas.List.{length-replicate}
-use Rattle.std.proofs.lemmas.Str.{encodes-IsAscii, chars-IsAscii}
+use Rattle.std.proofs.lemmas.Str.{encodes-IsAscii, encodes-chars, chars-IsAscii}
 use Rattle.std.proofs.lemmas.Fmt.{length-decimal-le_wide}
 use Rattle.psm_num.specs.declared.fault.NumFault.{NumFault}
 use Rattle.psm_num.specs.declared.fault.NumFault.TheVariants.{Range, Zero, NotNumber}
@@ -89,16 +89,22 @@ literal_ascii l good =
 pub spells-ascii : (t : List ℕ) (l : Literal) → Spells t l → list_all is_ascii t ≡ true
 spells-ascii t l s = ap (list_all is_ascii) (sym s.spelling) ∙ literal_ascii l s.form
 
-pub beyond_ascii : (t : List ℕ) → list_all is_ascii t ≡ false → Err NotNumber ≡ number_of t
-beyond_ascii t h = sym (number_of-no_literal t (λ l s. let e : list_all is_ascii t ≡ true = spells-ascii t l s in cc))
-
 ascii_from : (t : List ℕ) → list_all is_ascii t ≡ true → IsAscii t
 ascii_from [] h i = omega arith
 ascii_from (c ∷ t) h zero = ltb-true c 128 (and_first (is_ascii c) (list_all is_ascii t) h)
 ascii_from (c ∷ t) h (suc i) = ascii_from t (and_second (is_ascii c) (list_all is_ascii t) h) i
 
-pub encoded_ascii : (t : List ℕ) → list_all is_ascii t ≡ true → encode_utf8_all t ≡ t
-encoded_ascii t h = encodes-IsAscii t (ascii_from t h)
+pub ascii_is_itself : (bs : List ℕ) → IsAscii bs → chars bs ≡ bs
+ascii_is_itself bs h = chars-IsAscii bs h
+
+-- the bytes of characters that are no ASCII aren't either
+not_ascii : (bs : List ℕ) → IsUtf8 bs → IsNotAscii bs → list_all is_ascii (chars bs) ≡ true → ⊥
+not_ascii bs u other h =
+    let plain : bs ≡ chars bs = sym (encodes-chars bs u) ∙ encodes-IsAscii (chars bs) (ascii_from (chars bs) h) in
+    omega (arith, other.1, ap (λ t. get_or t other.0 0) plain, ascii_from (chars bs) h other.0)
+
+pub beyond_ascii : (bs : List ℕ) → IsUtf8 bs → IsNotAscii bs → Err NotNumber ≡ number_of (chars bs)
+beyond_ascii bs u other = sym (number_of-no_literal (chars bs) (λ l s. not_ascii bs u other (spells-ascii (chars bs) l s)))
 
 -- ---- a printed number is a text
 

@@ -1,8 +1,9 @@
 -- CAST (ISO/IEC 9075:1992, 6.10).
-use Rattle.std.specs.Prelude.{ℕ, List, [], ◌∷◌, reverse, nat_eq, Result, Ok, Err, if◌then◌else◌}
+-- the text without the blanks at its front
+pub use Rattle.psm_text.specs.Parts.{after_blanks as without_front}
+use Rattle.std.specs.Prelude.{ℕ, List, reverse, Result, Ok, Err, if◌then◌else◌}
 use Rattle.psm_num.specs.Printed.{printed}
 use Rattle.psm_num.specs.Split.{number_of}
-use Rattle.psm_text.specs.Order.{blank}
 use Rattle.psm_sqlstate.specs.declared.state.SqlState.{SqlState}
 use Rattle.psm_value.specs.declared.datum.Datum.{Datum}
 use Rattle.psm_value.specs.declared.datum.Datum.TheVariants.{Null, Num, Text}
@@ -10,11 +11,6 @@ use Rattle.psm_value.specs.declared.sqltype.SqlType.{SqlType}
 use Rattle.psm_value.specs.Arithmetic.{as_datum}
 use Rattle.psm_value.specs.Stored.{stored, stored_number, stored_text}
 use Rattle.psm_value.specs.SqlType.{is_number_type}
-
--- the text without the blanks at its front
-abbrev pub without_front : List ℕ → List ℕ
-without_front [] = []
-without_front (c ∷ t) = if nat_eq c blank then without_front t else c ∷ t
 
 -- the text without the blanks at both ends
 abbrev pub trimmed : List ℕ → List ℕ

@@ -1,8 +1,6 @@
 //! CAST (ISO/IEC 9075:1992, 6.10).
-ghost use Rattle.std.specs.Prelude.{◌≡◌, ℕ, IsTrue, IfOk, List as Seq, Ok, Err, codes, encode_utf8_all, reverse};
-ghost use Rattle.std.specs.String.{string_bytes};
-ghost use Rattle.std.specs.Char.{is_ascii};
-ghost use Rattle.std.specs.List.{list_all};
+ghost use Rattle.std.specs.Prelude.{◌≡◌, ℕ, IsTrue, List as Seq, Ok, Err, codes};
+ghost use Rattle.std.specs.Str.{chars};
 ghost use Rattle.psm_num.specs.Literal.{Literal, Spells, literal_number};
 ghost use Rattle.psm_num.specs.Printed.{printed};
 ghost use Rattle.psm_num.specs.Split.{number_of};
@@ -11,7 +9,7 @@ ghost use Rattle.psm_value.specs.declared.datum.Datum.TheVariants as data_of;
 ghost use Rattle.psm_value.specs.declared.sqltype.SqlType.{SqlType};
 ghost use Rattle.psm_value.specs.Answer.{Gives};
 ghost use Rattle.psm_value.specs.Arithmetic.{as_datum};
-ghost use Rattle.psm_value.specs.Cast.{cast_of, then_stored, trimmed, without_front};
+ghost use Rattle.psm_value.specs.Cast.{cast_of, then_stored, trimmed};
 ghost use Rattle.psm_value.specs.SqlType.{IsType, is_number_type as number_type};
 
 use crate::arithmetic::of_number;
@@ -21,7 +19,7 @@ use crate::sqltype::SqlType;
 use crate::storing::{store_into, store_number, store_text};
 use psm_num::{Dec, NumFault};
 use psm_sqlstate::SqlState;
-use psm_text::{Text, TextFault};
+use psm_text::{Side, Text, TextFault};
 use std::alloc::{AllocError, Global};
 
 /// The value as another type (ISO/IEC 9075:1992, 6.10), stored there by [`store_into`]. A number becomes its
@@ -55,7 +53,7 @@ fn cast_text(alloc: Global, to: SqlType, text: &Text) -> Result<Datum, ValueFaul
     if !is_number_type(to) {
         return store_text(alloc, to, text);
     }
-    let number = read_number(alloc, without_trailing(without_leading(text.chars())))?;
+    let number = read_number(text.trimmed(Side::Both))?;
     store_into(alloc, to, &number)
 }
 
@@ -78,59 +76,20 @@ fn printed_text(alloc: Global, number: Dec) -> Result<Text, TextFault>
 }
 
 // The number that the characters spell. (A literal is of ASCII, so that its characters are its bytes.)
-#[tactic(auto, using(crate::proofs::Literals::beyond_ascii, crate::proofs::Literals::encoded_ascii))]
-fn read_number(alloc: Global, characters: &[char]) -> Result<Datum, ValueFault>
-    ensures { Gives (as_datum (number_of characters.now)) result }
+#[tactic(auto, using(crate::proofs::Literals::beyond_ascii, crate::proofs::Literals::ascii_is_itself))]
+fn read_number(characters: &str) -> Result<Datum, ValueFault>
+    ensures { Gives (as_datum (number_of (chars characters.now))) result }
 {
-    if !are_ascii(characters) {
+    if !characters.is_ascii() {
         return Err(ValueFault::Condition(SqlState::INVALID_CAST));
     }
-    let digits = spelled(alloc, characters)?;
-    Ok(of_number(read(digits.as_str()))?)
-}
-
-fn are_ascii(characters: &[char]) -> bool
-    ensures { result ≡ list_all is_ascii characters.now }
-{
-    characters.iter().all(|c| c.is_ascii())
+    Ok(of_number(read(characters))?)
 }
 
 fn read(digits: &str) -> Result<Dec, NumFault>
     ensures { result ≡ number_of digits.now }
 {
     Dec::read(digits)
-}
-
-#[tactic(auto, using(crate::proofs::Quoting::one_more_written))]
-fn spelled(alloc: Global, characters: &[char]) -> Result<String, AllocError>
-    ensures { IfOk result (λ s. string_bytes s ≡ encode_utf8_all characters.now) }
-{
-    let mut text = String::new(alloc);
-    for c in characters {
-        text.push(*c)?;
-    }
-    Ok(text)
-}
-
-fn without_leading(characters: &[char]) -> &[char]
-    ensures { result.now ≡ without_front characters.now }
-{
-    let mut rest = characters;
-    while let Some((' ', after)) = rest.split_first() {
-        rest = after;
-    }
-    rest
-}
-
-#[tactic(auto, using(crate::proofs::Trims::one_blank_off, crate::proofs::Trims::no_blank_left))]
-fn without_trailing(characters: &[char]) -> &[char]
-    ensures { result.now ≡ reverse (without_front (reverse characters.now)) }
-{
-    let mut rest = characters;
-    while let Some((' ', before)) = rest.split_last() {
-        rest = before;
-    }
-    rest
 }
 
 /// What a text is as a number, said of the literals that it spells between its blanks.

@@ -1,7 +1,8 @@
 //! Values: null, numbers and texts.
-ghost use Rattle.std.specs.Prelude.{◌≡◌, ◌++◌, IfOk, OnOk, OnErr, encode_utf8_all, take, vec_len};
+ghost use Rattle.std.specs.Prelude.{◌≡◌, ◌++◌, IfOk, OnOk, OnErr, take, vec_len};
+ghost use Rattle.std.specs.Str.{chars};
 ghost use Rattle.psm_num.specs.Printed.{printed as printed_number};
-ghost use Rattle.psm_value.specs.Printed.{doubled, printed, quoted};
+ghost use Rattle.psm_value.specs.Printed.{printed, quoted};
 
 use psm_num::Dec;
 use psm_text::Text;
@@ -35,7 +36,7 @@ impl Datum {
         match self {
             Datum::Null => out.extend_from_slice(b"NULL"),
             Datum::Num(number) => print_number(*number, out),
-            Datum::Text(text) => print_text(text.chars(), out),
+            Datum::Text(text) => print_text(text.as_str(), out),
         }
     }
 }
@@ -48,8 +49,8 @@ fn print_number(number: Dec, out: &mut Vec<u8>) -> Result<(), AllocError>
     out.extend_from_slice(digits.as_bytes())
 }
 
-fn print_text(characters: &[char], out: &mut Vec<u8>) -> Result<(), AllocError>
-    ensures ok { OnOk result (out.new.items ≡ out.old.items ++ quoted characters.now) }
+fn print_text(characters: &str, out: &mut Vec<u8>) -> Result<(), AllocError>
+    ensures ok { OnOk result (out.new.items ≡ out.old.items ++ quoted (chars characters.now)) }
     ensures err { OnErr result (out.new.items ≡ out.old.items) }
 {
     let len = out.len();
@@ -61,25 +62,18 @@ fn print_text(characters: &[char], out: &mut Vec<u8>) -> Result<(), AllocError>
 }
 
 // After a refusal a part of what is expected stands after what stood there before.
-fn print_quoted(characters: &[char], out: &mut Vec<u8>) -> Result<(), AllocError>
-    ensures ok { OnOk result (out.new.items ≡ out.old.items ++ quoted characters.now) }
+fn print_quoted(characters: &str, out: &mut Vec<u8>) -> Result<(), AllocError>
+    ensures ok { OnOk result (out.new.items ≡ out.old.items ++ quoted (chars characters.now)) }
     ensures err { OnErr result (take (vec_len out.old) out.new.items ≡ out.old.items) }
 {
     out.push(b'\'')?;
-    for c in characters {
-        print_character(*c, out)?;
+    let mut left = characters;
+    while let Some((before, after)) = left.split_once('\'') {
+        out.extend_from_slice(before.as_bytes())?;
+        out.extend_from_slice(b"''")?;
+        left = after;
     }
+    out.extend_from_slice(left.as_bytes())?;
     out.push(b'\'')?;
     Ok(())
-}
-
-// A character within quotes.
-fn print_character(c: char, out: &mut Vec<u8>) -> Result<(), AllocError>
-    ensures ok { OnOk result (out.new.items ≡ out.old.items ++ encode_utf8_all (doubled c)) }
-    ensures err { OnErr result (out.new.items ≡ out.old.items) }
-{
-    if c == '\'' {
-        return out.extend_from_slice(b"''");
-    }
-    out.extend_from_slice(c.encode_utf8(&mut [0; 4]).as_bytes())
 }

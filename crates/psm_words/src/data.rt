@@ -23,7 +23,7 @@ pub fn put_datum(out: &mut Vec<u8>, datum: &Datum) -> Result<(), AllocError>
     match datum {
         Datum::Null => out.extend_from_slice(b"NULL"),
         Datum::Num(number) => put_decimal(out, *number),
-        Datum::Text(text) => put_quoted(out, text.chars()),
+        Datum::Text(text) => put_quoted(out, text.as_str()),
     }
 }
 

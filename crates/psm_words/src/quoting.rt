@@ -35,8 +35,8 @@ enum Step {
 /// Appends a text between single quotes. A character from blank to `~` other than `'` and `\` stands for itself, and any
 /// other is `\{H}` with H its code point in capital hexadecimal digits without leading zeros. Where memory runs out, `out`
 /// is as it was.
-pub fn put_quoted(out: &mut Vec<u8>, characters: &[char]) -> Result<(), AllocError>
-    ensures ok { OnOk result (out.new.items ≡ out.old.items ++ quoted_word characters.now) }
+pub fn put_quoted(out: &mut Vec<u8>, characters: &str) -> Result<(), AllocError>
+    ensures ok { OnOk result (out.new.items ≡ out.old.items ++ quoted_word (chars characters.now)) }
     ensures err { OnErr result (out.new.items ≡ out.old.items) }
 {
     let len = out.len();
@@ -48,13 +48,13 @@ pub fn put_quoted(out: &mut Vec<u8>, characters: &[char]) -> Result<(), AllocErr
 }
 
 // After a refusal a part of what is due stands after what stood there before.
-fn put_characters(out: &mut Vec<u8>, characters: &[char]) -> Result<(), AllocError>
-    ensures ok { OnOk result (out.new.items ≡ out.old.items ++ quoted_word characters.now) }
+fn put_characters(out: &mut Vec<u8>, characters: &str) -> Result<(), AllocError>
+    ensures ok { OnOk result (out.new.items ≡ out.old.items ++ quoted_word (chars characters.now)) }
     ensures err { OnErr result (take (vec_len out.old) out.new.items ≡ out.old.items) }
 {
     out.push(b'\'')?;
-    for c in characters {
-        put_character(out, *c)?;
+    for c in characters.chars() {
+        put_character(out, c)?;
     }
     out.push(b'\'')?;
     Ok(())

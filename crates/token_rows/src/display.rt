@@ -39,7 +39,7 @@ fn put_token(alloc: Global, display: &mut String, token: &Token) -> Result<(), A
         Token::Word(word) => put_word(display, word.is_reserved(), word.text()),
         Token::Name(name) => put_name(display, name.as_str()),
         Token::Number(number) => put_number(alloc, display, *number),
-        Token::Text(text) => put_text(display, text.chars()),
+        Token::Text(text) => put_text(display, text.as_str()),
         Token::Sign(sign) => display.push_str(sign.text()),
     }
 }
@@ -59,12 +59,9 @@ fn put_number(alloc: Global, display: &mut String, number: Dec) -> Result<(), Al
     display.push_str(text.as_str())
 }
 
-fn put_text(display: &mut String, characters: &[char]) -> Result<(), AllocError> {
+fn put_text(display: &mut String, characters: &str) -> Result<(), AllocError> {
     display.push_str("text ")?;
-    for c in characters {
-        display.push(*c)?;
-    }
-    Ok(())
+    display.push_str(characters)
 }
 
 /// A text between brackets, or how long it is.

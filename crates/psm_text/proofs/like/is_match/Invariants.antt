@@ -1,12 +1,17 @@
 use Rattle.std.proofs.Common.{◌+◌, ◌*◌, ◌≤◌, length}
+use denote.Text.{Utf8}
+use denote.Shadow.{shadow}
+use Rattle.std.specs.Str.{chars}
 use Rattle.psm_text.proofs.Retries.{Going, room}
 use Rattle.psm_text.proofs.like.is_match.Given as goal
 
-abbrev pub invariant-loop-rest : goal.invariant-loop-rest
-invariant-loop-rest l = record {
-  going : Going l.escape l.retry l.pattern l.text l.items l.rest;
-  items_within : length l.items ≤ length l.pattern;
+abbrev pub invariant-loop-c : goal.invariant-loop-c
+invariant-loop-c l = record {
+  items_utf8 : shadow (Utf8 l.items);
+  rest_utf8 : shadow (Utf8 l.rest);
+  going : Going l.escape l.retry (chars l.pattern) (chars l.text) (chars l.items) (chars l.rest);
+  items_within : length (chars l.items) ≤ length (chars l.pattern);
 }
 
-abbrev pub decreases-loop-rest : goal.decreases-loop-rest
-decreases-loop-rest l = room l.retry l.text * (length l.pattern + 1) + length l.items
+abbrev pub decreases-loop-c : goal.decreases-loop-c
+decreases-loop-c l = room l.retry (chars l.text) * (length (chars l.pattern) + 1) + length (chars l.items)

@@ -1,8 +1,10 @@
-use Rattle.std.proofs.Common.{refl}
-use Rattle.psm_text.proofs.Positions.{searching_on}
+use Rattle.psm_text.proofs.Positions.{first_found, never_found}
 use Rattle.psm_text.proofs.parts.first_position.Goals as goal
 
-pub loop-left-preserved : goal.loop-left-preserved
-loop-left-preserved c =
-    searching_on c.args.wanted.now c.args.characters.now c.loop-left.left.now c.args.wanted.now c.rest-left.result.now c.loop-left.before c.starts_with.result
-    refl c.loop-left.invariant c.starts_with.ensures.value c.if-starts_with.false c.loop-left-test.true c.rest-left.ensures
+pub returns-in-Some : goal.returns-in-Some
+returns-in-Some c =
+    first_found c.args.wanted.now c.args.s.now c.split_at.result.0.now c.in-Some.at c.in-Some.ensures.cases.0 c.count.result c.utf8.wanted c.utf8.s
+    c.in-Some.ensures.cases.1 c.in-Some.ensures.cases.3 c.in-Some.ensures.cases.4 c.split_at.ensures.front c.count.ensures
+
+pub returns-in-None : goal.returns-in-None
+returns-in-None c = never_found c.args.wanted.now c.args.s.now c.utf8.wanted c.utf8.s c.in-None.ensures.cases

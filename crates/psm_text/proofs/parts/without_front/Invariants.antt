@@ -1,12 +1,16 @@
 use Rattle.std.proofs.Common.{length, ◌≤◌}
+use denote.Text.{Utf8}
+use denote.Shadow.{shadow}
+use Rattle.std.specs.Str.{chars}
 use Rattle.psm_text.proofs.Trims.{Front}
 use Rattle.psm_text.proofs.parts.without_front.Given as goal
 
-abbrev pub invariant-loop-left : goal.invariant-loop-left
-invariant-loop-left l = record {
-  parts : Front l.characters l.left;
-  shorter : length l.left ≤ length l.characters;
+abbrev pub invariant-loop-after : goal.invariant-loop-after
+invariant-loop-after l = record {
+  utf8 : shadow (Utf8 l.left);
+  parts : Front (chars l.s) (chars l.left);
+  shorter : length (chars l.left) ≤ length (chars l.s);
 }
 
-abbrev pub decreases-loop-left : goal.decreases-loop-left
-decreases-loop-left l = length l.left
+abbrev pub decreases-loop-after : goal.decreases-loop-after
+decreases-loop-after l = length (chars l.left)

@@ -1,8 +1,14 @@
-use Rattle.std.proofs.Common.{◌≡◌, ◌++◌, take}
-use Rattle.std.specs.Prelude.{encode_utf8_all}
-use Rattle.std.specs.List.{flat_map}
-use Rattle.psm_value.specs.Printed.{doubled}
+use Rattle.std.proofs.Common.{length}
+use denote.Text.{Utf8}
+use denote.Shadow.{shadow}
+use Rattle.psm_value.proofs.Quoting.{Quoting}
 use Rattle.psm_value.proofs.datum.print_quoted.Given as goal
 
-abbrev pub invariant-loop-c : goal.invariant-loop-c
-invariant-loop-c l = l.out.items ≡ l.initial.out.items ++ encode_utf8_all (flat_map doubled (take l.c-index l.characters))
+abbrev pub invariant-loop-before : goal.invariant-loop-before
+invariant-loop-before l = record {
+  utf8 : shadow (Utf8 l.left);
+  quoting : Quoting l.initial.out.items l.out.items l.characters l.left;
+}
+
+abbrev pub decreases-loop-before : goal.decreases-loop-before
+decreases-loop-before l = length l.left
