@@ -1,4 +1,3 @@
-pub mod Characters
 pub mod LineCounts
 pub mod LinesInOrder
 pub mod Mnemonics

@@ -62,11 +62,6 @@ quoted_end (Ok x) text after before kept quote i past e h =
     e ∙ ap (λ (t : List ℕ). t ++ quote ∷ []) all ∙ append_assoc before (quote ∷ doubled quote kept) (quote ∷ [])
 quoted_end (Err x) text after before kept quote i past e h = tt
 
--- ---- the characters of a name
-
-pub named_chars : (n bs : List ℕ) → bs ≡ encode_utf8_all n → IsUtf8 bs → chars bs ≡ n
-named_chars n bs e u = encodes_same (chars bs) n (encodes-chars bs u ∙ e)
-
 -- ---- the characters of a printed number
 
 zeros_ascii : (k : ℕ) → IsAscii (replicate k 48)

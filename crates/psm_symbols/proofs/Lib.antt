@@ -1,2 +1,3 @@
 pub mod EachColumn
 pub mod OneSuccessor
+pub mod StateBytes
