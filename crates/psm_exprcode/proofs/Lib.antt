@@ -2,7 +2,6 @@ pub mod Among
 pub mod Changing
 pub mod Likes
 pub mod OnTop
-pub mod Positions
 pub mod Replacing
 pub mod Results
 pub mod Running
@@ -10,5 +9,4 @@ pub mod Sharing
 pub mod Standing
 pub mod Stepping
 pub mod Stripping
-pub mod Trimming
 pub mod Types

@@ -2,7 +2,7 @@
 use Rattle.std.proofs.Common.{◌≡◌, ℕ, zero, suc, ◌<◌, Bool, true, ◌&&◌, List, [], ◌∷◌, ◌++◌, length, refl, ap, sym, ◌∙◌, arith, Some, None, Result, Ok, leb-true, append_assoc}
 use Rattle.std.specs.Prelude.{slice_get, replicate}
 use Rattle.psm_num.proofs.Literals.{and_first, and_second}
-use Rattle.psm_text.specs.Parts.{upper_of, lower_of}
+use Rattle.psm_text.specs.Parts.{upper_of, lower_of, trimmed_of}
 use Rattle.psm_value.specs.declared.datum.Datum.{Datum}
 use Rattle.psm_value.specs.declared.datum.Datum.TheVariants as data_of
 use Rattle.psm_value.specs.declared.truth.Truth.{Truth as Answer}
@@ -24,7 +24,6 @@ use Rattle.psm_exprcode.specs.Comparison.{truth_of, tested, between, among, unle
 use Rattle.psm_exprcode.specs.Fits.{are_values, is_over_value, finds, IsNamed, IsWithin, Fits}
 use Rattle.psm_exprcode.specs.Kinds.{is_value, has_letter, letter_of, is_of, are_of, have}
 use Rattle.psm_exprcode.specs.Operations.{effect}
-use Rattle.psm_exprcode.specs.Texts.{trim_of}
 use Rattle.psm_exprcode.specs.Values.{rescaled, concatenated, length_of, position_of, part_from, part_of, on_text, like, like_escaped}
 use Rattle.psm_exprcode.specs.WellFormed.{is_bounded, is_known, is_of_kind}
 use Rattle.psm_exprcode.proofs.Results.{sum-gives, difference-gives, product-gives, quotient-gives, negated-gives, rescaled-gives, concatenated-gives, length-gives, position-gives, part_from-gives, part_of-gives, on_text-gives, unless_equal-gives, cast-gives}
@@ -141,7 +140,7 @@ op_leads op.SubstringFrom k x rest os row vars v b n h =
     on_two-leads (Leads (Some (T ∷ [])) None rest) T N rest os (λ a b below. with_value below (part_from a b)) refl refl h (λ a b below ha i. value_puts T rest below (part_from a b) (part_from-gives a b) i)
 op_leads op.SubstringFromFor k x rest os row vars v b n h =
     on_three-leads (Leads (Some (T ∷ [])) None rest) T N N rest os (λ a b c below. with_value below (part_of a b c)) refl refl refl h (λ a b c below i. value_puts T rest below (part_of a b c) (part_of-gives a b c) i)
-op_leads (op.Trim side) k x rest os row vars v b n h = changes T T rest os (λ a. Ok (on_text (trim_of side) a)) refl (on_text-gives (trim_of side)) h
+op_leads (op.Trim side) k x rest os row vars v b n h = changes T T rest os (λ a. Ok (on_text (trimmed_of side) a)) refl (on_text-gives (trimmed_of side)) h
 op_leads op.Upper k x rest os row vars v b n h = changes T T rest os (λ a. Ok (on_text upper_of a)) refl (on_text-gives upper_of) h
 op_leads op.Lower k x rest os row vars v b n h = changes T T rest os (λ a. Ok (on_text lower_of a)) refl (on_text-gives lower_of) h
 op_leads op.Equal k x rest os row vars v b n h = compares k rest os test.Equal v h

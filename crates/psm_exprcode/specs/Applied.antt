@@ -5,7 +5,7 @@ use Rattle.psm_value.specs.declared.truth.Truth.{Truth as Answer}
 use Rattle.psm_value.specs.Arithmetic.{sum_of, difference_of, product_of, quotient_of, negated_of}
 use Rattle.psm_value.specs.Cast.{cast_of}
 use Rattle.psm_value.specs.Truth.{both, either, opposite, is_certain}
-use Rattle.psm_text.specs.Parts.{upper_of, lower_of}
+use Rattle.psm_text.specs.Parts.{upper_of, lower_of, trimmed_of}
 use Rattle.psm_exprcode.specs.declared.comparing.Test.{Test}
 use Rattle.psm_exprcode.specs.declared.comparing.Test.TheVariants as test
 use Rattle.psm_exprcode.specs.declared.op.Op.{Op}
@@ -15,7 +15,6 @@ use Rattle.psm_exprcode.specs.declared.operand.Operand.TheVariants.{Value, Truth
 use Rattle.psm_exprcode.specs.declared.operand.Next.{Next}
 use Rattle.psm_exprcode.specs.declared.operand.Next.TheVariants.{FallThrough, Jump}
 use Rattle.psm_exprcode.specs.Comparison.{truth_of, tested, between, among, unless_equal, is_null}
-use Rattle.psm_exprcode.specs.Texts.{trim_of}
 use Rattle.psm_exprcode.specs.Values.{rescaled, concatenated, length_of, position_of, part_from, part_of, on_text, like, like_escaped}
 
 -- an operation goes on with these operands, raises the condition of an SQLSTATE, or is stuck without an operand or a value
@@ -113,7 +112,7 @@ applied op.CharacterLength os row vars = value_of_one length_of os
 applied op.Position os row vars = value_of_two (λ part t. Ok (position_of part t)) os
 applied op.SubstringFrom os row vars = value_of_two part_from os
 applied op.SubstringFromFor os row vars = on_three (λ t position count below. with_value below (part_of t position count)) os
-applied (op.Trim side) os row vars = value_of_one (on_text (trim_of side)) os
+applied (op.Trim side) os row vars = value_of_one (on_text (trimmed_of side)) os
 applied op.Upper os row vars = value_of_one (on_text upper_of) os
 applied op.Lower os row vars = value_of_one (on_text lower_of) os
 applied op.Equal os row vars = compares test.Equal os

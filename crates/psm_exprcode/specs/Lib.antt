@@ -9,7 +9,6 @@ pub mod Numbered
 pub mod Operations
 pub mod Stacks
 pub mod Table
-pub mod Texts
 pub mod Values
 pub mod Ways
 pub mod WellFormed

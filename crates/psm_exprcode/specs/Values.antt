@@ -4,8 +4,8 @@ use Rattle.std.specs.Prelude.{ℕ, ℤ, pos, List, length, Some, None, Bool, Res
 use Rattle.psm_num.specs.Num as num
 use Rattle.psm_num.specs.Arithmetic.{at_scale}
 use Rattle.psm_text.specs.declared.fault.TextFault.{TextFault}
-use Rattle.psm_text.specs.Like.{escape_of}
-use Rattle.psm_text.specs.Parts.{joined, substring_of}
+use Rattle.psm_text.specs.Like.{escape_of, like_answer}
+use Rattle.psm_text.specs.Parts.{joined, position_of as first_position, substring_of}
 use Rattle.psm_value.specs.declared.datum.Datum.{Datum}
 use Rattle.psm_value.specs.declared.datum.Datum.TheVariants.{Null, Num, Text}
 use Rattle.psm_value.specs.declared.truth.Truth.{Truth}
@@ -13,7 +13,6 @@ use Rattle.psm_value.specs.declared.truth.Truth.TheVariants.{Unknown}
 use Rattle.psm_value.specs.Arithmetic.{as_datum}
 use Rattle.psm_value.specs.TextFaults.{state_of, as_text}
 use Rattle.psm_exprcode.specs.Comparison.{truth_of}
-use Rattle.psm_exprcode.specs.Texts.{first_position, like_of}
 
 -- a number of characters as a value
 abbrev pub whole : ℕ → Datum
@@ -85,7 +84,7 @@ as_truth (Err fault) = Err (state_of fault)
 
 -- text LIKE pattern
 abbrev pub like : Datum → Datum → Result Truth (List ℕ)
-like (Text t) (Text pattern) = as_truth (like_of (Ok None) pattern t)
+like (Text t) (Text pattern) = as_truth (like_answer (Ok None) pattern t)
 like (Text t) Null = Ok Unknown
 like (Text t) (Num n) = Ok Unknown
 like Null pattern = Ok Unknown
@@ -93,7 +92,7 @@ like (Num n) pattern = Ok Unknown
 
 -- text LIKE pattern ESCAPE escape
 abbrev pub like_escaped_text : List ℕ → Datum → Datum → Result Truth (List ℕ)
-like_escaped_text t (Text pattern) (Text escape) = as_truth (like_of (escape_of (Some escape)) pattern t)
+like_escaped_text t (Text pattern) (Text escape) = as_truth (like_answer (escape_of (Some escape)) pattern t)
 like_escaped_text t (Text pattern) Null = Ok Unknown
 like_escaped_text t (Text pattern) (Num n) = Ok Unknown
 like_escaped_text t Null escape = Ok Unknown

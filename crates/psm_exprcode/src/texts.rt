@@ -1,12 +1,11 @@
 //! Operations on texts (ISO/IEC 9075:1992, 6.6, 6.7, 6.13 and 8.5). Null comes first in each.
 ghost use Rattle.std.specs.Prelude.{◌≡◌, ◌<◌, ◌^◌, ℤ, reverse, unsigned_abs, IsTrue, IfOk, Ok, Some, length};
 ghost use Rattle.std.specs.Option.{option_copied};
-ghost use Rattle.psm_text.specs.Like.{escape_of};
-ghost use Rattle.psm_text.specs.Parts.{upper_of, lower_of, substring_of};
+ghost use Rattle.psm_text.specs.Like.{escape_of, like_answer};
+ghost use Rattle.psm_text.specs.Parts.{upper_of, lower_of, substring_of, trimmed_of};
 ghost use Rattle.psm_value.specs.Answer.{Gives};
 ghost use Rattle.psm_exprcode.specs.Applied.{value_of_one, value_of_two, on_two, on_three, with_value, with_truth};
 ghost use Rattle.psm_exprcode.specs.Fits.{are_values, Carries};
-ghost use Rattle.psm_exprcode.specs.Texts.{first_position, trim_of, like_of};
 ghost use Rattle.psm_exprcode.specs.Values.{as_truth, whole, concatenated, length_of, position_of, cut_of, part_from, part_of, on_text, like, like_escaped};
 
 use crate::comparing::decided;
@@ -81,16 +80,9 @@ fn find(part: &Datum, text: &Datum) -> Datum
     ensures { result ≡ position_of part.now text.now }
 {
     match (part, text) {
-        (Datum::Text(part), Datum::Text(text)) => whole_number(position(part, text)),
+        (Datum::Text(part), Datum::Text(text)) => whole_number(text.position(part)),
         _ => Datum::Null,
     }
-}
-
-#[tactic(auto, using(crate::proofs::Positions::position_is))]
-fn position(part: &Text, text: &Text) -> u32
-    ensures { result ≡ first_position part.now text.now }
-{
-    text.position(part)
 }
 
 #[inline(never)]
@@ -155,7 +147,7 @@ pub(crate) fn trim_one(
     side: Side,
 ) -> Result<Next, ValueFault>
     requires { IsTrue (are_values 1 (reverse operands.old.items)) }
-    ensures { Carries 1 (value_of_one (on_text (trim_of side))) operands.old result operands.new }
+    ensures { Carries 1 (value_of_one (on_text (trimmed_of side))) operands.old result operands.new }
 {
     let text = pop_value(operands);
     put_value(operands, trim(alloc, &text, side)?)?;
@@ -163,19 +155,12 @@ pub(crate) fn trim_one(
 }
 
 fn trim(alloc: Global, text: &Datum, side: Side) -> Result<Datum, AllocError>
-    ensures { IfOk result (λ d. d ≡ on_text (trim_of side) text.now) }
+    ensures { IfOk result (λ d. d ≡ on_text (trimmed_of side) text.now) }
 {
     match text {
-        Datum::Text(text) => Ok(Datum::Text(trim_text(alloc, text, side)?)),
+        Datum::Text(text) => Ok(Datum::Text(text.trim(alloc, side)?)),
         _ => Ok(Datum::Null),
     }
-}
-
-#[tactic(auto, using(crate::proofs::Trimming::trim_is))]
-fn trim_text(alloc: Global, text: &Text, side: Side) -> Result<Text, AllocError>
-    ensures { IfOk result (λ t. t ≡ trim_of side text.now) }
-{
-    text.trim(alloc, side)
 }
 
 #[inline(never)]
@@ -258,7 +243,7 @@ fn liken_escaped(text: &Datum, pattern: &Datum, escape: &Datum) -> Result<Truth,
 
 #[tactic(auto, using(crate::proofs::Likes::liked_ok, crate::proofs::Likes::liked_err))]
 fn liken_texts(text: &Text, pattern: &Text, escape: Option<&Text>) -> Result<Truth, ValueFault>
-    ensures { Gives (as_truth (like_of (escape_of (option_copied escape.entry)) pattern.now text.now)) result }
+    ensures { Gives (as_truth (like_answer (escape_of (option_copied escape.entry)) pattern.now text.now)) result }
 {
     Ok(decided(text.like(pattern, escape)?))
 }

@@ -5,7 +5,7 @@ use Rattle.std.specs.declared.alloc.AllocError.{AllocError}
 use Rattle.psm_num.specs.Num.{Num}
 use Rattle.psm_num.proofs.Literals.{and_first, and_second}
 use Rattle.psm_text.specs.declared.parts.Side.{Side}
-use Rattle.psm_text.specs.Parts.{upper_of, lower_of}
+use Rattle.psm_text.specs.Parts.{upper_of, lower_of, trimmed_of}
 use Rattle.psm_value.specs.declared.datum.Datum.{Datum}
 use Rattle.psm_value.specs.declared.datum.Datum.TheVariants as data_of
 use Rattle.psm_value.specs.declared.sqltype.SqlType.{SqlType}
@@ -23,7 +23,6 @@ use Rattle.psm_exprcode.specs.Applied.{Applied, with_value, with_truth, with_nam
 use Rattle.psm_exprcode.specs.Comparison.{truth_of, between, unless_equal, is_null}
 use Rattle.psm_exprcode.specs.Evaluated.{Outcome}
 use Rattle.psm_exprcode.specs.Kinds.{is_letter, is_value, some_value, letter_of}
-use Rattle.psm_exprcode.specs.Texts.{trim_of}
 use Rattle.psm_exprcode.specs.Values.{length_of, position_of, part_from, part_of, on_text, like, like_escaped}
 use Rattle.psm_exprcode.specs.WellFormed.{is_type, is_known, is_of_kind}
 use Rattle.psm_exprcode.proofs.Stripping.{is_letter-self, is_letter-same}
@@ -189,8 +188,8 @@ trim_written columns variables e a side o l w0 w1 w2 r q p m x y = written_ok co
     let s = where_true_inverted (row_type_of columns variables e) (is_of T (row_type_of columns variables a)) T k (ap (row_type_of columns variables) q ∙ row_type-Trim columns variables side a) h in
     subst (λ i. Adds (is_of_kind columns variables) (k ∷ []) (puts_value e) w0 (with_op w1 i 1 l)) (sym p) (subst (λ i. Adds (is_of_kind columns variables) (k ∷ []) (puts_value e) w0 (with_op w1 (op.Trim side) 1 i)) (sym m)
     (relabel (is_of_kind columns variables) T k (puts_value e) w0 (with_op w1 (op.Trim side) 1 T) s.1
-    (one_adds (is_of_kind columns variables) T T (op.Trim side) (λ a. valued (Ok (on_text (trim_of side) a))) (λ row vars. row_value row vars a) (λ row vars. row_value row vars e) w0 w1 (record { kind = T; other = N; bounded = refl; is_kind = refl; allowed = refl; takes_is = refl; puts_is = refl; branch_is = refl })
-    (λ row vars os. one_fall_through (λ d below. with_value below (Ok (on_text (trim_of side) d))) (λ d. valued (Ok (on_text (trim_of side) d))) (λ d below. value_fall_through below (Ok (on_text (trim_of side) d))) os) (λ row vars. ap (row_value row vars) q ∙ value-Trim row vars side a) (x T s.0)))))
+    (one_adds (is_of_kind columns variables) T T (op.Trim side) (λ a. valued (Ok (on_text (trimmed_of side) a))) (λ row vars. row_value row vars a) (λ row vars. row_value row vars e) w0 w1 (record { kind = T; other = N; bounded = refl; is_kind = refl; allowed = refl; takes_is = refl; puts_is = refl; branch_is = refl })
+    (λ row vars os. one_fall_through (λ d below. with_value below (Ok (on_text (trimmed_of side) d))) (λ d. valued (Ok (on_text (trimmed_of side) d))) (λ d below. value_fall_through below (Ok (on_text (trimmed_of side) d))) os) (λ row vars. ap (row_value row vars) q ∙ value-Trim row vars side a) (x T s.0)))))
 
 function_rule : (columns variables : List Letter) (function : TextFunction) → Rule (is_of_kind columns variables) (op_of_function function) (T ∷ []) (Some (row_type.function_of function ∷ [])) None
 function_rule columns variables functions.CharLength = record { kind = T; other = N; bounded = refl; is_kind = refl; allowed = refl; takes_is = refl; puts_is = refl; branch_is = refl }

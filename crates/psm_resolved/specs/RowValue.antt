@@ -5,7 +5,7 @@ use Rattle.std.specs.Prelude.{ℕ, Bool, List, [], ◌∷◌, map, slice_get, Op
 use Rattle.std.specs.Ordering.{is_eq, is_ne, is_lt, is_le, is_gt, is_ge}
 use Rattle.std.specs.declared.cmp.Ordering.{Ordering}
 use Rattle.psm_list.specs.Several.{Several}
-use Rattle.psm_text.specs.Parts.{upper_of, lower_of}
+use Rattle.psm_text.specs.Parts.{upper_of, lower_of, trimmed_of}
 use Rattle.psm_value.specs.declared.datum.Datum.{Datum}
 use Rattle.psm_value.specs.declared.datum.Datum.TheVariants as data_of
 use Rattle.psm_value.specs.declared.truth.Truth.{Truth as Answer}
@@ -16,7 +16,6 @@ use Rattle.psm_value.specs.Order.{compared}
 use Rattle.psm_value.specs.Truth.{both, either, opposite}
 use Rattle.psm_exprcode.specs.Comparison.{truth_of, between, among, unless_equal, is_null}
 use Rattle.psm_exprcode.specs.Evaluated.{Outcome}
-use Rattle.psm_exprcode.specs.Texts.{trim_of}
 use Rattle.psm_exprcode.specs.Values.{concatenated, length_of, position_of, part_from, part_of, on_text, like, like_escaped}
 use Rattle.psm_resolved.specs.declared.expr.Comparison.{Comparison}
 use Rattle.psm_resolved.specs.declared.expr.Comparison.TheVariants as comparisons
@@ -136,7 +135,7 @@ value_layer row vars (layers.NullIf left right) = of_two (λ a b. valued (Ok (un
 value_layer row vars (layers.Function function argument) = of_one (λ a. valued (Ok (function_of function a))) argument
 value_layer row vars (layers.Position part whole) = of_two (λ a b. valued (Ok (position_of a b))) part whole
 value_layer row vars (layers.Substring text from length) = part text from length
-value_layer row vars (layers.Trim side text) = of_one (λ a. valued (Ok (on_text (trim_of side) a))) text
+value_layer row vars (layers.Trim side text) = of_one (λ a. valued (Ok (on_text (trimmed_of side) a))) text
 
 abbrev pub items_none : ResolvedItems-F Outcome (Unit {0}) (Unit {0}) (Operator × Outcome) (Unit {0}) (Outcome × Outcome) → Unit {0}
 items_none items = tt

@@ -2,7 +2,7 @@
 use Rattle.std.proofs.Common.{◌≡◌, ℕ, suc, Bool, true, List, [], ◌∷◌, length, map, refl, ap, sym, Option, Some, None, Result, Ok}
 use Rattle.std.specs.Prelude.{slice_get}
 use Rattle.psm_list.specs.Several.{Several}
-use Rattle.psm_text.specs.Parts.{upper_of, lower_of}
+use Rattle.psm_text.specs.Parts.{upper_of, lower_of, trimmed_of}
 use Rattle.psm_value.specs.declared.datum.Datum.{Datum}
 use Rattle.psm_value.specs.declared.truth.Truth.{Truth as Answer}
 use Rattle.psm_value.specs.Arithmetic.{negated_of}
@@ -16,7 +16,6 @@ use Rattle.psm_exprcode.specs.Applied as taking
 use Rattle.psm_exprcode.specs.Comparison.{between, is_null, truth_of, unless_equal}
 use Rattle.psm_exprcode.specs.Comparison as comparison
 use Rattle.psm_exprcode.specs.Evaluated.{Outcome}
-use Rattle.psm_exprcode.specs.Texts.{trim_of}
 use Rattle.psm_exprcode.specs.Values.{length_of, like, like_escaped, on_text, part_from, part_of, position_of}
 use Rattle.psm_resolved.specs.declared.expr.ResolvedExpr.{ResolvedExpr}
 use Rattle.psm_resolved.specs.declared.expr.ResolvedExpr.TheOpen as layers
@@ -145,7 +144,7 @@ module _ (file : ResolvedFile) (code : RawCode) (r : RawRoutine) (k following : 
   gives-straight (layers.Substring text from (Some length)) s pc mid end p l below =
       gives-three text from length (operations_of (layers.Substring text from (Some length))) pc mid end below p l (λ x y z. layers.Substring x y (Some z)) (λ x y z vars. performed-one ops.SubstringFromFor (z ∷ y ∷ x ∷ below) vars (put (value_layer [] vars (layers.Substring (there x) (there y) (Some (there z)))) below) (value_three part_of x y z below))
   gives-straight (layers.Trim side text) s pc mid end p l below =
-      gives-one text (operations_of (layers.Trim side text)) pc mid end below p l (λ x. layers.Trim side x) (λ x vars. performed-one (ops.Trim side) (x ∷ below) vars (put (value_layer [] vars (layers.Trim side (there x))) below) (value_one (λ a. Ok (on_text (trim_of side) a)) x below))
+      gives-one text (operations_of (layers.Trim side text)) pc mid end below p l (λ x. layers.Trim side x) (λ x vars. performed-one (ops.Trim side) (x ∷ below) vars (put (value_layer [] vars (layers.Trim side (there x))) below) (value_one (λ a. Ok (on_text (trimmed_of side) a)) x below))
   gives-straight layers.Null s pc mid end p l below = absurd (cc)
   gives-straight (layers.Column i) s pc mid end p l below = absurd (cc)
   gives-straight (layers.LogicalOperator j operands) s pc mid end p l below = absurd (cc)

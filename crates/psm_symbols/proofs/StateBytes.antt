@@ -1,5 +1,5 @@
 -- The bytes of an SQLSTATE are its characters.
-use Rattle.std.proofs.Common.{◌≡◌, ℕ, zero, suc, ◌<◌, ◌≤◌, ◌&&◌, ◌||◌, Bool, true, false, not, cond, List, [], ◌∷◌, length, nat_eq, ap, sym, ◌∙◌, arith, inl, inr, Option, Some, None}
+use Rattle.std.proofs.Common.{◌≡◌, ℕ, zero, suc, ◌<◌, ◌≤◌, ◌&&◌, ◌||◌, Bool, true, false, not, cond, List, [], ◌∷◌, length, nat_eq, nat_le, ap, sym, ◌∙◌, arith, inl, inr, Option, Some, None}
 use Rattle.std.specs.Char.{is_ascii_digit, is_ascii_uppercase}
 use Rattle.std.specs.List.{list_all}
 use Rattle.std.specs.Str.{chars, IsAscii, IsUtf8}
@@ -10,8 +10,8 @@ use Rattle.psm_rules.specs.StatementFaults.{good_state, is_state, is_success}
 
 character_low : (c : ℕ) → is_state_character c ≡ true → c < 128
 character_low c h = elim (or_cases (is_ascii_digit c) (is_ascii_uppercase c) h) as (λ _. c < 128) [
-  | inl d ↦ omega (arith, leb-true c 57 (and_parts _ _ d).1)
-  | inr u ↦ omega (arith, leb-true c 90 (and_parts _ _ u).1)
+  | inl d ↦ omega (arith, leb-true c 57 (and_parts (nat_le 48 c) (nat_le c 57) d).1)
+  | inr u ↦ omega (arith, leb-true c 90 (and_parts (nat_le 65 c) (nat_le c 90) u).1)
 ]
 
 are_ascii : (t : List ℕ) → list_all is_state_character t ≡ true → IsAscii t

@@ -6,7 +6,7 @@ use Rattle.psm_num.proofs.Literals.{and_first, and_second}
 use Rattle.psm_value.specs.declared.datum.Datum.{Datum}
 use Rattle.psm_value.specs.Arithmetic.{difference_of, negated_of, product_of, quotient_of, sum_of}
 use Rattle.psm_value.specs.Cast.{cast_of}
-use Rattle.psm_text.specs.Parts.{lower_of, upper_of}
+use Rattle.psm_text.specs.Parts.{lower_of, upper_of, trimmed_of}
 use Rattle.psm_exprcode.specs.declared.op.Line.{Line}
 use Rattle.psm_exprcode.specs.declared.op.Op.{Op}
 use Rattle.psm_exprcode.specs.declared.op.Op.TheVariants as op
@@ -15,7 +15,6 @@ use Rattle.psm_exprcode.specs.declared.operand.Operand.TheVariants.{Value, Truth
 use Rattle.psm_exprcode.specs.declared.operand.Next.TheVariants.{FallThrough, Jump}
 use Rattle.psm_exprcode.specs.Applied.{applied, on_three, on_two, on_value, with_value, Applied, Went, Raised, Stuck}
 use Rattle.psm_exprcode.specs.Comparison.{unless_equal}
-use Rattle.psm_exprcode.specs.Texts.{trim_of}
 use Rattle.psm_exprcode.specs.Values.{concatenated, length_of, on_text, part_from, part_of, position_of, rescaled}
 use Rattle.psm_exprcode.specs.Evaluated.{ended, evaluated, goes_on, line_after, ran, Outcome}
 use Rattle.psm_exprcode.specs.Fits.{are_values, finds, Fits, IsNamed, IsWithin}
@@ -152,7 +151,7 @@ module _ (row vars : List Datum) where
   fold_says n op.Position e = two_says n op.Position (λ part t. Ok (position_of part t)) (λ os r v. refl) e (λ os. refl) tt tt
   fold_says n op.SubstringFrom e = two_says n op.SubstringFrom part_from (λ os r v. refl) e (λ os. refl) tt tt
   fold_says n op.SubstringFromFor e = three_says n op.SubstringFromFor part_of (λ os r v. refl) e (λ os. refl) tt tt
-  fold_says n (op.Trim side) e = one_says n (op.Trim side) (λ a. Ok (on_text (trim_of side) a)) (λ os r v. refl) e (λ os. refl) tt tt
+  fold_says n (op.Trim side) e = one_says n (op.Trim side) (λ a. Ok (on_text (trimmed_of side) a)) (λ os r v. refl) e (λ os. refl) tt tt
   fold_says n op.Upper e = one_says n op.Upper (λ a. Ok (on_text upper_of a)) (λ os r v. refl) e (λ os. refl) tt tt
   fold_says n op.Lower e = one_says n op.Lower (λ a. Ok (on_text lower_of a)) (λ os r v. refl) e (λ os. refl) tt tt
   fold_says n op.Equal e = absurd cc

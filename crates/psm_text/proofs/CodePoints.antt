@@ -16,26 +16,34 @@ lower x y a b h = ap (λ r. ordering_then r (slice_cmp nat_cmp a b)) (ap (λ t. 
 same : (x y : ℕ) (a b : List ℕ) → x ≡ y → slice_cmp nat_cmp a b ≡ Less → slice_cmp nat_cmp (x ∷ a) (y ∷ b) ≡ Less
 same x y a b e h = ap (λ r. ordering_then r (slice_cmp nat_cmp a b)) (ap (λ z. nat_cmp x z) (sym e) ∙ tied_itself nat_cmp_total x) ∙ h
 
+lower_next : (c d : ℕ) (a b : List ℕ) → c % 64 < d % 64 → slice_cmp nat_cmp (next c ∷ a) (next d ∷ b) ≡ Less
+lower_next c d a b h =
+    let l : 128 + c % 64 < 128 + d % 64 = omega (arith, h) in
+    lower (128 + c % 64) (128 + d % 64) a b l
+
 -- of two numbers the lower one has lower digits in front, or the same and a lower last one
-digits : (c d : ℕ) → c < d → (c / 64 < d / 64) ⊎ ((c / 64 ≡ d / 64) × (next c < next d))
-digits c d h = elim (cases_lt (c / 64) (d / 64)) as (λ _. (c / 64 < d / 64) ⊎ ((c / 64 ≡ d / 64) × (next c < next d))) [
+digits : (c d : ℕ) → c < d → (c / 64 < d / 64) ⊎ ((c / 64 ≡ d / 64) × (c % 64 < d % 64))
+digits c d h = elim (cases_lt (c / 64) (d / 64)) as (λ _. (c / 64 < d / 64) ⊎ ((c / 64 ≡ d / 64) × (c % 64 < d % 64))) [
   | inl l ↦ inl l
-  | inr l ↦ inr (omega (arith, h, l), omega (arith, h, l))
+  | inr l ↦
+      let e : c / 64 ≡ d / 64 = omega (arith, h, l) in
+      let g : c % 64 < d % 64 = omega (arith, h, l) in
+      inr (e, g)
 ]
 
 two_less : (c d : ℕ) (a b : List ℕ) → c < d → slice_cmp nat_cmp ((192 + c / 64) ∷ next c ∷ a) ((192 + d / 64) ∷ next d ∷ b) ≡ Less
 two_less c d a b h = elim (digits c d h) as (λ _. slice_cmp nat_cmp ((192 + c / 64) ∷ next c ∷ a) ((192 + d / 64) ∷ next d ∷ b) ≡ Less) [
   | inl l ↦ lower (192 + c / 64) (192 + d / 64) (next c ∷ a) (next d ∷ b) (omega (arith, l))
-  | inr p ↦ same (192 + c / 64) (192 + d / 64) (next c ∷ a) (next d ∷ b) (omega (arith, p.0)) (lower (next c) (next d) a b p.1)
+  | inr p ↦ same (192 + c / 64) (192 + d / 64) (next c ∷ a) (next d ∷ b) (omega (arith, p.0)) (lower_next c d a b p.1)
 ]
 
 three_less : (c d : ℕ) (a b : List ℕ) → c < d → slice_cmp nat_cmp ((224 + c / 4096) ∷ next (c / 64) ∷ next c ∷ a) ((224 + d / 4096) ∷ next (d / 64) ∷ next d ∷ b) ≡ Less
 three_less c d a b h = elim (digits c d h) as (λ _. slice_cmp nat_cmp ((224 + c / 4096) ∷ next (c / 64) ∷ next c ∷ a) ((224 + d / 4096) ∷ next (d / 64) ∷ next d ∷ b) ≡ Less) [
   | inl l ↦ elim (digits (c / 64) (d / 64) l) as (λ _. slice_cmp nat_cmp ((224 + c / 4096) ∷ next (c / 64) ∷ next c ∷ a) ((224 + d / 4096) ∷ next (d / 64) ∷ next d ∷ b) ≡ Less) [
     | inl m ↦ lower (224 + c / 4096) (224 + d / 4096) (next (c / 64) ∷ next c ∷ a) (next (d / 64) ∷ next d ∷ b) (omega (arith, m))
-    | inr p ↦ same (224 + c / 4096) (224 + d / 4096) (next (c / 64) ∷ next c ∷ a) (next (d / 64) ∷ next d ∷ b) (omega (arith, p.0)) (lower (next (c / 64)) (next (d / 64)) (next c ∷ a) (next d ∷ b) p.1)
+    | inr p ↦ same (224 + c / 4096) (224 + d / 4096) (next (c / 64) ∷ next c ∷ a) (next (d / 64) ∷ next d ∷ b) (omega (arith, p.0)) (lower_next (c / 64) (d / 64) (next c ∷ a) (next d ∷ b) p.1)
   ]
-  | inr p ↦ same (224 + c / 4096) (224 + d / 4096) (next (c / 64) ∷ next c ∷ a) (next (d / 64) ∷ next d ∷ b) (omega (arith, p.0)) (same (next (c / 64)) (next (d / 64)) (next c ∷ a) (next d ∷ b) (ap next p.0) (lower (next c) (next d) a b p.1))
+  | inr p ↦ same (224 + c / 4096) (224 + d / 4096) (next (c / 64) ∷ next c ∷ a) (next (d / 64) ∷ next d ∷ b) (omega (arith, p.0)) (same (next (c / 64)) (next (d / 64)) (next c ∷ a) (next d ∷ b) (ap next p.0) (lower_next c d a b p.1))
 ]
 
 four_less : (c d : ℕ) (a b : List ℕ) → c < d → slice_cmp nat_cmp ((240 + c / 262144) ∷ next (c / 4096) ∷ next (c / 64) ∷ next c ∷ a) ((240 + d / 262144) ∷ next (d / 4096) ∷ next (d / 64) ∷ next d ∷ b) ≡ Less
@@ -44,7 +52,7 @@ four_less c d a b h = elim (digits c d h) as (λ _. slice_cmp nat_cmp ((240 + c 
   | inr p ↦
       same (240 + c / 262144) (240 + d / 262144) (next (c / 4096) ∷ next (c / 64) ∷ next c ∷ a) (next (d / 4096) ∷ next (d / 64) ∷ next d ∷ b) (omega (arith, p.0))
       (same (next (c / 4096)) (next (d / 4096)) (next (c / 64) ∷ next c ∷ a) (next (d / 64) ∷ next d ∷ b) (let e : c / 4096 ≡ d / 4096 = omega (arith, p.0) in ap next e)
-      (same (next (c / 64)) (next (d / 64)) (next c ∷ a) (next d ∷ b) (ap next p.0) (lower (next c) (next d) a b p.1)))
+      (same (next (c / 64)) (next (d / 64)) (next c ∷ a) (next d ∷ b) (ap next p.0) (lower_next c d a b p.1)))
 ]
   where
     -- the three bytes in front, where those numbers without their last digits differ
@@ -53,11 +61,11 @@ four_less c d a b h = elim (digits c d h) as (λ _. slice_cmp nat_cmp ((240 + c 
     within x y s t e f g k l = elim (digits x y l) as (λ _. slice_cmp nat_cmp ((240 + c / 262144) ∷ next (c / 4096) ∷ next x ∷ s) ((240 + d / 262144) ∷ next (d / 4096) ∷ next y ∷ t) ≡ Less) [
       | inl m ↦ elim (digits (x / 64) (y / 64) m) as (λ _. slice_cmp nat_cmp ((240 + c / 262144) ∷ next (c / 4096) ∷ next x ∷ s) ((240 + d / 262144) ∷ next (d / 4096) ∷ next y ∷ t) ≡ Less) [
         | inl n ↦ lower (240 + c / 262144) (240 + d / 262144) (next (c / 4096) ∷ next x ∷ s) (next (d / 4096) ∷ next y ∷ t) (omega (arith, g, k, n))
-        | inr p ↦ same (240 + c / 262144) (240 + d / 262144) (next (c / 4096) ∷ next x ∷ s) (next (d / 4096) ∷ next y ∷ t) (omega (arith, g, k, p.0)) (lower (next (c / 4096)) (next (d / 4096)) (next x ∷ s) (next y ∷ t) (omega (arith, e, f, p.1)))
+        | inr p ↦ same (240 + c / 262144) (240 + d / 262144) (next (c / 4096) ∷ next x ∷ s) (next (d / 4096) ∷ next y ∷ t) (omega (arith, g, k, p.0)) (lower_next (c / 4096) (d / 4096) (next x ∷ s) (next y ∷ t) (let l : c / 4096 % 64 < d / 4096 % 64 = omega (arith, e, f, p.1) in l))
       ]
       | inr p ↦
           same (240 + c / 262144) (240 + d / 262144) (next (c / 4096) ∷ next x ∷ s) (next (d / 4096) ∷ next y ∷ t) (omega (arith, g, k, p.0))
-          (same (next (c / 4096)) (next (d / 4096)) (next x ∷ s) (next y ∷ t) (ap next (e ∙ p.0 ∙ sym f)) (lower (next x) (next y) s t p.1))
+          (same (next (c / 4096)) (next (d / 4096)) (next x ∷ s) (next y ∷ t) (ap next (e ∙ p.0 ∙ sym f)) (lower_next x y s t p.1))
     ]
 
 -- the first characters decide

@@ -32,17 +32,17 @@ pub going_room : (e : Option ℕ) (retry : Retry) (pattern text items rest : Lis
 going_room e None pattern text items rest g = g.1
 going_room e (Some r) pattern text items rest g = g.rest_within
 
-pub going_take : (e : Option ℕ) (retry : Retry) (pattern text items next rest after : List ℕ) (c : ℕ) → 0 < length rest → c ≡ get_or rest 0 c
+going_on : (e : Option ℕ) (retry : Retry) (pattern text items next rest after : List ℕ) (c : ℕ) → 0 < length rest → c ≡ get_or rest 0 c
     → step_at (items_of e items) c ≡ Take → items_of e next ≡ drop 1 (items_of e items) → after ≡ drop 1 rest
     → Going e retry pattern text items rest → Going e retry pattern text next after
-going_take e None pattern text items next rest after c l r h q f g =
+going_on e None pattern text items next rest after c l r h q f g =
     let m = take_step (items_of e items) (items_of e next) rest after c l r h q f in
     (((λ w. m.0 (g.0.0 w)), (λ w. g.0.1 (m.1 w))), omega (arith, g.1, ap length f, shorter_tail rest))
   where
     shorter_tail : (t : List ℕ) → length (drop 1 t) ≤ length t
     shorter_tail [] = omega arith
     shorter_tail (x ∷ t) = omega arith
-going_take e (Some o) pattern text items next rest after c l r h q f g =
+going_on e (Some o) pattern text items next rest after c l r h q f g =
     let m = take_step (items_of e items) (items_of e next) rest after c l r h q f in
     record {
       whole = g.whole;
@@ -55,6 +55,11 @@ going_take e (Some o) pattern text items next rest after c l r h q f g =
     shorter_tail : (t : List ℕ) → length (drop 1 t) ≤ length t
     shorter_tail [] = omega arith
     shorter_tail (x ∷ t) = omega arith
+
+pub going_take : (e : Option ℕ) (retry : Retry) (pattern text items next rest after : List ℕ) (c : ℕ) → rest ≡ c ∷ after
+    → step_at (items_of e items) c ≡ Take → items_of e next ≡ drop 1 (items_of e items) → Going e retry pattern text items rest → Going e retry pattern text next after
+going_take e retry pattern text items next rest after c r h q g =
+    going_on e retry pattern text items next rest after c (omega (arith, ap length r)) (sym (ap (λ t. get_or t 0 c) r)) h q (sym (ap (λ t. drop 1 t) r)) g
 
 -- the matcher stands at an item for any characters, with q after it
 whole_skip : (e : Option ℕ) (retry : Retry) (pattern text items rest : List ℕ) (q : List Item) → items_of e items ≡ Any ∷ q
@@ -76,10 +81,10 @@ going_skip e retry pattern text items next rest c h q l g = record {
   others_within = l;
 }
 
-pub going_stop : (e : Option ℕ) (pattern text others from later items rest : List ℕ) (c : ℕ) → 0 < length rest → c ≡ get_or rest 0 c
+pub going_stop : (e : Option ℕ) (pattern text others from later items rest after : List ℕ) (c : ℕ) → rest ≡ c ∷ after
     → step_at (items_of e items) c ≡ Stop → later ≡ drop 1 from → Again e pattern text others from items rest → Again e pattern text others later others later
-going_stop e pattern text others from later items rest c l r h f g =
-    let n : Matches (items_of e others) from → ⊥ = λ w. stops (items_of e items) rest c l r h (g.here.0 w) in
+going_stop e pattern text others from later items rest after c r h f g =
+    let n : Matches (items_of e others) from → ⊥ = λ w. stops (items_of e items) rest c (omega (arith, ap length r)) (sym (ap (λ t. get_or t 0 c) r)) h (g.here.0 w) in
     record {
       whole = (
         (λ w. subst (λ t. Matches (Any ∷ items_of e others) t) (sym f) (one_more (items_of e others) from n (g.whole.0 w))),

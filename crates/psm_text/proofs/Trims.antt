@@ -1,6 +1,6 @@
 -- Blanks taken off one by one, at the front and at the end.
 use Rattle.std.proofs.Common.{◌≡◌, ◌≢◌, ℕ, zero, suc, ◌+◌, ◌-◌, ◌<◌, List, [], ◌∷◌, ◌++◌, length, take, refl, ap, sym, ◌∙◌, arith, Some, encode_utf8_all}
-use Rattle.std.specs.Prelude.{encode_utf8, slice_get, replicate}
+use Rattle.std.specs.Prelude.{slice_get, replicate}
 use Rattle.std.specs.Str.{chars, IsUtf8}
 use Rattle.std.proofs.lemmas.List.{append_assoc, append-nil, length_push, replicate_more}
 use Rattle.std.proofs.lemmas.Str.{chars-append, chars_past_char, encode_ascii, encodes-append, encodes-chars}

@@ -1,12 +1,12 @@
 -- Bytes in UTF-8 and the characters that they spell.
-use Rattle.std.proofs.Common.{◌≡◌, ℕ, zero, suc, ◌+◌, ◌-◌, ◌/◌, ◌<◌, ◌≤◌, min, List, [], ◌∷◌, ◌++◌, length, take, drop, map, refl, ap, sym, ◌∙◌, subst, arith, cond, inl, inr, encode_utf8_all}
+use Rattle.std.proofs.Common.{◌≡◌, ℕ, zero, suc, ◌+◌, ◌-◌, ◌/◌, ◌%◌, ◌<◌, ◌≤◌, min, List, [], ◌∷◌, ◌++◌, length, take, drop, map, refl, ap, sym, ◌∙◌, subst, arith, cond, inl, inr, encode_utf8_all}
 use Rattle.std.specs.Prelude.{replicate, nat_lt}
 use lib.Utf8.{encode, next}
 use Rattle.std.specs.Char.{to_ascii_uppercase, to_ascii_lowercase}
 use Rattle.std.specs.Str.{chars, IsAscii, IsUtf8, IsCharBoundary}
-use Rattle.std.proofs.lemmas.Bool.{cases_lt, cond_both, lt-ltb, le-ltb, ltb-true}
+use Rattle.std.proofs.lemmas.Bool.{cases_lt, cond_above, cond_below, cond_both, lt-ltb, le-ltb, ltb-true}
 use Rattle.std.proofs.lemmas.List.{append_assoc, map-append, length-append, length-drop, length-map, replicate_more, take_all, take_at, take_min, drop_all, drop_at, drop_min, drop-drop}
-use Rattle.std.proofs.lemmas.Str.{chars-nil, chars-append, chars-IsAscii, chars_from_encodes, chars_past_char, encodes-chars, encode_ascii, IsAscii-take, IsAscii-drop, IsUtf8-take, IsCharBoundary-end, IsCharBoundary-at_seam, IsCharBoundary-from_ascii}
+use Rattle.std.proofs.lemmas.Str.{chars-nil, chars-append, chars-IsAscii, chars_from_encodes, encodes-chars, encode_ascii, IsAscii-take, IsAscii-drop, IsUtf8-take, IsCharBoundary-end, IsCharBoundary-at_seam, IsCharBoundary-from_ascii}
 
 pub count_of_ascii : (bs : List ℕ) → IsAscii bs → length bs ≡ length (chars bs)
 count_of_ascii bs h = ap length (sym (chars-IsAscii bs h))
@@ -54,7 +54,6 @@ seam (suc n) (x ∷ xs) (y ∷ ys) e =
 
 pub cut_seam : (bs rest : List ℕ) (n k : ℕ) → IsUtf8 bs → IsUtf8 rest → Ends bs rest → chars rest ≡ drop n (chars bs) → k ≡ length bs - length rest → Cut bs n k
 cut_seam bs rest n k u v ends h w =
-    let front = ends.0 in
     let e : bs ≡ ends.0 ++ rest = ends.1 in
     let l : length ends.0 ≡ k = omega (arith, ap length e, length-append ends.0 rest, w) in
     let t : take k bs ≡ ends.0 = ap (λ s. take k s) e ∙ take_at ends.0 rest k l in
@@ -86,26 +85,17 @@ with_blanks bs k u = chars-append bs (replicate k 32) u ∙ ap (λ s. chars bs +
 
 -- ---- the bytes of one character, by its size
 
-pub spelled_by_size : (c : ℕ) → encode c ≡ cond (nat_lt c 128) (c ∷ []) (cond (nat_lt c 2048) ((192 + c / 64) ∷ next c ∷ []) (cond (nat_lt c 65536) ((224 + c / 4096) ∷ next (c / 64) ∷ next c ∷ []) ((240 + c / 262144) ∷ next (c / 4096) ∷ next (c / 64) ∷ next c ∷ [])))
-unfolding encode
-spelled_by_size c = refl
-
 pub two_bytes : (c : ℕ) → 128 ≤ c → c < 2048 → encode c ≡ (192 + c / 64) ∷ next c ∷ []
-two_bytes c h g = spelled_by_size c
-    ∙ ap (λ t. cond t (c ∷ []) (cond (nat_lt c 2048) ((192 + c / 64) ∷ next c ∷ []) (cond (nat_lt c 65536) ((224 + c / 4096) ∷ next (c / 64) ∷ next c ∷ []) ((240 + c / 262144) ∷ next (c / 4096) ∷ next (c / 64) ∷ next c ∷ [])))) (le-ltb c 128 h)
-    ∙ ap (λ t. cond t ((192 + c / 64) ∷ next c ∷ []) (cond (nat_lt c 65536) ((224 + c / 4096) ∷ next (c / 64) ∷ next c ∷ []) ((240 + c / 262144) ∷ next (c / 4096) ∷ next (c / 64) ∷ next c ∷ []))) (lt-ltb c 2048 g)
+unfolding encode
+two_bytes c h g = sym (cond_above c 128 _ _ _ h (cond_below c 2048 _ _ g))
 
 pub three_bytes : (c : ℕ) → 2048 ≤ c → c < 65536 → encode c ≡ (224 + c / 4096) ∷ next (c / 64) ∷ next c ∷ []
-three_bytes c h g = spelled_by_size c
-    ∙ ap (λ t. cond t (c ∷ []) (cond (nat_lt c 2048) ((192 + c / 64) ∷ next c ∷ []) (cond (nat_lt c 65536) ((224 + c / 4096) ∷ next (c / 64) ∷ next c ∷ []) ((240 + c / 262144) ∷ next (c / 4096) ∷ next (c / 64) ∷ next c ∷ [])))) (le-ltb c 128 (omega (arith, h)))
-    ∙ ap (λ t. cond t ((192 + c / 64) ∷ next c ∷ []) (cond (nat_lt c 65536) ((224 + c / 4096) ∷ next (c / 64) ∷ next c ∷ []) ((240 + c / 262144) ∷ next (c / 4096) ∷ next (c / 64) ∷ next c ∷ []))) (le-ltb c 2048 h)
-    ∙ ap (λ t. cond t ((224 + c / 4096) ∷ next (c / 64) ∷ next c ∷ []) ((240 + c / 262144) ∷ next (c / 4096) ∷ next (c / 64) ∷ next c ∷ [])) (lt-ltb c 65536 g)
+unfolding encode
+three_bytes c h g = sym (cond_above c 128 _ _ _ (omega (arith, h)) (cond_above c 2048 _ _ _ h (cond_below c 65536 _ _ g)))
 
 pub four_bytes : (c : ℕ) → 65536 ≤ c → encode c ≡ (240 + c / 262144) ∷ next (c / 4096) ∷ next (c / 64) ∷ next c ∷ []
-four_bytes c h = spelled_by_size c
-    ∙ ap (λ t. cond t (c ∷ []) (cond (nat_lt c 2048) ((192 + c / 64) ∷ next c ∷ []) (cond (nat_lt c 65536) ((224 + c / 4096) ∷ next (c / 64) ∷ next c ∷ []) ((240 + c / 262144) ∷ next (c / 4096) ∷ next (c / 64) ∷ next c ∷ [])))) (le-ltb c 128 (omega (arith, h)))
-    ∙ ap (λ t. cond t ((192 + c / 64) ∷ next c ∷ []) (cond (nat_lt c 65536) ((224 + c / 4096) ∷ next (c / 64) ∷ next c ∷ []) ((240 + c / 262144) ∷ next (c / 4096) ∷ next (c / 64) ∷ next c ∷ []))) (le-ltb c 2048 (omega (arith, h)))
-    ∙ ap (λ t. cond t ((224 + c / 4096) ∷ next (c / 64) ∷ next c ∷ []) ((240 + c / 262144) ∷ next (c / 4096) ∷ next (c / 64) ∷ next c ∷ [])) (le-ltb c 65536 h)
+unfolding encode
+four_bytes c h = sym (cond_above c 128 _ _ _ (omega (arith, h)) (cond_above c 2048 _ _ _ (omega (arith, h)) (cond_above c 65536 _ _ _ h refl)))
 
 -- ---- capital and small letters
 
@@ -113,6 +103,11 @@ four_bytes c h = spelled_by_size c
 record OfAscii (f : ℕ → ℕ) : Type 0 where
   low : (c : ℕ) → c < 128 → f c < 128
   high : (c : ℕ) → 128 ≤ c → f c ≡ c
+
+next_high : (c : ℕ) → 128 ≤ next c
+next_high c =
+    let h : 128 ≤ 128 + c % 64 = omega arith in
+    h
 
 letter : (f : ℕ → ℕ) → OfAscii f → (c : ℕ) → map f (encode c) ≡ encode (f c)
 letter f o c = elim (cases_lt c 128) as (λ _. map f (encode c) ≡ encode (f c)) [
@@ -125,10 +120,10 @@ letter f o c = elim (cases_lt c 128) as (λ _. map f (encode c) ≡ encode (f c)
 
     high_bytes : 128 ≤ c → map f (encode c) ≡ encode c
     high_bytes h = elim (cases_lt c 2048) as (λ _. map f (encode c) ≡ encode c) [
-      | inl g ↦ ap (λ bs. map f bs) (two_bytes c h g) ∙ same (192 + c / 64) (omega arith) _ _ (same (next c) (omega arith) [] [] refl) ∙ sym (two_bytes c h g)
+      | inl g ↦ ap (λ bs. map f bs) (two_bytes c h g) ∙ same (192 + c / 64) (omega arith) _ _ (same (next c) (next_high c) [] [] refl) ∙ sym (two_bytes c h g)
       | inr k ↦ elim (cases_lt c 65536) as (λ _. map f (encode c) ≡ encode c) [
-        | inl g ↦ ap (λ bs. map f bs) (three_bytes c k g) ∙ same (224 + c / 4096) (omega arith) _ _ (same (next (c / 64)) (omega arith) _ _ (same (next c) (omega arith) [] [] refl)) ∙ sym (three_bytes c k g)
-        | inr g ↦ ap (λ bs. map f bs) (four_bytes c g) ∙ same (240 + c / 262144) (omega arith) _ _ (same (next (c / 4096)) (omega arith) _ _ (same (next (c / 64)) (omega arith) _ _ (same (next c) (omega arith) [] [] refl))) ∙ sym (four_bytes c g)
+        | inl g ↦ ap (λ bs. map f bs) (three_bytes c k g) ∙ same (224 + c / 4096) (omega arith) _ _ (same (next (c / 64)) (next_high (c / 64)) _ _ (same (next c) (next_high c) [] [] refl)) ∙ sym (three_bytes c k g)
+        | inr g ↦ ap (λ bs. map f bs) (four_bytes c g) ∙ same (240 + c / 262144) (omega arith) _ _ (same (next (c / 4096)) (next_high (c / 4096)) _ _ (same (next (c / 64)) (next_high (c / 64)) _ _ (same (next c) (next_high c) [] [] refl))) ∙ sym (four_bytes c g)
       ]
     ]
 

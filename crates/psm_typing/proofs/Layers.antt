@@ -2,7 +2,7 @@
 use Rattle.std.proofs.Common.{◌≡◌, ℕ, Bool, true, List, [], ◌∷◌, Option, Some, None, Ok, refl}
 use Rattle.psm_list.specs.Several.{Several}
 use Rattle.psm_text.specs.declared.parts.Side.{Side}
-use Rattle.psm_text.specs.Parts.{upper_of, lower_of}
+use Rattle.psm_text.specs.Parts.{upper_of, lower_of, trimmed_of}
 use Rattle.psm_value.specs.declared.datum.Datum.{Datum}
 use Rattle.psm_value.specs.declared.sqltype.SqlType.{SqlType}
 use Rattle.psm_exprcode.specs.declared.op.Letter.{Letter}
@@ -10,7 +10,6 @@ use Rattle.psm_exprcode.specs.declared.op.Letter.TheVariants.{N, T, B}
 use Rattle.psm_exprcode.specs.Comparison.{among}
 use Rattle.psm_exprcode.specs.Evaluated.{Outcome}
 use Rattle.psm_exprcode.specs.Kinds.{has_letter, is_value, letter_of}
-use Rattle.psm_exprcode.specs.Texts.{trim_of}
 use Rattle.psm_exprcode.proofs.Standing.{gives}
 use Rattle.psm_exprcode.proofs.Results.{sum-gives, difference-gives, product-gives, quotient-gives, negated-gives, rescaled-gives, concatenated-gives, length-gives, position-gives, part_from-gives, part_of-gives, on_text-gives, unless_equal-gives, cast-gives}
 use Rattle.psm_resolved.specs.declared.expr.Comparison.{Comparison}
@@ -98,7 +97,7 @@ pub substring_for-evaluates : (row vars : List Datum) (a b c : Outcome) → Valu
 substring_for-evaluates row vars a b c u v w = evaluates-three T _ a b c u v w (λ d e g. evaluates-gives T _ (part_of-gives d e g))
 
 pub trim-evaluates : (row vars : List Datum) (side : Side) (a : Outcome) → Valued a → Evaluates T (value_layer row vars (layers.Trim side a))
-trim-evaluates row vars side a v = evaluates-one T _ a v (λ d. on_text-gives (trim_of side) d)
+trim-evaluates row vars side a v = evaluates-one T _ a v (λ d. on_text-gives (trimmed_of side) d)
 
 pub letter_at-value : (scale : Option ℕ) → is_value (row_type.letter_at scale) ≡ true
 letter_at-value None = refl
