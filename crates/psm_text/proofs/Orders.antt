@@ -163,8 +163,8 @@ not_prefixed long short u v l p =
     let y : encode_utf8_all (chars short) ≡ short = encodes-chars short v in
     ap (λ s. slice_cmp nat_cmp s short) (sym x) ∙ ap (λ s. slice_cmp nat_cmp (encode_utf8_all (chars long)) s) (sym y)
     ∙ bytes_decide (max (length (chars long)) (length (chars short))) (chars long) (chars short) (omega arith) (omega arith)
-        (λ r e. p r (sym x ∙ e ∙ ap (λ s. s ++ r) y))
-        (λ r e. not_longer r (sym y ∙ e ∙ ap (λ s. s ++ r) x))
+    (λ r e. p r (sym x ∙ e ∙ ap (λ s. s ++ r) y))
+    (λ r e. not_longer r (sym y ∙ e ∙ ap (λ s. s ++ r) x))
   where
     not_longer : (r : List ℕ) → short ≡ long ++ r → ⊥
     not_longer [] e = p [] (sym (append-nil long) ∙ sym e ∙ sym (append-nil short))

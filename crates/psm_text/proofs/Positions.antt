@@ -99,9 +99,9 @@ bytes_at : (p s : List ℕ) (m : ℕ) → IsUtf8 p → IsUtf8 s → starts_with 
 bytes_at p s m u v h lacks =
     let z = begins (chars p) (drop m (chars s)) h in
     let whole : s ≡ encode_utf8_all (take m (chars s)) ++ (p ++ encode_utf8_all z.0) =
-        sym (encodes-chars s v) ∙ ap encode_utf8_all (sym (take-append-drop m (chars s))) ∙ encodes-append (take m (chars s)) (drop m (chars s))
-        ∙ ap (λ t. encode_utf8_all (take m (chars s)) ++ encode_utf8_all t) z.1
-        ∙ ap (λ t. encode_utf8_all (take m (chars s)) ++ t) (encodes-append (chars p) z.0 ∙ ap (λ t. t ++ encode_utf8_all z.0) (encodes-chars p u)) in
+    sym (encodes-chars s v) ∙ ap encode_utf8_all (sym (take-append-drop m (chars s))) ∙ encodes-append (take m (chars s)) (drop m (chars s))
+    ∙ ap (λ t. encode_utf8_all (take m (chars s)) ++ encode_utf8_all t) z.1
+    ∙ ap (λ t. encode_utf8_all (take m (chars s)) ++ t) (encodes-append (chars p) z.0 ∙ ap (λ t. t ++ encode_utf8_all z.0) (encodes-chars p u)) in
     lacks (encode_utf8_all z.0)
     (ap (λ t. drop (length (encode_utf8_all (take m (chars s)))) t) whole
     ∙ drop_at (encode_utf8_all (take m (chars s))) (p ++ encode_utf8_all z.0) (length (encode_utf8_all (take m (chars s)))) refl)
@@ -111,7 +111,7 @@ fewer_bytes : (t : List ℕ) (m k : ℕ) → m < k → k ≤ length t → length
 fewer_bytes t m k h g =
     let parts : take k t ≡ take m t ++ drop m (take k t) = sym (take-append-drop m (take k t)) ∙ ap (λ s. s ++ drop m (take k t)) (take-take m k t (omega (arith, h))) in
     let bytes : length (encode_utf8_all (take k t)) ≡ length (encode_utf8_all (take m t)) + length (encode_utf8_all (drop m (take k t))) =
-        ap (λ s. length (encode_utf8_all s)) parts ∙ ap length (encodes-append (take m t) (drop m (take k t))) ∙ length-append (encode_utf8_all (take m t)) (encode_utf8_all (drop m (take k t))) in
+    ap (λ s. length (encode_utf8_all s)) parts ∙ ap length (encodes-append (take m t) (drop m (take k t))) ∙ length-append (encode_utf8_all (take m t)) (encode_utf8_all (drop m (take k t))) in
     omega (arith, h, g, bytes, length-le-encodes (drop m (take k t)), length-drop m (take k t), length-take-le k t g)
 
 pub first_found : (p s before : List ℕ) (at j n : ℕ) → IsUtf8 p → IsUtf8 s → FindsText p s (Some (at, j)) → IsCharBoundary s at → IsCharBoundary s j

@@ -1,12 +1,15 @@
 -- Bytes in UTF-8 and the characters that they spell.
-use Rattle.std.proofs.Common.{◌≡◌, ℕ, zero, suc, ◌+◌, ◌-◌, ◌/◌, ◌%◌, ◌<◌, ◌≤◌, min, List, [], ◌∷◌, ◌++◌, length, take, drop, map, refl, ap, sym, ◌∙◌, subst, arith, cond, inl, inr, encode_utf8_all}
+use Rattle.std.proofs.Common.{◌≡◌, ℕ, zero, suc, ◌+◌, ◌-◌, ◌/◌, ◌%◌, ◌<◌, ◌≤◌, List, [], ◌∷◌, ◌++◌, length, take, drop, map, refl, ap, sym, ◌∙◌, subst, arith, cond, inl, inr, encode_utf8_all, Ok, Err}
 use Rattle.std.specs.Prelude.{replicate, nat_lt}
 use lib.Utf8.{encode, next}
 use Rattle.std.specs.Char.{to_ascii_uppercase, to_ascii_lowercase}
 use Rattle.std.specs.Str.{chars, IsAscii, IsUtf8, IsCharBoundary}
-use Rattle.std.proofs.lemmas.Bool.{cases_lt, cond_above, cond_below, cond_both, lt-ltb, le-ltb, ltb-true}
-use Rattle.std.proofs.lemmas.List.{append_assoc, map-append, length-append, length-drop, length-map, replicate_more, take_all, take_at, take_min, drop_all, drop_at, drop_min, drop-drop}
-use Rattle.std.proofs.lemmas.Str.{chars-nil, chars-append, chars-IsAscii, chars_from_encodes, encodes-chars, encode_ascii, IsAscii-take, IsAscii-drop, IsUtf8-take, IsCharBoundary-end, IsCharBoundary-at_seam, IsCharBoundary-from_ascii}
+use Rattle.std.proofs.lemmas.Bool.{cases_lt, cond_above, cond_below, cond_both, le-leb, lt-ltb, le-ltb, ltb-true}
+use Rattle.std.proofs.lemmas.List.{append_assoc, map-append, length-append, length-drop, length-map, length-replicate, replicate_more, take-append-drop, take_all, take_at, drop_all, drop_at, drop-drop}
+use Rattle.std.proofs.lemmas.Str.{chars-nil, chars-append, chars-IsAscii, chars_from_encodes, encodes-chars, encode_ascii, length-le-encodes, IsAscii-take, IsAscii-drop, IsUtf8-take, IsCharBoundary-end, IsCharBoundary-at_seam, IsCharBoundary-from_ascii}
+use Rattle.psm_text.specs.declared.fault.TextFault.TheVariants.{TooLong}
+use Rattle.psm_text.specs.Order.{padded}
+use Rattle.psm_text.specs.Parts.{joined}
 
 pub count_of_ascii : (bs : List ℕ) → IsAscii bs → length bs ≡ length (chars bs)
 count_of_ascii bs h = ap length (sym (chars-IsAscii bs h))
@@ -21,15 +24,24 @@ Cut bs n k = IsCharBoundary bs k × (chars (take k bs) ≡ take n (chars bs)) ×
 abbrev pub Ends : List ℕ → List ℕ → Type 0
 Ends bs rest = (front : List ℕ) × (bs ≡ front ++ rest)
 
-cut_of_ascii : (bs : List ℕ) (n : ℕ) → IsAscii bs → Cut bs n (min n (length bs))
-cut_of_ascii bs n h = (
-  IsCharBoundary-from_ascii bs (min n (length bs)) h (omega arith),
-  chars-IsAscii (take (min n (length bs)) bs) (IsAscii-take bs (min n (length bs)) h) ∙ take_min n bs ∙ ap (λ t. take n t) (sym (chars-IsAscii bs h)),
-  chars-IsAscii (drop (min n (length bs)) bs) (IsAscii-drop bs (min n (length bs)) h) ∙ drop_min n bs ∙ ap (λ t. drop n t) (sym (chars-IsAscii bs h)),
-)
+pub fewer_characters : (bs : List ℕ) → IsUtf8 bs → length (chars bs) ≤ length bs
+fewer_characters bs u = omega (arith, length-le-encodes (chars bs), ap length (encodes-chars bs u))
 
-pub cut_ascii : (bs : List ℕ) (n k : ℕ) → IsAscii bs → k ≡ min n (length bs) → Cut bs n k
-cut_ascii bs n k h e = subst (λ m. Cut bs n m) (sym e) (cut_of_ascii bs n h)
+pub cut_whole : (bs : List ℕ) (n k : ℕ) → IsUtf8 bs → length bs ≤ n → k ≡ length bs → Cut bs n k
+cut_whole bs n k u l e =
+    let m : length (chars bs) ≤ n = omega (arith, l, fewer_characters bs u) in
+    subst (λ j. Cut bs n j) (sym e) (
+      IsCharBoundary-end bs,
+      ap chars (take_all (length bs) bs (omega arith)) ∙ sym (take_all n (chars bs) m),
+      ap chars (drop_all (length bs) bs (omega arith)) ∙ chars-nil ∙ sym (drop_all n (chars bs) m),
+    )
+
+pub cut_ascii : (bs : List ℕ) (n : ℕ) → IsAscii bs → n ≤ length bs → Cut bs n n
+cut_ascii bs n h l = (
+  IsCharBoundary-from_ascii bs n h l,
+  chars-IsAscii (take n bs) (IsAscii-take bs n h) ∙ ap (λ t. take n t) (sym (chars-IsAscii bs h)),
+  chars-IsAscii (drop n bs) (IsAscii-drop bs n h) ∙ ap (λ t. drop n t) (sym (chars-IsAscii bs h)),
+)
 
 pub cut_end : (bs rest : List ℕ) (n taken k : ℕ) → taken ≤ n → chars rest ≡ drop taken (chars bs) → chars rest ≡ [] → k ≡ length bs → Cut bs n k
 cut_end bs rest n taken k l h e w =
@@ -174,3 +186,32 @@ lower_is new old bs t u v e f g =
 
 pub lower_short : (new old bs t : List ℕ) → IsUtf8 new → IsUtf8 bs → new ≡ map to_ascii_lowercase old → old ≡ bs → chars bs ≡ t → length t ≤ 4000 → length (chars new) ≤ 4000
 lower_short new old bs t u v e f g h = omega (arith, ap length (lower_is new old bs t u v e f g), length-map t to_ascii_lowercase, h)
+
+-- ---- strings put together
+
+pub spelled_again : (held bs : List ℕ) → IsUtf8 bs → held ≡ bs → encode_utf8_all (chars held) ≡ bs
+spelled_again held bs u e = ap (λ s. encode_utf8_all (chars s)) e ∙ encodes-chars bs u
+
+joined_chars : (all front end a b : List ℕ) → IsUtf8 front → all ≡ front ++ end → chars front ≡ a → chars end ≡ b → chars all ≡ a ++ b
+joined_chars all front end a b u e f g = ap chars e ∙ chars-append front end u ∙ ap (λ s. s ++ chars end) f ∙ ap (λ s. a ++ s) g
+
+pub joined_short : (all front end a b : List ℕ) → IsUtf8 front → all ≡ front ++ end → chars front ≡ a → chars end ≡ b → length a + length b ≤ 4000 → length (chars all) ≤ 4000
+joined_short all front end a b u e f g h = omega (arith, ap length (joined_chars all front end a b u e f g), length-append a b, h)
+
+pub joined_is : (all front end a b : List ℕ) → IsUtf8 front → all ≡ front ++ end → chars front ≡ a → chars end ≡ b → length a + length b ≤ 4000 → joined a b ≡ Ok (chars all)
+joined_is all front end a b u e f g h =
+    let w : length (a ++ b) ≤ 4000 = omega (arith, length-append a b, h) in
+    ap (λ t. cond t (Ok (a ++ b)) (Err TooLong)) (le-leb (length (a ++ b)) 4000 w) ∙ ap (λ s. Ok s) (sym (joined_chars all front end a b u e f g))
+
+pub padded_is : (all kept : List ℕ) (n m : ℕ) → IsUtf8 kept → all ≡ kept ++ replicate m 32 → m ≡ n - length (chars kept) → chars all ≡ padded n (chars kept)
+padded_is all kept n m u e f = ap chars e ∙ with_blanks kept m u ∙ ap (λ k. chars kept ++ replicate k 32) f
+
+pub padded_short : (all kept : List ℕ) (n m : ℕ) → IsUtf8 kept → all ≡ kept ++ replicate m 32 → m ≡ n - length (chars kept) → length (chars kept) ≤ n → n ≤ 4000 → length (chars all) ≤ 4000
+padded_short all kept n m u e f g h =
+    omega (arith, ap length (ap chars e ∙ with_blanks kept m u), length-append (chars kept) (replicate m 32), length-replicate m 32, f, g, h)
+
+-- a front of a text has no more characters than the text
+pub front_short : (bs front : List ℕ) (k n : ℕ) → IsUtf8 bs → IsCharBoundary bs k → front ≡ take k bs → n ≡ length (chars front) → n ≤ length (chars bs)
+front_short bs front k n u edge e w =
+    let whole : chars bs ≡ chars (take k bs) ++ chars (drop k bs) = ap chars (sym (take-append-drop k bs)) ∙ chars-append (take k bs) (drop k bs) (IsUtf8-take bs k u edge) in
+    omega (arith, w, ap (λ s. length (chars s)) e, ap length whole, length-append (chars (take k bs)) (chars (drop k bs)))

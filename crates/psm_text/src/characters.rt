@@ -41,8 +41,11 @@ fn bytes_of(s: &str, n: usize) -> usize
     ensures front { chars (take result s.now) ≡ take n (chars s.now) }
     ensures back { chars (drop result s.now) ≡ drop n (chars s.now) }
 {
+    if s.len() <= n {
+        return s.len();
+    }
     if s.is_ascii() {
-        return n.min(s.len());
+        return n;
     }
     let mut rest = s;
     for taken in 0..n {

@@ -59,6 +59,7 @@ fn is_escape(escape: Option<char>, c: char) -> bool
     }
 }
 
+#[tactic(auto, using(crate::proofs::Steps::formed_plain, crate::proofs::Steps::formed_escaped))]
 fn is_well_formed(pattern: &str, escape: Option<char>) -> bool
     ensures { result ≡ well_formed escape (chars pattern.now) }
 {
@@ -124,6 +125,7 @@ fn without_first(s: &str) -> &str
     }
 }
 
+#[tactic(auto, using(crate::proofs::Steps::items_plain, crate::proofs::Steps::items_escaped))]
 fn first_step(pattern: &str, escape: Option<char>, c: char) -> Step
     ensures { result ≡ step_at (items_of escape (chars pattern.now)) c }
 {
@@ -155,6 +157,7 @@ fn literal_step(d: char, c: char) -> Step
 }
 
 /// The pattern without its first item.
+#[tactic(auto, using(crate::proofs::Steps::items_plain, crate::proofs::Steps::items_escaped))]
 fn after_item(pattern: &str, escape: Option<char>) -> &str
     ensures items { items_of escape (chars result.now) ≡ drop 1 (items_of escape (chars pattern.now)) }
     ensures shorter { 0 < length (chars pattern.now) → length (chars result.now) < length (chars pattern.now) }
@@ -179,6 +182,7 @@ fn is_all_any(pattern: &str, escape: Option<char>) -> bool
     first(left).is_none()
 }
 
+#[tactic(auto, using(crate::proofs::Steps::items_plain, crate::proofs::Steps::items_escaped))]
 fn first_is_any(pattern: &str, escape: Option<char>) -> bool
     ensures { result ≡ begins_any (items_of escape (chars pattern.now)) }
 {

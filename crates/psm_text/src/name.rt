@@ -3,8 +3,8 @@ ghost use Rattle.std.specs.Prelude.{◌≡◌, ◌↔◌, ◌<◌, ◌≤◌, �
 ghost use Rattle.std.specs.Str.{chars};
 ghost use Rattle.psm_text.specs.Name.{GivesName, named};
 
-use crate::fault::NameFault;
 use crate::characters::count;
+use crate::fault::NameFault;
 use std::alloc::{AllocError, Global};
 use std::marker::Model;
 

@@ -20,11 +20,12 @@ pub enum Side {
 impl Text {
     /// The other text after this one (ISO/IEC 9075:1992, 6.13). `TooLong` comes exactly where that has
     /// more than 4000 characters, also where only blanks are too many.
+    #[tactic(auto, using(crate::proofs::Utf8::joined_is, crate::proofs::Utf8::joined_short))]
     pub fn concat(&self, alloc: Global, other: &Text) -> Result<Text, TextFault>
         ensures { Gives (joined self.now other.now) result }
     {
         let (front, end) = (self.as_str(), other.as_str());
-        if count_of(front) + count_of(end) > MOST_CHARACTERS {
+        if !fit_together(front, end) {
             return Err(TextFault::TooLong);
         }
         let mut joined = String::with_capacity(alloc, front.len() + end.len())?;
@@ -90,6 +91,14 @@ impl Text {
         letters.make_ascii_lowercase();
         Ok(Text::from_string(letters))
     }
+}
+
+/// Whether the two have no more characters than a text may have. Where their bytes are no more, nothing is counted.
+#[tactic(auto, using(crate::proofs::Utf8::fewer_characters))]
+fn fit_together(front: &str, end: &str) -> bool
+    ensures { result ≡ nat_le (length (chars front.now) + length (chars end.now)) 4000 }
+{
+    front.len() + end.len() <= MOST_CHARACTERS || count_of(front) + count_of(end) <= MOST_CHARACTERS
 }
 
 fn is_negative(count: Option<i64>) -> bool

@@ -44,6 +44,7 @@ fn is_blank(s: &str) -> bool
 }
 
 /// The characters, filled with blanks up to `n` where `pad` is set.
+#[tactic(auto, using(crate::proofs::Utf8::padded_is, crate::proofs::Utf8::padded_short))]
 fn sized(alloc: Global, kept: &str, n: usize, pad: bool) -> Result<Text, AllocError>
     requires limit { n ≤ 4000 }
     requires within { length (chars kept.now) ≤ n }
@@ -59,6 +60,7 @@ fn sized(alloc: Global, kept: &str, n: usize, pad: bool) -> Result<Text, AllocEr
     Ok(Text::from_string(text))
 }
 
+#[tactic(auto, using(crate::proofs::Utf8::blanks_more))]
 fn push_blanks(text: &mut String, count: usize) -> Result<(), AllocError>
     ensures { OnOk result (string_bytes text.new ≡ string_bytes text.old ++ replicate count blank) }
 {

@@ -35,6 +35,7 @@ impl Model for Text {
 impl Text {
     /// The text of the characters of a string. `TooLong` comes exactly above 4000 characters, before any
     /// memory is taken.
+    #[tactic(auto, using(crate::proofs::Utf8::spelled_again))]
     pub fn make(alloc: Global, s: &str) -> Result<Text, TextFault>
         ensures answer { Gives (made s.now) result }
         ensures spelled { IfOk result (λ t. encode_utf8_all t ≡ s.now) }

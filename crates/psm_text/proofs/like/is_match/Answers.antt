@@ -30,3 +30,18 @@ loop-c-preserved-in-Take c = record {
       c.after_item-items-in-Take.ensures.items c.loop-c.invariant.going;
   items_within = omega arith;
 }
+
+pub loop-c-preserved : goal.loop-c-preserved
+loop-c-preserved c =
+    let again =
+    again_at c.args.escape c.loop-c.retry (c.in-Some-2.others, c.in-Some-2.from) (chars c.args.pattern.now) (chars c.args.text.now) (chars c.loop-c.items.now)
+    (chars c.loop-c.rest.now) c.in-Some-2.is c.loop-c.invariant.going
+    in record {
+      items_utf8 = search rules;
+      rest_utf8 = search rules;
+      going =
+          going_stop c.args.escape (chars c.args.pattern.now) (chars c.args.text.now) (chars c.in-Some-2.others.now) (chars c.in-Some-2.from.now)
+          (chars c.without_first-later.result.now) (chars c.loop-c.items.now) (chars c.loop-c.rest.now) (chars c.in-Some.after.now) c.in-Some.c
+          c.in-Some.ensures.characters (sym c.first_step.ensures ∙ c.in-Stop.is) c.without_first-later.ensures again;
+      items_within = again.others_within;
+    }
