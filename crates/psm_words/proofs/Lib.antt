@@ -5,6 +5,7 @@ pub mod DecimalLaws
 pub mod Further
 pub mod HexDigits
 pub mod NumberLaws
+pub mod Quoted
 pub mod QuotedLaws
 pub mod Several
 pub mod StackLaws
