@@ -1,6 +1,3 @@
-use Rattle.psm_text.proofs.Trims.{front_ends}
-use Rattle.psm_text.proofs.Positions.{first_found}
-use Rattle.psm_text.proofs.Retries.{going_stop}
 use Rattle.psm_text.proofs.Orders.{order_itself, order_swapped, order_chained, order_exchanged, same_from_equal, equal_from_same}
 use Rattle.psm_text.proofs.order.padded_order_laws.Goals as goal
 
