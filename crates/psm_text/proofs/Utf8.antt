@@ -208,7 +208,7 @@ padded_is all kept n m u e f = ap chars e ∙ with_blanks kept m u ∙ ap (λ k.
 
 pub padded_short : (all kept : List ℕ) (n m : ℕ) → IsUtf8 kept → all ≡ kept ++ replicate m 32 → m ≡ n - length (chars kept) → length (chars kept) ≤ n → n ≤ 4000 → length (chars all) ≤ 4000
 padded_short all kept n m u e f g h =
-    omega (arith, ap length (ap chars e ∙ with_blanks kept m u), length-append (chars kept) (replicate m 32), length-replicate m 32, f, g, h)
+    omega (arith, ap length (ap chars e ∙ with_blanks kept m u), length-append (chars kept) (replicate m 32), length-replicate {A = ℕ} m 32, f, g, h)
 
 -- a front of a text has no more characters than the text
 pub front_short : (bs front : List ℕ) (k n : ℕ) → IsUtf8 bs → IsCharBoundary bs k → front ≡ take k bs → n ≡ length (chars front) → n ≤ length (chars bs)
