@@ -14,10 +14,10 @@ loop-c-preserved c = record {
       (sym c.in-Equal.is ∙ c.cmp.ensures);
 }
 
-pub returns-in_default : goal.returns-in_default
-returns-in_default c =
+pub returns-in_default-cmp : goal.returns-in_default-cmp
+returns-in_default-cmp c =
     blanks_decided (chars c.args.s.now) (chars c.loop-c.left.now) (chars c.in-Some.others.now) c.in-Some.c c.cmp.result c.loop-c.invariant.order
-    c.in-Some.ensures.characters c.cmp.ensures c.in_default.not-Equal
+    c.in-Some.ensures.characters c.cmp.ensures c.in_default-cmp.not-Equal
 
 pub returns : goal.returns
-returns c = blanks_alone (chars c.args.s.now) (chars c.loop-c.left.now) c.loop-c.invariant.order c.in-None.ensures.characters
+returns c = blanks_alone (chars c.args.s.now) (chars c.loop-c.left.now) c.loop-c.invariant.order c.in_default.ensures.characters

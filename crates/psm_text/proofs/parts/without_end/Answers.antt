@@ -21,4 +21,5 @@ loop-before-preserved c =
 
 pub returns-clause-value : goal.returns-clause-value
 returns-clause-value c =
-    back_ends (chars c.args.s.now) c.loop-before.left.now c.loop-before.invariant.text c.loop-before.invariant.parts (strip_suffix_char 32 c.loop-before.left.now None c.in-None.ensures.cases (omega arith))
+    back_ends (chars c.args.s.now) c.loop-before.left.now c.loop-before.invariant.text c.loop-before.invariant.parts
+    (strip_suffix_char 32 c.loop-before.left.now None c.in_default.ensures.cases (omega arith))

@@ -21,4 +21,5 @@ loop-after-preserved c =
 
 pub returns-clause-value : goal.returns-clause-value
 returns-clause-value c =
-    front_ends (chars c.args.s.now) c.loop-after.left.now c.loop-after.invariant.text c.loop-after.invariant.parts (strip_prefix_char 32 c.loop-after.left.now None c.in-None.ensures.cases (omega arith))
+    front_ends (chars c.args.s.now) c.loop-after.left.now c.loop-after.invariant.text c.loop-after.invariant.parts
+    (strip_prefix_char 32 c.loop-after.left.now None c.in_default.ensures.cases (omega arith))
