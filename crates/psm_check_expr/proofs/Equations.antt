@@ -1,6 +1,10 @@
 -- What is found in each kind of expression, by its layer.
 use Rattle.std.proofs.Common.{◌≡◌, ℕ, Bool, List, [], ◌∷◌, Option, Some, None, map, option_map, refl, ap, ◌∙◌}
 use denote.Hole.Carrier
+use Rattle.psm_terms.specs.declared.operators.LogicalOperator.{LogicalOperator}
+use Rattle.psm_terms.specs.declared.operators.Comparison.{Comparison}
+use Rattle.psm_terms.specs.declared.functions.TextFunction.{TextFunction}
+use Rattle.psm_terms.specs.declared.functions.SetFunction.{SetFunction}
 use Rattle.psm_num.specs.Num.{Num}
 use Rattle.psm_list.specs.Several.{Several, several_map}
 use Rattle.psm_token.specs.declared.place.Place.{Place}
@@ -13,11 +17,7 @@ use Rattle.psm_tree.specs.declared.expr.Expr.TheVariants as exprs
 use Rattle.psm_tree.specs.declared.expr.Expr.TheOpen.{Expr-F, Pick-F}
 use Rattle.psm_tree.specs.declared.expr.Expr.TheOpen as layers
 use Rattle.psm_tree.specs.declared.expr.Expr.TheFolds.{map-Expr, map-Pick, map-Select, fold-roll-Expr, fold-roll-Pick, fold_out-ChainLink, fold_out-Select, fold_out-When}
-use Rattle.psm_tree.specs.declared.expr.LogicalOperator.{LogicalOperator}
-use Rattle.psm_tree.specs.declared.expr.Comparison.{Comparison}
-use Rattle.psm_tree.specs.declared.expr.TextFunction.{TextFunction}
-use Rattle.psm_tree.specs.declared.expr.SetFunction.{SetFunction}
-use Rattle.psm_tree.specs.declared.expr.TrimSide.{TrimSide}
+use Rattle.psm_text.specs.declared.parts.Side.{Side}
 use Rattle.psm_tree.specs.declared.expr.ChainLink.{ChainLink, out-ChainLink}
 use Rattle.psm_tree.specs.declared.expr.When.{When, out-When}
 use Rattle.psm_tree.specs.declared.expr.Select.{Select, out-Select}
@@ -141,7 +141,7 @@ unfolding roll-Expr Carrier.roll
 checked-Substring place text from None checker_scope = ap (λ f. f checker_scope) (expr_rolled (layers.Substring place text from None))
 checked-Substring place text from (Some length) checker_scope = ap (λ f. f checker_scope) (expr_rolled (layers.Substring place text from (Some length)))
 
-pub checked-Trim : (place : Place) (side : TrimSide) (text : Expr) (checker_scope : CheckerScope) → check_expr (exprs.Trim place side text) checker_scope ≡ check_function place varying (argument Texts (check_expr text checker_scope) ∷ [])
+pub checked-Trim : (place : Place) (side : Side) (text : Expr) (checker_scope : CheckerScope) → check_expr (exprs.Trim place side text) checker_scope ≡ check_function place varying (argument Texts (check_expr text checker_scope) ∷ [])
 unfolding roll-Expr Carrier.roll
 checked-Trim place side text checker_scope = ap (λ f. f checker_scope) (expr_rolled (layers.Trim place side text))
 

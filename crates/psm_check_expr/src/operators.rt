@@ -11,8 +11,9 @@ use psm_rules::{
     at_larger_scale, broken, combined, earlier, family_of, higher, is_of, of_family, shape_of,
     typed, well_typed,
 };
+use psm_terms::{Operator, TextFunction};
 use psm_token::Place;
-use psm_tree::{DataType, Operator, TextFunction};
+use psm_tree::DataType;
 use psm_value::SqlType;
 
 /// What is declared with a type; one at fault has no shape.

@@ -19,9 +19,10 @@ use psm_rules::{
     breaks, breaks_if, combined, earlier, of_family, shape_of, typed, well_typed,
 };
 use psm_scope::{ArgKind, RowTable};
+use psm_terms::SetFunction;
 use psm_text::Name;
 use psm_token::Place;
-use psm_tree::{Identifier, Select, SetFunction};
+use psm_tree::{Identifier, Select};
 use psm_value::SqlType;
 use std::alloc::{AllocError, Global};
 use std::marker::Model;

@@ -2,10 +2,10 @@
 -- which stands after three other procedures. All stand in line 1.
 use Rattle.std.proofs.Common.{◌≡◌, ℕ, true, List, [], ◌∷◌, refl, Option, Some, None}
 use Rattle.std.specs.Prelude.{pos, codes}
+use Rattle.psm_terms.specs.declared.routines.ParameterMode.TheVariants.{In, Out}
 use Rattle.psm_token.specs.declared.place.Place.{Place}
 use Rattle.psm_value.specs.declared.datum.Datum.TheVariants as data_of
 use Rattle.psm_value.specs.declared.sqltype.SqlType.TheVariants as types
-use Rattle.psm_scope.specs.declared.procedures.ParameterMode.TheVariants.{In, Out}
 use Rattle.psm_tree.specs.Names.{Names}
 use Rattle.psm_tree.specs.declared.name.Identifier.{Identifier}
 use Rattle.psm_tree.specs.declared.types.Constant.{Constant}

@@ -3,6 +3,8 @@ use Rattle.std.proofs.Common.{suc, ◌≡◌, true, Option, Some, None, is_some,
 use Rattle.std.specs.Prelude.{if◌then◌else◌, slice_get}
 use Rattle.std.specs.List.{AllByRecursion}
 use Rattle.psm_list.specs.Several.{Several}
+use Rattle.psm_terms.specs.declared.routines.ParameterMode.{ParameterMode}
+use Rattle.psm_terms.specs.declared.routines.ParameterMode.TheVariants.{In, Out, InOut}
 use Rattle.psm_value.specs.declared.sqltype.SqlType.{SqlType}
 use Rattle.psm_scope.specs.Lookup.{named, index_named}
 use Rattle.psm_scope.specs.Routines.{procedure}
@@ -22,11 +24,9 @@ use Rattle.psm_rules.specs.CheckerScope.{Columns}
 use Rattle.psm_rules.proofs.Earliest.{first_of_cons}
 use Rattle.psm_resolve_expr.specs.Exprs.{number_of}
 use Rattle.psm_code.specs.declared.code.Parameter.{Parameter}
-use Rattle.psm_code.specs.declared.code.ParameterMode.{ParameterMode}
-use Rattle.psm_code.specs.declared.code.ParameterMode.TheVariants.{In, Out, InOut}
 use Rattle.psm_code.specs.declared.code.RawCode.{RawCode}
 use Rattle.psm_check_script.specs.Commands.{command_of, given_values, procedure_number}
-use Rattle.psm_check_script.specs.Known.{known_of, mode_of, parameter_of}
+use Rattle.psm_check_script.specs.Known.{known_of, parameter_of}
 use Rattle.psm_check_script.specs.ScriptFaults.{argument_fault, arguments_fault, call_fault, command_fault, insert_fault, rows_fault}
 use Rattle.psm_check_script.specs.There.{IsCall, IsThere, takes, taking}
 use Rattle.psm_check_script.proofs.Numbers.{get_there, numbered, index_within, tables_within}
@@ -47,7 +47,7 @@ no_fault f e = cc
 -- ---- CALL
 
 counted_more : (m : ParameterMode) (to : Option SqlType) (p : Parameter) (a : Argument) (given : List Argument) (rest : List Parameter)
-    → length (given_values given) ≡ length rest → argument_fault (mode_of m) to a ≡ None → length (given_values (a ∷ given)) ≡ length (if takes m then p ∷ rest else rest)
+    → length (given_values given) ≡ length rest → argument_fault m to a ≡ None → length (given_values (a ∷ given)) ≡ length (if takes m then p ∷ rest else rest)
 counted_more In to p (Given c) given rest n e = ap suc n
 counted_more In to p (Placeholder place) given rest n e = absurd (no_fault _ e)
 counted_more Out to p (Given c) given rest n e = absurd (no_fault _ e)
@@ -61,7 +61,7 @@ values_counted [] [] n e = refl
 values_counted [] (a ∷ given) n e = absurd (omega (arith, n))
 values_counted (p ∷ ps) [] n e = absurd (omega (arith, n))
 values_counted (p ∷ ps) (a ∷ given) n e =
-    let both = none_first (argument_fault (mode_of p.mode) (Some p.kind) a) (arguments_fault (map parameter_of ps) given) e in
+    let both = none_first (argument_fault p.mode (Some p.kind) a) (arguments_fault (map parameter_of ps) given) e in
     counted_more p.mode (Some p.kind) p a given (taking ps) (values_counted ps given (omega (arith, n)) both.1) both.0
 
 call_there : (c : RawCode) (name : Identifier) (given : List Argument) → call_fault name given (procedure name.name (length given) (known_of c).procedures) ≡ None

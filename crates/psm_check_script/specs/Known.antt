@@ -5,16 +5,12 @@ use Rattle.psm_scope.specs.Scopes.{Spelling}
 use Rattle.psm_scope.specs.Routines.{Header, procedure}
 use Rattle.psm_scope.specs.declared.procedures.ProcedureScope.{ProcedureScope}
 use Rattle.psm_scope.specs.declared.procedures.ParameterScope.{ParameterScope}
-use Rattle.psm_scope.specs.declared.procedures.ParameterMode.{ParameterMode}
-use Rattle.psm_scope.specs.declared.procedures.ParameterMode.TheVariants as scope_modes
 use Rattle.psm_rules.specs.BlockFaults.{declared_once}
 use Rattle.psm_rules.specs.CheckerScope.{Columns, CheckerScope, SymbolTable}
 use Rattle.psm_resolve_expr.specs.ResolverScope.{ResolverScope}
 use Rattle.psm_table.specs.declared.definition.Column.{Column}
 use Rattle.psm_code.specs.declared.code.CodeTable.{CodeTable}
 use Rattle.psm_code.specs.declared.code.Parameter.{Parameter}
-use Rattle.psm_code.specs.declared.code.ParameterMode.{ParameterMode as CodeMode}
-use Rattle.psm_code.specs.declared.code.ParameterMode.TheVariants as code_modes
 use Rattle.psm_code.specs.declared.code.RawCode.{RawCode}
 use Rattle.psm_code.specs.declared.code.RawRoutine.{RawRoutine}
 
@@ -80,13 +76,8 @@ with_keys keys (t ∷ ts) = with_keys (with_key keys t) ts
 
 -- ---- its procedures, each with its number among them
 
-abbrev pub mode_of : CodeMode → ParameterMode
-mode_of code_modes.In = scope_modes.In
-mode_of code_modes.Out = scope_modes.Out
-mode_of code_modes.InOut = scope_modes.InOut
-
 abbrev pub parameter_of : Parameter → ParameterScope
-parameter_of p = record { mode = mode_of p.mode; kind = Some p.kind }
+parameter_of p = record { mode = p.mode; kind = Some p.kind }
 
 abbrev pub with_procedure : Procedures → ℕ → RawRoutine → Procedures
 with_procedure ps n r = if is_some (procedure r.name (length r.parameters) ps) then ps

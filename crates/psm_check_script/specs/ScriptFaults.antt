@@ -2,14 +2,14 @@
 -- (ISO/IEC 9075:1992, 13.8, 7.9 and 13.1).
 use Rattle.std.specs.Prelude.{nat_eq, Bool, true, not, Option, Some, None, List, [], ◌∷◌, map, length, if◌then◌else◌}
 use Rattle.psm_list.specs.Several.{Several}
+use Rattle.psm_terms.specs.declared.routines.ParameterMode.{ParameterMode}
+use Rattle.psm_terms.specs.declared.routines.ParameterMode.TheVariants.{In, Out, InOut}
 use Rattle.psm_value.specs.declared.datum.Datum.{Datum}
 use Rattle.psm_value.specs.declared.sqltype.SqlType.{SqlType}
 use Rattle.psm_scope.specs.Lookup.{named}
 use Rattle.psm_scope.specs.Routines.{procedure}
 use Rattle.psm_scope.specs.declared.procedures.ProcedureScope.{ProcedureScope}
 use Rattle.psm_scope.specs.declared.procedures.ParameterScope.{ParameterScope}
-use Rattle.psm_scope.specs.declared.procedures.ParameterMode.{ParameterMode}
-use Rattle.psm_scope.specs.declared.procedures.ParameterMode.TheVariants.{In, Out, InOut}
 use Rattle.psm_tree.specs.Names.{Names}
 use Rattle.psm_tree.specs.declared.name.Identifier.{Identifier}
 use Rattle.psm_tree.specs.declared.types.Constant.{Constant}

@@ -5,13 +5,13 @@ ghost use Rattle.psm_check_expr.specs.Seen.{seen_in_checker_scope};
 ghost use Rattle.psm_resolve_expr.specs.Seen.{seen_at};
 ghost use Rattle.psm_scope.specs.Lookup.{named};
 ghost use Rattle.psm_scope.specs.Routines.{procedure};
-ghost use Rattle.psm_check_script.specs.Known.{key_names, known_of, mode_of, named_column, next_procedure, parameter_of, resolver_scope_of, checker_scope_of, with_column, with_columns, with_key, with_keys, with_procedure, with_routine, with_routines, with_table, with_tables};
+ghost use Rattle.psm_check_script.specs.Known.{key_names, known_of, named_column, next_procedure, parameter_of, resolver_scope_of, checker_scope_of, with_column, with_columns, with_key, with_keys, with_procedure, with_routine, with_routines, with_table, with_tables};
 
 use psm_check_expr::{CheckerScope, Columns, Scopes, SymbolTable};
-use psm_code::{CodeTable, Parameter, ParameterMode as CodeMode, RawCode, RawRoutine};
+use psm_code::{CodeTable, Parameter, RawCode, RawRoutine};
 use psm_list::List;
 use psm_resolve_expr::{ResolverScope, Scopes as NumberedScopes};
-use psm_scope::{Functions, Names, ParameterMode, ParameterScope, ProcedureScope, Procedures};
+use psm_scope::{Functions, Names, ParameterScope, ProcedureScope, Procedures};
 use psm_symbols::next_number;
 use psm_table::{Column, TableDef};
 use psm_text::Name;
@@ -285,19 +285,9 @@ fn parameters_of(
     let mut known = Vec::new(alloc);
     for parameter in parameters {
         known.push(ParameterScope {
-            mode: mode_of(parameter.mode),
+            mode: parameter.mode,
             kind: Some(parameter.kind),
         })?;
     }
     Ok(List::of(known))
-}
-
-fn mode_of(mode: CodeMode) -> ParameterMode
-    ensures { result ≡ mode_of mode }
-{
-    match mode {
-        CodeMode::In => ParameterMode::In,
-        CodeMode::Out => ParameterMode::Out,
-        CodeMode::InOut => ParameterMode::InOut,
-    }
 }

@@ -10,10 +10,11 @@ use psm_list::{Boxed, OneOrMore};
 use psm_rules::{Family, Fault, Rule, as_value, breaks, breaks_if, earlier, of_family};
 use psm_scope::Variable;
 use psm_symbols::{condition_name_fault, state_fault};
+use psm_terms::{ConditionItem, StatementItem};
 use psm_token::Place;
 use psm_tree::{
-    Condition, ConditionInformation, ConditionItem, ConditionNumber, Diagnostics, Expr, Signalled,
-    StatementInformation, StatementItem, Target,
+    Condition, ConditionInformation, ConditionNumber, Diagnostics, Expr, Signalled,
+    StatementInformation, Target,
 };
 use std::alloc::{AllocError, Global};
 
@@ -77,7 +78,7 @@ fn condition_item_family(item: ConditionItem) -> Family
 {
     match item {
         ConditionItem::ConditionNumber | ConditionItem::MessageLength => Family::Numbers,
-        ConditionItem::ReturnedSqlState
+        ConditionItem::ReturnedSqlstate
         | ConditionItem::ConditionIdentifier
         | ConditionItem::MessageText
         | ConditionItem::TableName

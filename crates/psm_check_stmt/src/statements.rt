@@ -22,8 +22,9 @@ use psm_check_expr::{
 };
 use psm_list::{Boxed, List, OneOrMore};
 use psm_rules::{Checked, Fault, Item, Rule, as_condition, breaks, breaks_if, earlier, faults_in};
-use psm_scope::{ParameterMode, ParameterScope, RowTable};
+use psm_scope::{ParameterScope, RowTable};
 use psm_symbols::{column_fault, inserted_types, type_of_column, unknown_column};
+use psm_terms::ParameterMode;
 use psm_token::Place;
 use psm_tree::{
     Assignment, Expr, Identifier, InsertSource, Names, Select, Signalled, Simple, Target, Targets,

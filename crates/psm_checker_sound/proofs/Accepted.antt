@@ -3,6 +3,7 @@ use Rattle.std.proofs.Common.{◌≡◌, ℕ, Bool, true, false, List, [], ◌�
 use Rattle.std.specs.Prelude.{IfSome, if◌then◌else◌, slice_get}
 use Rattle.std.specs.List.{list_all}
 use Rattle.psm_list.specs.Several.{several_map}
+use Rattle.psm_terms.specs.declared.operators.Operator.{Operator}
 use Rattle.psm_token.specs.declared.place.Place.{Place}
 use Rattle.psm_value.specs.declared.sqltype.SqlType.{SqlType}
 use Rattle.psm_scope.proofs.Lists.{both}
@@ -21,7 +22,6 @@ use Rattle.psm_rules.specs.ExprFaults.{Of, PickPart, ChainLinkPart, QueryChecked
 use Rattle.psm_rules.specs.CheckerScope.{CheckerScope}
 use Rattle.psm_tree.specs.declared.name.Identifier.{Identifier}
 use Rattle.psm_tree.specs.declared.name.Target.{Target}
-use Rattle.psm_tree.specs.declared.expr.Operator.{Operator as WrittenOperator}
 use Rattle.psm_tree.specs.declared.expr.Expr.{Expr, roll-Expr}
 use Rattle.psm_tree.specs.declared.expr.Expr.TheOpen.{Expr-F}
 use Rattle.psm_tree.specs.declared.expr.Expr.TheOpen as layers
@@ -36,7 +36,7 @@ use Rattle.psm_resolve_expr.specs.ResolverScope.{ResolverScope, meant_in}
 use Rattle.psm_resolve_expr.specs.Resolved as resolved
 use Rattle.psm_resolve_expr.specs.Resolved.{ShapedPick}
 use Rattle.psm_resolve_expr.specs.Exprs as making
-use Rattle.psm_resolve_expr.specs.Exprs.{all_at, at, comparison_of, function_of, logical_operator_of, resolve_chain_link, resolve_expr, resolve_pick, resolve_query, side_of, resolve_when}
+use Rattle.psm_resolve_expr.specs.Exprs.{all_at, at, resolve_chain_link, resolve_expr, resolve_pick, resolve_query, resolve_when}
 use Rattle.psm_resolved.specs.declared.expr.ResolvedExpr.TheVariants as exprs
 use Rattle.psm_typing.specs.TypingContext.{TypingContext}
 use Rattle.psm_checker_sound.specs.Agreement as agreement
@@ -98,7 +98,7 @@ abbrev checked_at : Expr-F Expr Pick ChainLink Select When → CheckerScope → 
 checked_at layer = faults.expr_layer (map-Expr Expr Pick ChainLink Select When (Of Checked) PickPart ChainLinkPart (Of QueryChecked) WhenPart check_expr check_pick check_chain_link check_query check_when layer)
 
 abbrev resolved_at : Expr-F Expr Pick ChainLink Select When → ResolverScope → Resolved
-resolved_at layer = making.expr_layer (map-Expr Expr Pick ChainLink Select When (making.Of Resolved) (making.Of ShapedPick) (making.Of (WrittenOperator × Resolved)) (making.Of ShapedQuery) (making.Of (Resolved × Resolved)) resolve_expr resolve_pick resolve_chain_link resolve_query resolve_when layer)
+resolved_at layer = making.expr_layer (map-Expr Expr Pick ChainLink Select When (making.Of Resolved) (making.Of ShapedPick) (making.Of (Operator × Resolved)) (making.Of ShapedQuery) (making.Of (Resolved × Resolved)) resolve_expr resolve_pick resolve_chain_link resolve_query resolve_when layer)
 
 -- ---- lists of parts
 
@@ -197,9 +197,9 @@ layer_part e checker_scope resolver_scope w a f (layers.Null place) = null_part 
 layer_part e checker_scope resolver_scope w a f (layers.Number place number) = number_part e w place number
 layer_part e checker_scope resolver_scope w a f (layers.Text place text) = text_part e w place text
 layer_part e checker_scope resolver_scope w a f (layers.Name t) = λ well. subst (λ row. Good e w (Some true) (faults.of_meaning t.first.place (faults.name_in checker_scope row t)) (resolved.of_meaning (meant_in resolver_scope.scopes resolver_scope.row t))) (sym a.row) (name_at e checker_scope resolver_scope w a t (Some true) resolver_scope.row f)
-layer_part e checker_scope resolver_scope w a f (layers.LogicalOperator logical_operator es) = logical_operator_part e w (check_expr es.first.0 checker_scope).place (logical_operator_of logical_operator) (map stands (map (λ e. e.0) (es.first ∷ es.rest))) (seen checker_scope (map check_expr (map (λ e. e.0) (es.first ∷ es.rest)))) (at resolver_scope (several_map resolve_expr (several_map (λ e. e.0) es))) (exprs_parts e checker_scope resolver_scope w a f (es.first ∷ es.rest))
+layer_part e checker_scope resolver_scope w a f (layers.LogicalOperator logical_operator es) = logical_operator_part e w (check_expr es.first.0 checker_scope).place logical_operator (map stands (map (λ e. e.0) (es.first ∷ es.rest))) (seen checker_scope (map check_expr (map (λ e. e.0) (es.first ∷ es.rest)))) (at resolver_scope (several_map resolve_expr (several_map (λ e. e.0) es))) (exprs_parts e checker_scope resolver_scope w a f (es.first ∷ es.rest))
 layer_part e checker_scope resolver_scope w a f (layers.Not place x) = not_part e w place (stands x.0) (check_expr x.0 checker_scope) (resolve_expr x.0 resolver_scope) (x.1 e checker_scope resolver_scope w a f)
-layer_part e checker_scope resolver_scope w a f (layers.Compare operator x y) = compare_part e w (check_expr x.0 checker_scope).place (comparison_of operator) (stands x.0) (stands y.0) (check_expr x.0 checker_scope) (check_expr y.0 checker_scope) (resolve_expr x.0 resolver_scope) (resolve_expr y.0 resolver_scope) (x.1 e checker_scope resolver_scope w a f) (y.1 e checker_scope resolver_scope w a f)
+layer_part e checker_scope resolver_scope w a f (layers.Compare operator x y) = compare_part e w (check_expr x.0 checker_scope).place operator (stands x.0) (stands y.0) (check_expr x.0 checker_scope) (check_expr y.0 checker_scope) (resolve_expr x.0 resolver_scope) (resolve_expr y.0 resolver_scope) (x.1 e checker_scope resolver_scope w a f) (y.1 e checker_scope resolver_scope w a f)
 layer_part e checker_scope resolver_scope w a f (layers.IsNull negated x) = is_null_part e w negated (stands x.0) (check_expr x.0 checker_scope) (resolve_expr x.0 resolver_scope) (x.1 e checker_scope resolver_scope w a f)
 layer_part e checker_scope resolver_scope w a f (layers.Between negated x y z) = between_part e w (check_expr x.0 checker_scope).place negated (stands x.0) (stands y.0) (stands z.0) (check_expr x.0 checker_scope) (check_expr y.0 checker_scope) (check_expr z.0 checker_scope) (resolve_expr x.0 resolver_scope) (resolve_expr y.0 resolver_scope) (resolve_expr z.0 resolver_scope) (x.1 e checker_scope resolver_scope w a f) (y.1 e checker_scope resolver_scope w a f) (z.1 e checker_scope resolver_scope w a f)
 layer_part e checker_scope resolver_scope w a f (layers.In negated x es) = in_part e w (check_expr x.0 checker_scope).place negated (stands x.0) (check_expr x.0 checker_scope) (resolve_expr x.0 resolver_scope) (map stands (map (λ e. e.0) (es.first ∷ es.rest))) (seen checker_scope (map check_expr (map (λ e. e.0) (es.first ∷ es.rest)))) (at resolver_scope (several_map resolve_expr (several_map (λ e. e.0) es))) (x.1 e checker_scope resolver_scope w a f) (exprs_parts e checker_scope resolver_scope w a f (es.first ∷ es.rest))
@@ -223,14 +223,14 @@ layer_part e checker_scope resolver_scope w a f (layers.Case place (Some x) ws (
 layer_part e checker_scope resolver_scope w a f (layers.Cast place x to) = cast_part e w place (stands x.0) (check_expr x.0 checker_scope) (resolve_expr x.0 resolver_scope) to (x.1 e checker_scope resolver_scope w a f)
 layer_part e checker_scope resolver_scope w a f (layers.Coalesce place es) = coalesce_part e w place (map stands (map (λ e. e.0) (es.first ∷ es.rest))) (seen checker_scope (map check_expr (map (λ e. e.0) (es.first ∷ es.rest)))) (at resolver_scope (several_map resolve_expr (several_map (λ e. e.0) es))) (exprs_parts e checker_scope resolver_scope w a f (es.first ∷ es.rest))
 layer_part e checker_scope resolver_scope w a f (layers.NullIf place x y) = null_if_part e w place (stands x.0) (stands y.0) (check_expr x.0 checker_scope) (check_expr y.0 checker_scope) (resolve_expr x.0 resolver_scope) (resolve_expr y.0 resolver_scope) (x.1 e checker_scope resolver_scope w a f) (y.1 e checker_scope resolver_scope w a f)
-layer_part e checker_scope resolver_scope w a f (layers.Function place function x) = function_part e w place (faults.text_result function) Texts (stands x.0) (check_expr x.0 checker_scope) (resolve_expr x.0 resolver_scope) (exprs.Function (function_of function) (resolve_expr x.0 resolver_scope).expr) (x.1 e checker_scope resolver_scope w a f) (text_result_sane function) (λ h. text_function_judged e w function (resolve_expr x.0 resolver_scope).expr h)
+layer_part e checker_scope resolver_scope w a f (layers.Function place function x) = function_part e w place (faults.text_result function) Texts (stands x.0) (check_expr x.0 checker_scope) (resolve_expr x.0 resolver_scope) (exprs.Function function (resolve_expr x.0 resolver_scope).expr) (x.1 e checker_scope resolver_scope w a f) (text_result_sane function) (λ h. text_function_judged e w function (resolve_expr x.0 resolver_scope).expr h)
 layer_part e checker_scope resolver_scope w a f (layers.Position place x y) = two_part e w place integer Texts Texts (stands x.0) (stands y.0) (check_expr x.0 checker_scope) (check_expr y.0 checker_scope) (resolve_expr x.0 resolver_scope) (resolve_expr y.0 resolver_scope) (exprs.Position (resolve_expr x.0 resolver_scope).expr (resolve_expr y.0 resolver_scope).expr) (x.1 e checker_scope resolver_scope w a f) (y.1 e checker_scope resolver_scope w a f) integer_sane
     (λ h k. position-judged e w (resolve_expr x.0 resolver_scope).expr (resolve_expr y.0 resolver_scope).expr h k)
 layer_part e checker_scope resolver_scope w a f (layers.Substring place x y None) = two_part e w place varying Texts Numbers (stands x.0) (stands y.0) (check_expr x.0 checker_scope) (check_expr y.0 checker_scope) (resolve_expr x.0 resolver_scope) (resolve_expr y.0 resolver_scope) (exprs.Substring (resolve_expr x.0 resolver_scope).expr (resolve_expr y.0 resolver_scope).expr None) (x.1 e checker_scope resolver_scope w a f) (y.1 e checker_scope resolver_scope w a f) varying_sane
     (λ h k. substring-judged e w (resolve_expr x.0 resolver_scope).expr (resolve_expr y.0 resolver_scope).expr None h (k, tt))
 layer_part e checker_scope resolver_scope w a f (layers.Substring place x y (Some z)) = three_part e w place varying Texts Numbers Numbers (stands x.0) (stands y.0) (stands z.0) (check_expr x.0 checker_scope) (check_expr y.0 checker_scope) (check_expr z.0 checker_scope) (resolve_expr x.0 resolver_scope) (resolve_expr y.0 resolver_scope) (resolve_expr z.0 resolver_scope) (exprs.Substring (resolve_expr x.0 resolver_scope).expr (resolve_expr y.0 resolver_scope).expr (Some (resolve_expr z.0 resolver_scope).expr)) (x.1 e checker_scope resolver_scope w a f) (y.1 e checker_scope resolver_scope w a f) (z.1 e checker_scope resolver_scope w a f) varying_sane
     (λ h k l. substring-judged e w (resolve_expr x.0 resolver_scope).expr (resolve_expr y.0 resolver_scope).expr (Some (resolve_expr z.0 resolver_scope).expr) h (k, (l, tt)))
-layer_part e checker_scope resolver_scope w a f (layers.Trim place side x) = function_part e w place varying Texts (stands x.0) (check_expr x.0 checker_scope) (resolve_expr x.0 resolver_scope) (exprs.Trim (side_of side) (resolve_expr x.0 resolver_scope).expr) (x.1 e checker_scope resolver_scope w a f) varying_sane (λ h. trim-judged e w (side_of side) (resolve_expr x.0 resolver_scope).expr h)
+layer_part e checker_scope resolver_scope w a f (layers.Trim place side x) = function_part e w place varying Texts (stands x.0) (check_expr x.0 checker_scope) (resolve_expr x.0 resolver_scope) (exprs.Trim side (resolve_expr x.0 resolver_scope).expr) (x.1 e checker_scope resolver_scope w a f) varying_sane (λ h. trim-judged e w side (resolve_expr x.0 resolver_scope).expr h)
 
 -- ---- the induction
 
@@ -239,7 +239,7 @@ unfolding check_expr check_pick check_chain_link check_query check_when
 rolled_part x c e checker_scope resolver_scope w a f =
     subst (λ s. Part e w s (check_expr (roll-Expr x) checker_scope) (resolve_expr (roll-Expr x) resolver_scope)) (sym (fold-roll-Expr Standing Bool Bool Bool Bool stands_layer pick_stands_layer chain_link_stands_layer select_stands_layer when_stands_layer x))
     (subst (λ g. Part e w (stands_at x) (g checker_scope) (resolve_expr (roll-Expr x) resolver_scope)) (sym (fold-roll-Expr (Of Checked) PickPart ChainLinkPart (Of QueryChecked) WhenPart faults.expr_layer faults.pick_layer faults.chain_link_layer faults.select_layer faults.when_layer x))
-    (subst (λ g. Part e w (stands_at x) (checked_at x checker_scope) (g resolver_scope)) (sym (fold-roll-Expr (making.Of Resolved) (making.Of ShapedPick) (making.Of (WrittenOperator × Resolved)) (making.Of ShapedQuery) (making.Of (Resolved × Resolved)) making.expr_layer making.pick_layer making.chain_link_layer making.select_layer making.when_layer x))
+    (subst (λ g. Part e w (stands_at x) (checked_at x checker_scope) (g resolver_scope)) (sym (fold-roll-Expr (making.Of Resolved) (making.Of ShapedPick) (making.Of (Operator × Resolved)) (making.Of ShapedQuery) (making.Of (Resolved × Resolved)) making.expr_layer making.pick_layer making.chain_link_layer making.select_layer making.when_layer x))
     (c e checker_scope resolver_scope w a f)))
 
 pub expr_step : (x : Expr-F Expr Pick ChainLink Select When) (y : Expr-F E P L S W) → bare y ≡ x → OfExpr (roll-Expr x)

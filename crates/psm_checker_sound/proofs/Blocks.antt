@@ -26,7 +26,7 @@ use Rattle.psm_resolve_expr.specs.ResolverScope.{Scopes, ResolverScope}
 use Rattle.psm_declare.specs.Seen.{expr_at}
 use Rattle.psm_declare.specs.Declarations as declaring
 use Rattle.psm_resolve.specs.Blocks as making
-use Rattle.psm_resolve.specs.Blocks.{resolve_block, resolve_branch, resolve_handler, kind_of, resolve_statement, value_of}
+use Rattle.psm_resolve.specs.Blocks.{resolve_block, resolve_branch, resolve_handler, resolve_statement, value_of}
 use Rattle.psm_declare.specs.Numbering.{Numbering}
 use Rattle.psm_resolve.specs.Statements.{simple_of}
 use Rattle.psm_exprgen.specs.declared.known.Known.{Known}
@@ -259,7 +259,7 @@ module _ (e : TypingContext) (known : Known) (letters : Letters) (parts : PartsW
         let inner = resolve_statement (out-Handler x).action action n in
         let others = resolve_handlers xs resolver_scope r.1 in
         let same = resolve_handler-out x resolver_scope n in
-        let opened = ap (λ r. out-ResolvedHandler r.0) same ∙ out-roll-ResolvedHandler (record { kind = kind_of (out-Handler x).kind; values = map (value_of scopes) (several (out-Handler x).values); action = inner.0 }) in
+        let opened = ap (λ r. out-ResolvedHandler r.0) same ∙ out-roll-ResolvedHandler (record { kind = (out-Handler x).kind; values = map (value_of scopes) (several (out-Handler x).values); action = inner.0 }) in
         let numbered = each_split (IsNumbered e known letters) (cursors_in_handler r.0) (cursors_of_handlers others.0) closed.1 in
         let grown : Grows n r.1 = subst (λ r. Grows n r.1) (sym same) (statement-grows h action n) in
         let filled : Fills e r.1 = fills-before (handlers-grow hs resolver_scope r.1) closed.0 in

@@ -1,13 +1,13 @@
 -- CALL without a fault is well-typed.
 use Rattle.std.proofs.Common.{◌≡◌, ℕ, suc, Bool, true, false, List, [], ◌∷◌, length, Option, Some, None, option_map, refl, ap, sym, ◌∙◌, subst, arith}
 use Rattle.std.specs.Prelude.{IfSome, if◌then◌else◌, slice_get}
+use Rattle.psm_terms.specs.declared.routines.ParameterMode.{ParameterMode}
+use Rattle.psm_terms.specs.declared.routines.ParameterMode.TheVariants.{In, Out, InOut}
 use Rattle.psm_token.specs.declared.place.Place.{Place}
 use Rattle.psm_value.specs.declared.sqltype.SqlType.{SqlType}
 use Rattle.psm_scope.specs.Lookup.{as_variable, meant}
 use Rattle.psm_scope.specs.Routines.{procedure}
 use Rattle.psm_scope.specs.declared.known.Variable.{Variable}
-use Rattle.psm_scope.specs.declared.procedures.ParameterMode.{ParameterMode}
-use Rattle.psm_scope.specs.declared.procedures.ParameterMode.TheVariants.{In, Out, InOut}
 use Rattle.psm_scope.specs.declared.procedures.ParameterScope.{ParameterScope}
 use Rattle.psm_scope.specs.declared.procedures.ProcedureScope.{ProcedureScope}
 use Rattle.psm_rules.specs.declared.fault.Fault.{Fault}
@@ -29,7 +29,7 @@ use Rattle.psm_typing.specs.TypingContext.{Each, TypingContext}
 use Rattle.psm_typing.specs.Statements as places
 use Rattle.psm_typing.specs.Statements.{AreArguments, IsArgument, IsSimple, IsSlot}
 use Rattle.psm_checker_sound.specs.Agreement.{Agree, HasSlot}
-use Rattle.psm_checker_sound.specs.Meant.{AreParameters, IsProcedureMeant, Meant, mode_of}
+use Rattle.psm_checker_sound.specs.Meant.{AreParameters, IsProcedureMeant, Meant}
 use Rattle.psm_checker_sound.specs.Simples.{Sourced}
 use Rattle.psm_checker_sound.proofs.Names.{meant_alike, meant_each}
 use Rattle.psm_checker_sound.proofs.Parts.{neither}
@@ -63,7 +63,7 @@ passed_by true place given other none = (refl, none)
 passed_by false place given None none = absurd cc
 passed_by false place given (Some f) none = absurd cc
 
-argument_by : (e : TypingContext) (checker_scope : CheckerScope) (resolver_scope : ResolverScope) → Agree e checker_scope resolver_scope → resolver_scope.row ≡ None → (mode : ParameterMode) (kind : Option SqlType) (r : ResolvedParameter) → mode_of mode ≡ r.mode → kind ≡ Some r.kind → (x : Expr) → Sourced x
+argument_by : (e : TypingContext) (checker_scope : CheckerScope) (resolver_scope : ResolverScope) → Agree e checker_scope resolver_scope → resolver_scope.row ≡ None → (mode : ParameterMode) (kind : Option SqlType) (r : ResolvedParameter) → mode ≡ r.mode → kind ≡ Some r.kind → (x : Expr) → Sourced x
     → (if is_passed checker_scope.scopes mode x then source_fault kind (check_expr x checker_scope) else earlier (breaks rule.NotAssignable (check_expr x checker_scope).place) (check_expr x checker_scope).fault) ≡ None → IsArgument e (argument_of resolver_scope mode x) r
 argument_by e checker_scope resolver_scope a row In kind r m k x well none = (sym m, source_for e checker_scope resolver_scope a row x well kind r.kind k none)
 argument_by e checker_scope resolver_scope a row Out kind r m k x well none =

@@ -1,6 +1,7 @@
 -- The query of a cursor that has no fault: it is well-formed, no set function stands in it, and its items are of the letters of their shapes.
 use Rattle.std.proofs.Common.{◌≡◌, ℕ, Bool, true, false, ◌&&◌, List, ◌∷◌, map, Option, Some, None, option_map, refl, ap, sym, ◌∙◌, subst}
 use Rattle.std.specs.Prelude.{IsTrue, slice_get}
+use Rattle.psm_terms.specs.declared.operators.Operator.{Operator}
 use Rattle.psm_token.specs.declared.place.Place.{Place}
 use Rattle.psm_exprcode.specs.declared.op.Letter.{Letter}
 use Rattle.psm_rules.specs.declared.checked.Checked.{Checked}
@@ -15,7 +16,6 @@ use Rattle.psm_tree.specs.declared.expr.Expr.TheOpen.{Select-F}
 use Rattle.psm_tree.specs.declared.expr.ChainLink.{ChainLink}
 use Rattle.psm_tree.specs.declared.expr.Pick.{Pick}
 use Rattle.psm_tree.specs.declared.expr.When.{When}
-use Rattle.psm_tree.specs.declared.expr.Operator.{Operator as WrittenOperator}
 use Rattle.psm_tree.specs.declared.expr.Select.{Select, out-Select}
 use Rattle.psm_tree.specs.declared.statement.OrderedQuery.{OrderedQuery}
 use Rattle.psm_resolved.specs.declared.expr.ResolvedExpr.TheOpen as layers
@@ -55,18 +55,18 @@ checked_table q checker_scope = ap (λ f. (f checker_scope).table) (fold_out-Sel
 rolled_table : (table : ℕ) (picks : List ShapedPick) (test : Option Resolved) → (out-ResolvedQuery (making.query_of table picks test).query).table ≡ table
 rolled_table table picks test = ap (λ o. o.table) (out-roll-ResolvedQuery (record { table = table; downward = false; items = making.items_of (values_in picks) (sets_in picks); test = making.optional_in test }))
 
-layer_table : (layer : Select-F (making.Of Resolved) (making.Of ShapedPick) (making.Of (WrittenOperator × Resolved)) (making.Of ShapedQuery) (making.Of (Resolved × Resolved))) (resolver_scope : ResolverScope)
+layer_table : (layer : Select-F (making.Of Resolved) (making.Of ShapedPick) (making.Of (Operator × Resolved)) (making.Of ShapedQuery) (making.Of (Resolved × Resolved))) (resolver_scope : ResolverScope)
     → (out-ResolvedQuery (making.select_layer layer resolver_scope).query).table ≡ number_of (table_at resolver_scope layer.table.name)
 layer_table layer resolver_scope =
     let inside : ResolverScope = on_row resolver_scope (record { name = layer.table.name; alias = faults.spelling layer.alias; columns = making.columns_in (table_at resolver_scope layer.table.name) }) in
     rolled_table (number_of (table_at resolver_scope layer.table.name)) (map (λ p. p inside) (layer.picks.first ∷ layer.picks.rest)) (making.any_at inside layer.condition)
 
-abbrev resolved_layer : Select → Select-F (making.Of Resolved) (making.Of ShapedPick) (making.Of (WrittenOperator × Resolved)) (making.Of ShapedQuery) (making.Of (Resolved × Resolved))
-resolved_layer q = map-Select Expr Pick ChainLink Select When (making.Of Resolved) (making.Of ShapedPick) (making.Of (WrittenOperator × Resolved)) (making.Of ShapedQuery) (making.Of (Resolved × Resolved)) making.resolve_expr making.resolve_pick making.resolve_chain_link resolve_query making.resolve_when (out-Select q)
+abbrev resolved_layer : Select → Select-F (making.Of Resolved) (making.Of ShapedPick) (making.Of (Operator × Resolved)) (making.Of ShapedQuery) (making.Of (Resolved × Resolved))
+resolved_layer q = map-Select Expr Pick ChainLink Select When (making.Of Resolved) (making.Of ShapedPick) (making.Of (Operator × Resolved)) (making.Of ShapedQuery) (making.Of (Resolved × Resolved)) making.resolve_expr making.resolve_pick making.resolve_chain_link resolve_query making.resolve_when (out-Select q)
 
 pub resolved_table : (q : Select) (resolver_scope : ResolverScope) → (out-ResolvedQuery (resolve_query q resolver_scope).query).table ≡ number_of (table_at resolver_scope (out-Select q).table.name)
 resolved_table q resolver_scope =
-    ap (λ f. (out-ResolvedQuery (f resolver_scope).query).table) (fold_out-Select (making.Of Resolved) (making.Of ShapedPick) (making.Of (WrittenOperator × Resolved)) (making.Of ShapedQuery) (making.Of (Resolved × Resolved)) making.expr_layer making.pick_layer making.chain_link_layer making.select_layer making.when_layer q)
+    ap (λ f. (out-ResolvedQuery (f resolver_scope).query).table) (fold_out-Select (making.Of Resolved) (making.Of ShapedPick) (making.Of (Operator × Resolved)) (making.Of ShapedQuery) (making.Of (Resolved × Resolved)) making.expr_layer making.pick_layer making.chain_link_layer making.select_layer making.when_layer q)
     ∙ layer_table (resolved_layer q) resolver_scope
 
 -- ---- the order changes nothing of what is known

@@ -2,6 +2,7 @@
 use Rattle.std.proofs.Common.{◌≡◌, ℕ, suc, ◌≤◌, Bool, true, false, List, [], ◌∷◌, ◌++◌, nat_le, Option, Some, None, refl, ap, sym, ◌∙◌, subst, arith}
 use Rattle.std.proofs.lemmas.Bool.Decides.{nat_tests}
 use Rattle.std.specs.Prelude.{IfSome, if◌then◌else◌}
+use Rattle.psm_terms.specs.declared.operators.Operator.{Operator}
 use Rattle.psm_value.specs.declared.sqltype.SqlType.{SqlType}
 use Rattle.psm_exprcode.specs.WellFormed.{is_type}
 use Rattle.psm_exprcode.specs.Kinds.{letter_of}
@@ -23,7 +24,6 @@ use Rattle.psm_tree.specs.declared.expr.Expr.TheFolds.{fold_out-Expr, map-Expr}
 use Rattle.psm_tree.specs.declared.expr.Expr.TheOpen.{Expr-F}
 use Rattle.psm_tree.specs.declared.expr.Expr.TheOpen as layers
 use Rattle.psm_tree.specs.declared.expr.ChainLink.{ChainLink}
-use Rattle.psm_tree.specs.declared.expr.Operator.{Operator as WrittenOperator}
 use Rattle.psm_tree.specs.declared.expr.Pick.{Pick}
 use Rattle.psm_tree.specs.declared.expr.Select.{Select}
 use Rattle.psm_tree.specs.declared.expr.When.{When}
@@ -163,7 +163,7 @@ column_item_by t c types None None h is = absurd cc
 column_item_by t c types None (Some v) h is = absurd cc
 
 abbrev resolved_in : Layer → ResolverScope → Resolved
-resolved_in layer = making.expr_layer (map-Expr Expr Pick ChainLink Select When (making.Of Resolved) (making.Of ShapedPick) (making.Of (WrittenOperator × Resolved)) (making.Of ShapedQuery) (making.Of (Resolved × Resolved)) resolve_expr resolve_pick making.resolve_chain_link making.resolve_query making.resolve_when layer)
+resolved_in layer = making.expr_layer (map-Expr Expr Pick ChainLink Select When (making.Of Resolved) (making.Of ShapedPick) (making.Of (Operator × Resolved)) (making.Of ShapedQuery) (making.Of (Resolved × Resolved)) resolve_expr resolve_pick making.resolve_chain_link making.resolve_query making.resolve_when layer)
 
 column_item_at : (resolver_scope : ResolverScope) (row : RowTable (Option SqlType)) (types : List SqlType) → resolver_scope.row ≡ Some row → HaveTypes row.columns types → (c : Spelling × Option SqlType) (layer : Layer) → blocks.item_column resolver_scope layer ≡ Some c → IsColumnItem c (resolved_in layer resolver_scope)
 column_item_at resolver_scope row types k h c (layers.Name t) is =
@@ -174,5 +174,5 @@ column_item_at resolver_scope row types k h c layer is = absurd cc
 
 pub column_item : (resolver_scope : ResolverScope) (row : RowTable (Option SqlType)) (types : List SqlType) → resolver_scope.row ≡ Some row → HaveTypes row.columns types → (c : Spelling × Option SqlType) (x : Expr) → blocks.item_column resolver_scope (out-Expr x) ≡ Some c → IsColumnItem c (resolve_expr x resolver_scope)
 column_item resolver_scope row types k h c x is =
-    subst (IsColumnItem c) (sym (ap (λ f. f resolver_scope) (fold_out-Expr (making.Of Resolved) (making.Of ShapedPick) (making.Of (WrittenOperator × Resolved)) (making.Of ShapedQuery) (making.Of (Resolved × Resolved)) making.expr_layer making.pick_layer making.chain_link_layer making.select_layer making.when_layer x)))
+    subst (IsColumnItem c) (sym (ap (λ f. f resolver_scope) (fold_out-Expr (making.Of Resolved) (making.Of ShapedPick) (making.Of (Operator × Resolved)) (making.Of ShapedQuery) (making.Of (Resolved × Resolved)) making.expr_layer making.pick_layer making.chain_link_layer making.select_layer making.when_layer x)))
     (column_item_at resolver_scope row types k h c (out-Expr x) is)

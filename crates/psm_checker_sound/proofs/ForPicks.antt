@@ -2,6 +2,7 @@
 use Rattle.std.proofs.Common.{◌≡◌, Bool, true, false, List, [], ◌∷◌, ◌++◌, map, Option, Some, None, refl, ap, sym, ◌∙◌, subst}
 use Rattle.std.specs.List.{list_all}
 use Rattle.std.specs.Prelude.{if◌then◌else◌}
+use Rattle.psm_terms.specs.declared.operators.Operator.{Operator}
 use Rattle.psm_scope.proofs.Lists.{both}
 use Rattle.psm_token.specs.declared.place.Place.{Place}
 use Rattle.psm_value.specs.declared.sqltype.SqlType.{SqlType}
@@ -29,7 +30,6 @@ use Rattle.psm_tree.specs.declared.expr.Expr.TheFolds.{fold_out-Pick, map-Pick}
 use Rattle.psm_tree.specs.declared.expr.Expr.TheOpen.{Pick-F}
 use Rattle.psm_tree.specs.declared.expr.Expr.TheOpen as layers
 use Rattle.psm_tree.specs.declared.expr.ChainLink.{ChainLink}
-use Rattle.psm_tree.specs.declared.expr.Operator.{Operator as WrittenOperator}
 use Rattle.psm_tree.specs.declared.expr.Pick.{Pick, out-Pick}
 use Rattle.psm_tree.specs.declared.expr.Select.{Select}
 use Rattle.psm_tree.specs.declared.expr.When.{When}
@@ -63,7 +63,7 @@ abbrev checked_of : PickLayer → CheckerScope → PickChecked
 checked_of layer = checked.pick_layer (map-Pick Expr Pick ChainLink Select When (Of Checked) PickPart ChainLinkPart (Of QueryChecked) WhenPart check_expr check_pick check_chain_link check_query check_when layer)
 
 abbrev resolved_in : PickLayer → ResolverScope → ShapedPick
-resolved_in layer = making.pick_layer (map-Pick Expr Pick ChainLink Select When (making.Of Resolved) (making.Of ShapedPick) (making.Of (WrittenOperator × Resolved)) (making.Of ShapedQuery) (making.Of (Resolved × Resolved)) resolve_expr resolve_pick making.resolve_chain_link making.resolve_query making.resolve_when layer)
+resolved_in layer = making.pick_layer (map-Pick Expr Pick ChainLink Select When (making.Of Resolved) (making.Of ShapedPick) (making.Of (Operator × Resolved)) (making.Of ShapedQuery) (making.Of (Resolved × Resolved)) resolve_expr resolve_pick making.resolve_chain_link making.resolve_query making.resolve_when layer)
 
 abbrev stands_in : PickLayer → Bool
 stands_in layer = pick_stands_layer (map-Pick Expr Pick ChainLink Select When Standing Bool Bool Bool Bool stands pick_stands chain_link_stands select_stands when_stands layer)
@@ -73,7 +73,7 @@ unfolding check_expr check_pick check_chain_link check_query check_when
 checked-out p checker_scope = ap (λ f. f checker_scope) (fold_out-Pick (Of Checked) PickPart ChainLinkPart (Of QueryChecked) WhenPart checked.expr_layer checked.pick_layer checked.chain_link_layer checked.select_layer checked.when_layer p)
 
 resolved-out : (p : Pick) (resolver_scope : ResolverScope) → resolve_pick p resolver_scope ≡ resolved_in (out-Pick p) resolver_scope
-resolved-out p resolver_scope = ap (λ f. f resolver_scope) (fold_out-Pick (making.Of Resolved) (making.Of ShapedPick) (making.Of (WrittenOperator × Resolved)) (making.Of ShapedQuery) (making.Of (Resolved × Resolved)) making.expr_layer making.pick_layer making.chain_link_layer making.select_layer making.when_layer p)
+resolved-out p resolver_scope = ap (λ f. f resolver_scope) (fold_out-Pick (making.Of Resolved) (making.Of ShapedPick) (making.Of (Operator × Resolved)) (making.Of ShapedQuery) (making.Of (Resolved × Resolved)) making.expr_layer making.pick_layer making.chain_link_layer making.select_layer making.when_layer p)
 
 stands-out : (p : Pick) → pick_stands p ≡ stands_in (out-Pick p)
 stands-out p = fold_out-Pick Standing Bool Bool Bool Bool stands_layer pick_stands_layer chain_link_stands_layer select_stands_layer when_stands_layer p

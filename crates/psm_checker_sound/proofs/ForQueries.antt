@@ -2,6 +2,7 @@
 use Rattle.std.proofs.Common.{◌≡◌, ℕ, Bool, true, not, List, [], ◌∷◌, map, Option, Some, None, option_map, refl, ap, sym, ◌∙◌, subst}
 use Rattle.std.specs.List.{list_all}
 use Rattle.std.specs.Prelude.{IfSome, IsTrue}
+use Rattle.psm_terms.specs.declared.operators.Operator.{Operator}
 use Rattle.psm_scope.specs.Rows.{columns_known}
 use Rattle.psm_scope.proofs.Lists.{both}
 use Rattle.psm_value.specs.declared.sqltype.SqlType.{SqlType}
@@ -19,7 +20,6 @@ use Rattle.psm_rules.specs.CheckerScope.{Columns, CheckerScope, table_named}
 use Rattle.psm_tree.specs.declared.expr.Expr.{Expr}
 use Rattle.psm_tree.specs.declared.expr.Expr.TheFolds.{fold_out-Select, map-Select}
 use Rattle.psm_tree.specs.declared.expr.ChainLink.{ChainLink}
-use Rattle.psm_tree.specs.declared.expr.Operator.{Operator as WrittenOperator}
 use Rattle.psm_tree.specs.declared.expr.Pick.{Pick}
 use Rattle.psm_tree.specs.declared.expr.Select.{Select, out-Select}
 use Rattle.psm_tree.specs.declared.expr.When.{When}
@@ -81,7 +81,7 @@ resolved_row q resolver_scope = resolver_scopes.on_row resolver_scope (row_at q 
 
 resolved_shapes : (q : Select) (resolver_scope : ResolverScope) → (resolve_query q resolver_scope).shapes ≡ shapes_of (values_in (map (λ p. resolve_pick p (resolved_row q resolver_scope)) (picks_of q))) (sets_in (map (λ p. resolve_pick p (resolved_row q resolver_scope)) (picks_of q)))
 resolved_shapes q resolver_scope =
-    ap (λ f. (f resolver_scope).shapes) (fold_out-Select (making.Of Resolved) (making.Of ShapedPick) (making.Of (WrittenOperator × Resolved)) (making.Of ShapedQuery) (making.Of (Resolved × Resolved)) making.expr_layer making.pick_layer making.chain_link_layer making.select_layer making.when_layer q)
+    ap (λ f. (f resolver_scope).shapes) (fold_out-Select (making.Of Resolved) (making.Of ShapedPick) (making.Of (Operator × Resolved)) (making.Of ShapedQuery) (making.Of (Resolved × Resolved)) making.expr_layer making.pick_layer making.chain_link_layer making.select_layer making.when_layer q)
     ∙ ap (λ ms. shapes_of (values_in ms) (sets_in ms)) (seen_each resolve_pick (resolved_row q resolver_scope) (picks_of q))
 
 picks_stand : (q : Select) → select_stands q ≡ true → list_all (λ well. well) (map pick_stands (picks_of q)) ≡ true

@@ -4,6 +4,11 @@ use Rattle.std.specs.Prelude.{IfSome, IsTrue, if◌then◌else◌, is_some, nat_
 use Rattle.std.specs.List.{list_all}
 use Rattle.std.proofs.lemmas.Bool.Decides.{nat_tests}
 use Rattle.psm_list.specs.Several.{Several, several_map}
+use Rattle.psm_terms.specs.declared.operators.Operator.{Operator}
+use Rattle.psm_terms.specs.declared.functions.TextFunction.{TextFunction}
+use Rattle.psm_terms.specs.declared.functions.TextFunction.TheVariants as functions
+use Rattle.psm_terms.specs.declared.operators.Comparison.{Comparison}
+use Rattle.psm_terms.specs.declared.operators.LogicalOperator.{LogicalOperator}
 use Rattle.psm_num.specs.Num.{Num}
 use Rattle.psm_token.specs.declared.place.Place.{Place}
 use Rattle.psm_value.specs.declared.sqltype.SqlType.{SqlType}
@@ -29,11 +34,6 @@ use Rattle.psm_rules.specs.Shapes.{character, family_of, is_of, of_literal, type
 use Rattle.psm_rules.specs.ExprFaults.{all_texts, argument, chained, compared, compares, checked_with, linked, check_null_if, null_test, of_meaning, of_type, operated, check_signed, text_result, without_fault}
 use Rattle.psm_tree.specs.declared.types.Sign.{Sign}
 use Rattle.psm_tree.specs.declared.types.Sign.TheVariants.{Plus, Minus}
-use Rattle.psm_tree.specs.declared.expr.Operator.{Operator as WrittenOperator}
-use Rattle.psm_tree.specs.declared.expr.TextFunction.{TextFunction}
-use Rattle.psm_tree.specs.declared.expr.TextFunction.TheVariants as functions
-use Rattle.psm_resolved.specs.declared.expr.Comparison.{Comparison}
-use Rattle.psm_resolved.specs.declared.expr.LogicalOperator.{LogicalOperator}
 use Rattle.psm_resolved.specs.declared.expr.ResolvedExpr.{ResolvedExpr}
 use Rattle.psm_resolved.specs.declared.expr.ResolvedExpr.TheVariants as exprs
 use Rattle.psm_resolved.specs.declared.expr.ResolvedOperation.{out-roll-ResolvedOperation}
@@ -41,7 +41,7 @@ use Rattle.psm_resolve_expr.specs.declared.resolved.Resolved.{Resolved}
 use Rattle.psm_resolve_expr.specs.Resolved as resolved
 use Rattle.psm_resolve_expr.specs.Resolved.{shape_of_type}
 use Rattle.psm_resolve_expr.specs.Exprs as making
-use Rattle.psm_resolve_expr.specs.Exprs.{operator_chain_of, condition, expr_in, function_of, chain_link_of, operator_of, signed, value}
+use Rattle.psm_resolve_expr.specs.Exprs.{operator_chain_of, condition, expr_in, chain_link_of, signed, value}
 use Rattle.psm_typing.specs.TypingContext.{TypingContext}
 use Rattle.psm_typing.specs.Expressions.{letter_of_operator}
 use Rattle.psm_checker_sound.specs.Agreement.{HasSlot, letter_in}
@@ -277,10 +277,10 @@ text_result_sane functions.CharLength = record { typed = refl; small = omega ari
 text_result_sane functions.Upper = record { typed = refl; small = omega arith }
 text_result_sane functions.Lower = record { typed = refl; small = omega arith }
 
-pub text_function_judged : (e : TypingContext) (w : Where) (f : TextFunction) (x : ResolvedExpr) → Judged e w x T → Judged e w (exprs.Function (function_of f) x) (letter_in (family_of (text_result f).kind))
-text_function_judged e w functions.CharLength x h = function-judged e w (function_of functions.CharLength) x h
-text_function_judged e w functions.Upper x h = function-judged e w (function_of functions.Upper) x h
-text_function_judged e w functions.Lower x h = function-judged e w (function_of functions.Lower) x h
+pub text_function_judged : (e : TypingContext) (w : Where) (f : TextFunction) (x : ResolvedExpr) → Judged e w x T → Judged e w (exprs.Function f x) (letter_in (family_of (text_result f).kind))
+text_function_judged e w functions.CharLength x h = function-judged e w functions.CharLength x h
+text_function_judged e w functions.Upper x h = function-judged e w functions.Upper x h
+text_function_judged e w functions.Lower x h = function-judged e w functions.Lower x h
 
 -- ---- signs
 
@@ -304,13 +304,13 @@ parenthesized_part e w place a f m p well = let g = p (operand_source a well) in
 
 -- ---- chains
 
-pub record IsChainLink (e : TypingContext) (w : Where) (b : Bool) (f : WrittenOperator × Checked) (m : WrittenOperator × Resolved) : Type 0 where
+pub record IsChainLink (e : TypingContext) (w : Where) (b : Bool) (f : Operator × Checked) (m : Operator × Resolved) : Type 0 where
   pub operator : f.0 ≡ m.0
   pub standing : Standing
   pub stands : b ≡ as_operand standing
   pub part : Part e w standing f.1 m.1
 
-abbrev pub ChainLinks : TypingContext → Where → List Bool → List (WrittenOperator × Checked) → List (WrittenOperator × Resolved) → Type 0
+abbrev pub ChainLinks : TypingContext → Where → List Bool → List (Operator × Checked) → List (Operator × Resolved) → Type 0
 ChainLinks e w [] [] [] = Unit {0}
 ChainLinks e w (b ∷ bs) (f ∷ fs) (m ∷ ms) = IsChainLink e w b f m × ChainLinks e w bs fs ms
 ChainLinks e w [] [] (m ∷ ms) = ⊥
@@ -318,10 +318,10 @@ ChainLinks e w [] (f ∷ fs) ms = ⊥
 ChainLinks e w (b ∷ bs) [] ms = ⊥
 ChainLinks e w (b ∷ bs) (f ∷ fs) [] = ⊥
 
-chain_link_well : (e : TypingContext) (w : Where) (b : Bool) (f : WrittenOperator × Checked) (m : WrittenOperator × Resolved) (l : IsChainLink e w b f m) → b ≡ true → IsTrue (as_operand l.standing)
+chain_link_well : (e : TypingContext) (w : Where) (b : Bool) (f : Operator × Checked) (m : Operator × Resolved) (l : IsChainLink e w b f m) → b ≡ true → IsTrue (as_operand l.standing)
 chain_link_well e w b f m l h = sym l.stands ∙ h
 
-chained_clean : (e : TypingContext) (w : Where) (bs : List Bool) (fs : List (WrittenOperator × Checked)) (ms : List (WrittenOperator × Resolved)) (left : Checked) → ChainLinks e w bs fs ms → list_all (λ well. well) bs ≡ true → Clean left → Clean (chained left fs)
+chained_clean : (e : TypingContext) (w : Where) (bs : List Bool) (fs : List (Operator × Checked)) (ms : List (Operator × Resolved)) (left : Checked) → ChainLinks e w bs fs ms → list_all (λ well. well) bs ≡ true → Clean left → Clean (chained left fs)
 chained_clean e w [] [] [] left ls well c = c
 chained_clean e w [] [] (m ∷ ms) left ls well c = absurd ls
 chained_clean e w [] (f ∷ fs) ms left ls well c = absurd ls
@@ -335,7 +335,7 @@ chained_clean e w (b ∷ bs) (f ∷ fs) (m ∷ ms) left ls well c =
     (c, (as_value-clean f.1 (ls.0.part (operand_source ls.0.standing (chain_link_well e w b f m ls.0 wells.0))).clean, tt)) (operated-clean f.0 left.place (shape_of left) (shape_of next)))
 
 -- the value of a chain
-record IsOperatorChain (e : TypingContext) (w : Where) (left : Typed) (ms : List (WrittenOperator × Resolved)) (s : Shape) : Type 0 where
+record IsOperatorChain (e : TypingContext) (w : Where) (left : Typed) (ms : List (Operator × Resolved)) (s : Shape) : Type 0 where
   type : Typed
   is : Value type ≡ s
   resolved : making.chained (Value left) ms ≡ Value type
@@ -343,9 +343,9 @@ record IsOperatorChain (e : TypingContext) (w : Where) (left : Typed) (ms : List
   family : family_of left.kind ≡ family_of type.kind
   chain_links : ChainLinksJudged e w (map chain_link_of ms) (letter_in (family_of type.kind))
 
-chain_link_judged : (e : TypingContext) (w : Where) (m : WrittenOperator × Resolved) (ms : List (WrittenOperator × Resolved)) (k : Letter) → letter_of_operator (operator_of m.0) ≡ k → Judged e w m.1.expr k → ChainLinksJudged e w (map chain_link_of ms) k
+chain_link_judged : (e : TypingContext) (w : Where) (m : Operator × Resolved) (ms : List (Operator × Resolved)) (k : Letter) → letter_of_operator m.0 ≡ k → Judged e w m.1.expr k → ChainLinksJudged e w (map chain_link_of ms) k
     → ChainLinksJudged e w (map chain_link_of (m ∷ ms)) k
-chain_link_judged e w m ms k l j ls = let r = sym (out-roll-ResolvedOperation (record { operator = operator_of m.0; operand = m.1.expr })) in (
+chain_link_judged e w m ms k l j ls = let r = sym (out-roll-ResolvedOperation (record { operator = m.0; operand = m.1.expr })) in (
   subst (λ o. letter_of_operator o.operator ≡ k) r l,
   subst (λ o. Judged e w o.operand k) r j,
   ls,
@@ -355,7 +355,7 @@ pub shape_some : (o : Option Shape) → is_some o ≡ true → o ≡ Some (shown
 shape_some None h = absurd cc
 shape_some (Some s) h = refl
 
-chained_shaped : (fs : List (WrittenOperator × Checked)) (left : Checked) → is_shaped (chained left fs) ≡ true → is_shaped left ≡ true
+chained_shaped : (fs : List (Operator × Checked)) (left : Checked) → is_shaped (chained left fs) ≡ true → is_shaped left ≡ true
 chained_shaped [] left h = h
 chained_shaped (f ∷ fs) left h =
     let next : Checked = as_value f.1 in
@@ -364,7 +364,7 @@ chained_shaped (f ∷ fs) left h =
     let parts = combined-parts left.place (left ∷ next ∷ []) whole (shape_of (linked left f.0 next)) (shape_some (linked left f.0 next).shape shaped) in
     (both (is_shaped left) (is_shaped next && true) parts.0).0
 
-operator_chain_more : (e : TypingContext) (w : Where) (t u c : Typed) (o : WrittenOperator) (m : WrittenOperator × Resolved) (ms : List (WrittenOperator × Resolved)) (s : Shape) → o ≡ m.0 → IsValue e w m.1 u → (p : IsOperated o t u (Value c)) → p.type ≡ c
+operator_chain_more : (e : TypingContext) (w : Where) (t u c : Typed) (o : Operator) (m : Operator × Resolved) (ms : List (Operator × Resolved)) (s : Shape) → o ≡ m.0 → IsValue e w m.1 u → (p : IsOperated o t u (Value c)) → p.type ≡ c
     → IsOperatorChain e w c ms s → IsOperatorChain e w t (m ∷ ms) s
 operator_chain_more e w t u c o m ms s same v p is l =
     let last : family_of p.type.kind ≡ family_of l.type.kind = ap (λ t. family_of t.kind) is ∙ l.family in record {
@@ -373,14 +373,14 @@ operator_chain_more e w t u c o m ms s same v p is l =
       resolved = ap (λ o. making.chained (resolved.operated o (Value t) m.1.shape) ms) (sym same) ∙ ap (λ z. making.chained (resolved.operated o (Value t) z) ms) v.shape ∙ ap (λ z. making.chained z ms) p.resolved ∙ ap (λ t. making.chained (Value t) ms) is ∙ l.resolved;
       sane = l.sane;
       family = p.left ∙ last;
-      chain_links = chain_link_judged e w m ms (letter_in (family_of l.type.kind)) (ap (λ o. letter_of_operator (operator_of o)) (sym same) ∙ p.letter ∙ ap letter_in last)
+      chain_links = chain_link_judged e w m ms (letter_in (family_of l.type.kind)) (ap (λ o. letter_of_operator o) (sym same) ∙ p.letter ∙ ap letter_in last)
           (subst (λ k. Judged e w m.1.expr (letter_in k)) (p.right ∙ last) v.judged) l.chain_links;
     }
 
 value_inside : (a b : Typed) → Value a ≡ Value b → a ≡ b
 value_inside a b h = cc
 
-chained_value : (e : TypingContext) (w : Where) (bs : List Bool) (fs : List (WrittenOperator × Checked)) (ms : List (WrittenOperator × Resolved)) (left : Checked) (t : Typed) (s : Shape) → ChainLinks e w bs fs ms → list_all (λ well. well) bs ≡ true
+chained_value : (e : TypingContext) (w : Where) (bs : List Bool) (fs : List (Operator × Checked)) (ms : List (Operator × Resolved)) (left : Checked) (t : Typed) (s : Shape) → ChainLinks e w bs fs ms → list_all (λ well. well) bs ≡ true
     → IsSane t → left.shape ≡ Some (Value t) → (chained left fs).shape ≡ Some s → IsOperatorChain e w t ms s
 chained_value e w [] [] [] left t s ls well sane h is = record { type = t; is = some_same (Value t) s (sym h ∙ is); resolved = refl; sane = sane; family = refl; chain_links = tt }
 chained_value e w [] [] (m ∷ ms) left t s ls well sane h is = absurd ls
@@ -402,7 +402,7 @@ chained_value e w (b ∷ bs) (f ∷ fs) (m ∷ ms) left t s ls well sane h is =
     operator_chain_more e w t o.type p.type f.0 m ms s ls.0.operator o.value q refl
     (chained_value e w bs fs ms more p.type s ls.1 wells.1 p.sane (shaped ∙ ap (λ z. Some z) (sym p.is)) is)
 
-pub operator_chain_part : (e : TypingContext) (w : Where) (a : Standing) (f : Checked) (m : Resolved) (bs : List Bool) (fs : List (WrittenOperator × Checked)) (ms : List (WrittenOperator × Resolved)) → Part e w a f m → ChainLinks e w bs fs ms
+pub operator_chain_part : (e : TypingContext) (w : Where) (a : Standing) (f : Checked) (m : Resolved) (bs : List Bool) (fs : List (Operator × Checked)) (ms : List (Operator × Resolved)) → Part e w a f m → ChainLinks e w bs fs ms
     → Part e w (Some (as_operand a && list_all (λ well. well) bs)) (chained (as_value f) fs) (operator_chain_of m ms)
 operator_chain_part e w a f m bs fs ms p ls well = let wells = both (as_operand a) (list_all (λ well. well) bs) well in record {
   clean = chained_clean e w bs fs ms (as_value f) ls wells.1 (as_value-clean f (p (operand_source a wells.0)).clean);

@@ -2,21 +2,21 @@
 use Rattle.std.proofs.Common.{◌≡◌, true, false, not, List, [], ◌∷◌, ◌++◌, map, Option, Some, None, option_map, refl, ap, sym, ◌∙◌, subst}
 use Rattle.std.specs.List.{list_all}
 use Rattle.std.proofs.lemmas.List.{append_assoc, append-nil}
+use Rattle.psm_terms.specs.declared.routines.ParameterMode.{ParameterMode}
+use Rattle.psm_terms.specs.declared.routines.ParameterMode.TheVariants as modes
 use Rattle.psm_value.specs.declared.sqltype.SqlType.{SqlType}
 use Rattle.psm_exprcode.specs.WellFormed.{is_type}
 use Rattle.psm_rules.specs.declared.rule.Rule.TheVariants as rule
 use Rattle.psm_rules.specs.FileFaults.{is_in, parameter_fault}
 use Rattle.psm_rules.specs.Types.{type_of}
 use Rattle.psm_rules.specs.CheckerScope.{SymbolTable}
-use Rattle.psm_tree.specs.declared.file.Mode.{Mode}
-use Rattle.psm_tree.specs.declared.file.Mode.TheVariants as modes
 use Rattle.psm_tree.specs.declared.file.Parameter.{Parameter}
 use Rattle.psm_tree.specs.declared.file.Routine.{Routine}
 use Rattle.psm_tree.specs.declared.types.DataType.{DataType}
 use Rattle.psm_code.specs.Rules.{where_there}
 use Rattle.psm_resolve_expr.specs.Exprs.{type_known}
 use Rattle.psm_declare.specs.Declarations.{Numbered}
-use Rattle.psm_resolve.specs.Files.{mode_of, resolve_parameter, resolve_routine, numbered_parameter, numbered_parameters}
+use Rattle.psm_resolve.specs.Files.{resolve_parameter, resolve_routine, numbered_parameter, numbered_parameters}
 use Rattle.psm_codegen.specs.Files as emit
 use Rattle.psm_codegen.specs.Files.{gives_back}
 use Rattle.psm_typing.specs.TypingContext.{Begin, Each}
@@ -55,7 +55,7 @@ head-names seen r a = new-names [] (map (λ p. p.name) (map resolve_parameter r.
 
 -- ---- modes: the parameters of a function are IN
 
-in-back : (m : Mode) → is_in m ≡ true → not (gives_back (mode_of m)) ≡ true
+in-back : (m : ParameterMode) → is_in m ≡ true → not (gives_back m) ≡ true
 in-back modes.In h = refl
 in-back modes.Out h = absurd cc
 in-back modes.InOut h = absurd cc

@@ -3,6 +3,11 @@ use Rattle.std.proofs.Common.{◌≡◌, ℕ, zero, suc, Bool, true, false, ◌&
 use Rattle.std.specs.Prelude.{IsTrue, slice_get}
 use Rattle.std.specs.List.{list_all}
 use Rattle.psm_list.specs.Several.{Several}
+use Rattle.psm_terms.specs.declared.operators.Comparison.{Comparison}
+use Rattle.psm_terms.specs.declared.operators.LogicalOperator.{LogicalOperator}
+use Rattle.psm_terms.specs.declared.operators.Operator.{Operator}
+use Rattle.psm_terms.specs.declared.operators.Operator.TheVariants as operators
+use Rattle.psm_terms.specs.declared.functions.TextFunction.{TextFunction}
 use Rattle.psm_num.specs.Num.{Num}
 use Rattle.psm_text.specs.declared.parts.Side.{Side}
 use Rattle.psm_value.specs.declared.sqltype.SqlType.{SqlType}
@@ -11,11 +16,6 @@ use Rattle.psm_exprcode.specs.declared.op.Letter.{Letter}
 use Rattle.psm_exprcode.specs.declared.op.Letter.TheVariants.{N, T, B}
 use Rattle.psm_exprcode.specs.Kinds.{is_letter, is_value, letter_of}
 use Rattle.psm_exprcode.specs.WellFormed.{is_type}
-use Rattle.psm_resolved.specs.declared.expr.Comparison.{Comparison}
-use Rattle.psm_resolved.specs.declared.expr.LogicalOperator.{LogicalOperator}
-use Rattle.psm_resolved.specs.declared.expr.Operator.{Operator}
-use Rattle.psm_resolved.specs.declared.expr.Operator.TheVariants as operators
-use Rattle.psm_resolved.specs.declared.expr.TextFunction.{TextFunction}
 use Rattle.psm_resolved.specs.declared.expr.ResolvedExpr.{ResolvedExpr}
 use Rattle.psm_resolved.specs.declared.expr.ResolvedExpr.TheVariants as exprs
 use Rattle.psm_resolved.specs.declared.expr.ResolvedOperation.{ResolvedOperation, out-ResolvedOperation}

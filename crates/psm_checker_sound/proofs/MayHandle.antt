@@ -2,6 +2,8 @@
 use Rattle.std.proofs.Common.{◌≡◌, Bool, true, false, not, ◌||◌, List, [], ◌∷◌, ◌++◌, map, None, refl, ap, sym, ◌∙◌, subst}
 use Rattle.std.proofs.lemmas.List.{map-append}
 use Rattle.std.specs.List.{flat_map}
+use Rattle.psm_terms.specs.declared.routines.HandlerKind.{HandlerKind}
+use Rattle.psm_terms.specs.declared.routines.HandlerKind.TheVariants as kinds
 use Rattle.psm_cond.specs.declared.handlers.ConditionValue.{ConditionValue}
 use Rattle.psm_token.specs.declared.place.Place.{Place}
 use Rattle.psm_scope.specs.Scopes as scope
@@ -11,14 +13,12 @@ use Rattle.psm_rules.specs.StatementFaults as statement_faults
 use Rattle.psm_rules.specs.StatementFaults.{Context, several}
 use Rattle.psm_rules.proofs.Earliest.{first_of_cons}
 use Rattle.psm_tree.specs.declared.statement.Handler.{Handler, out-Handler}
-use Rattle.psm_tree.specs.declared.statement.HandlerKind.{HandlerKind}
-use Rattle.psm_tree.specs.declared.statement.HandlerKind.TheVariants as kinds
 use Rattle.psm_tree.specs.declared.statement.HandlerValue.{HandlerValue}
 use Rattle.psm_resolved.specs.declared.statement.ResolvedHandler.{ResolvedHandler, out-ResolvedHandler, out-roll-ResolvedHandler}
 use Rattle.psm_resolved.specs.declared.statement.ResolvedStatement.{ResolvedStatement}
 use Rattle.psm_resolve_expr.specs.ResolverScope.{ResolverScope}
 use Rattle.psm_resolve.specs.Blocks as making
-use Rattle.psm_resolve.specs.Blocks.{resolve_handler, kind_of, resolve_statement, value_of}
+use Rattle.psm_resolve.specs.Blocks.{resolve_handler, resolve_statement, value_of}
 use Rattle.psm_declare.specs.Numbering.{Numbering}
 use Rattle.psm_code.specs.RoutineRules.{are_new, is_undo}
 use Rattle.psm_code.specs.Rules.{is_some}
@@ -48,7 +48,7 @@ values_in h = (out-ResolvedHandler h).values
 own_values : (h : Handler) (resolver_scope : ResolverScope) (n : Numbering) → values_in (resolve_handler h resolver_scope n).0 ≡ map (value_of resolver_scope.scopes) (several (out-Handler h).values)
 own_values h resolver_scope n =
     ap (λ r. values_in r.0) (resolve_handler-out h resolver_scope n)
-    ∙ ap (λ o. o.values) (out-roll-ResolvedHandler (record { kind = kind_of (out-Handler h).kind; values = map (value_of resolver_scope.scopes) (several (out-Handler h).values); action = (resolve_statement (out-Handler h).action (making.inside resolver_scope scope.Action) n).0 }))
+    ∙ ap (λ o. o.values) (out-roll-ResolvedHandler (record { kind = (out-Handler h).kind; values = map (value_of resolver_scope.scopes) (several (out-Handler h).values); action = (resolve_statement (out-Handler h).action (making.inside resolver_scope scope.Action) n).0 }))
 
 resolve_values : (hs : List Handler) (resolver_scope : ResolverScope) (n : Numbering) → flat_map values_in (resolve_handlers hs resolver_scope n).0 ≡ map (value_of resolver_scope.scopes) (written_values hs)
 resolve_values [] resolver_scope n = refl
@@ -72,7 +72,7 @@ handlers_well_typed c atomic (h ∷ hs) none =
     (ap (λ q. earlier (q.own atomic) (q.action (statement_faults.inside c scope.Action))) (sym (handler_part-out h)) ∙ two.0) in
     (own, handlers_well_typed c atomic hs two.1)
 
-undo_by : (place : Place) (kind : HandlerKind) (atomic : Bool) → undo_fault place kind atomic ≡ None → (not (is_undo (kind_of kind)) || atomic) ≡ true
+undo_by : (place : Place) (kind : HandlerKind) (atomic : Bool) → undo_fault place kind atomic ≡ None → (not (is_undo kind) || atomic) ≡ true
 undo_by place kinds.Continue atomic none = refl
 undo_by place kinds.Exit atomic none = refl
 undo_by place kinds.Undo true none = refl
@@ -81,7 +81,7 @@ undo_by place kinds.Undo false none = absurd cc
 may_at : (e : TypingContext) (atomic : Bool) (h : Handler) (resolver_scope : ResolverScope) (action : ResolvedStatement) → undo_fault (out-Handler h).«at» (out-Handler h).kind atomic ≡ None → Each (WellFormedValue e) (map (value_of resolver_scope.scopes) (several (out-Handler h).values))
     → MayHandle e atomic (handler_of h resolver_scope action)
 may_at e atomic h resolver_scope action none well_formed =
-    let r = sym (out-roll-ResolvedHandler (record { kind = kind_of (out-Handler h).kind; values = map (value_of resolver_scope.scopes) (several (out-Handler h).values); action = action })) in record {
+    let r = sym (out-roll-ResolvedHandler (record { kind = (out-Handler h).kind; values = map (value_of resolver_scope.scopes) (several (out-Handler h).values); action = action })) in record {
       some = subst (λ o. is_some o.values ≡ true) r refl;
       values = subst (λ o. Each (WellFormedValue e) o.values) r well_formed;
       undo = subst (λ o. (not (is_undo o.kind) || atomic) ≡ true) r (undo_by (out-Handler h).«at» (out-Handler h).kind atomic none);

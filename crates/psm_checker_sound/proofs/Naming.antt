@@ -1,6 +1,7 @@
 -- Simple statements that name cursors, conditions and labels, and GET DIAGNOSTICS: those without a fault are well-typed.
 use Rattle.std.proofs.Common.{◌≡◌, ℕ, Bool, true, false, List, [], ◌∷◌, map, length, Option, Some, None, option_map, refl, ap, sym, ◌∙◌, subst}
 use Rattle.std.specs.Prelude.{IfSome, IsTrue, if◌then◌else◌, is_some, nat_eq, not, slice_get}
+use Rattle.psm_terms.specs.declared.diagnostics.DiagnosticsArea.{DiagnosticsArea}
 use Rattle.psm_token.specs.declared.place.Place.{Place}
 use Rattle.psm_value.specs.declared.sqltype.SqlType.{SqlType}
 use Rattle.psm_scope.specs.Lookup as lookup
@@ -28,7 +29,6 @@ use Rattle.psm_tree.specs.declared.statement.Condition.TheVariants as signals
 use Rattle.psm_tree.specs.declared.statement.ConditionNumber.{ConditionNumber}
 use Rattle.psm_tree.specs.declared.statement.ConditionNumber.TheVariants as numbers
 use Rattle.psm_tree.specs.declared.statement.Diagnostics.{Diagnostics}
-use Rattle.psm_tree.specs.declared.statement.DiagnosticsArea.{DiagnosticsArea}
 use Rattle.psm_tree.specs.declared.statement.Diagnostics.TheVariants as diagnostics
 use Rattle.psm_tree.specs.declared.statement.Signalled.{Signalled}
 use Rattle.psm_resolve_expr.specs.Exprs.{resolve_expr}
@@ -124,10 +124,10 @@ gotten e checker_scope resolver_scope a target place family item (x ∷ xs) none
 
 pub diagnostics_well_typed : (e : TypingContext) (checker_scope : CheckerScope) (resolver_scope : ResolverScope) → Agree e checker_scope resolver_scope → (which : DiagnosticsArea) (d : Diagnostics) → diagnostics_fault checker_scope.scopes d ≡ None → AreDiagnostics e (diagnostics_of resolver_scope.scopes which d)
 diagnostics_well_typed e checker_scope resolver_scope a which (diagnostics.Statement items) none =
-    gotten e checker_scope resolver_scope a (λ i. i.target) (λ i. i.place) (λ i. statement_item_family i.item) (λ i. making.statement_item i.item) (several items) none
+    gotten e checker_scope resolver_scope a (λ i. i.target) (λ i. i.place) (λ i. statement_item_family i.item) (λ i. i.item) (several items) none
 diagnostics_well_typed e checker_scope resolver_scope a which (diagnostics.Condition number items) none =
     let parts = neither (number_fault checker_scope.scopes number) (first_of (map (λ i. item_fault checker_scope.scopes i.target i.place (condition_item_family i.item)) (several items))) none in
-    (number_well_typed e checker_scope resolver_scope a number parts.0, gotten e checker_scope resolver_scope a (λ i. i.target) (λ i. i.place) (λ i. condition_item_family i.item) (λ i. making.condition_item i.item) (several items) parts.1)
+    (number_well_typed e checker_scope resolver_scope a number parts.0, gotten e checker_scope resolver_scope a (λ i. i.target) (λ i. i.place) (λ i. condition_item_family i.item) (λ i. i.item) (several items) parts.1)
 
 -- ---- cursors
 

@@ -20,7 +20,7 @@ use Rattle.psm_resolved.specs.declared.statement.ResolvedStatement.TheOpen.{Reso
 use Rattle.psm_resolve_expr.specs.ResolverScope.{ResolverScope}
 use Rattle.psm_declare.specs.Seen.{expr_at}
 use Rattle.psm_resolve.specs.Blocks as making
-use Rattle.psm_resolve.specs.Blocks.{resolve_block, resolve_branch, resolve_handler, kind_of, resolve_statement, value_of}
+use Rattle.psm_resolve.specs.Blocks.{resolve_block, resolve_branch, resolve_handler, resolve_statement, value_of}
 use Rattle.psm_declare.specs.Numbering.{Numbering, Step, then_as}
 use Rattle.psm_scope.specs.Scopes as scope
 use Rattle.psm_checker_sound.specs.Numbered.{Cursors, block_cursors_layer, branch_cursors_layer, cursors_in, cursors_in_block, cursors_in_branch, cursors_in_handler, cursors_layer, handler_cursors_layer, together}
@@ -92,7 +92,7 @@ pub resolve_branch-out : (x : Branch) (resolver_scope : ResolverScope) (n : Numb
 resolve_branch-out x resolver_scope n = ap (λ f. f resolver_scope n) (fold_out-Branch BlockResolution (Resolved ResolvedStatement) (Resolved ResolvedBranch) (Resolved ResolvedHandler) making.block_layer making.statement_layer making.branch_layer making.handler_layer x)
 
 abbrev pub handler_of : Handler → ResolverScope → ResolvedStatement → ResolvedHandler
-handler_of x resolver_scope action = roll-ResolvedHandler (record { kind = kind_of (out-Handler x).kind; values = map (value_of resolver_scope.scopes) (several (out-Handler x).values); action = action })
+handler_of x resolver_scope action = roll-ResolvedHandler (record { kind = (out-Handler x).kind; values = map (value_of resolver_scope.scopes) (several (out-Handler x).values); action = action })
 
 pub resolve_handler-out : (x : Handler) (resolver_scope : ResolverScope) (n : Numbering) → resolve_handler x resolver_scope n ≡ then_as (handler_of x resolver_scope) (resolve_statement (out-Handler x).action (making.inside resolver_scope scope.Action)) n
 resolve_handler-out x resolver_scope n = ap (λ f. f resolver_scope n) (fold_out-Handler BlockResolution (Resolved ResolvedStatement) (Resolved ResolvedBranch) (Resolved ResolvedHandler) making.block_layer making.statement_layer making.branch_layer making.handler_layer x)

@@ -2,6 +2,8 @@
 use Rattle.std.proofs.Common.{◌≡◌, ℕ, suc, Bool, true, false, ◌&&◌, not, nat_eq, List, [], ◌∷◌, ◌++◌, length, map, Option, Some, None, refl, ap, sym, ◌∙◌, subst, arith, eqb-true, length-append}
 use Rattle.std.specs.Prelude.{filter, if◌then◌else◌, is_some, slice_get}
 use Rattle.std.proofs.lemmas.List.{append_assoc}
+use Rattle.psm_terms.specs.declared.routines.ParameterMode.{ParameterMode}
+use Rattle.psm_terms.specs.declared.routines.ParameterMode.TheVariants as modes
 use Rattle.psm_scope.specs.Scopes.{Spelling, is_spelled}
 use Rattle.psm_scope.specs.Routines.{Header, is_header, procedure}
 use Rattle.psm_scope.specs.declared.procedures.ProcedureScope.{ProcedureScope}
@@ -9,8 +11,6 @@ use Rattle.psm_rules.specs.FileFaults as rules
 use Rattle.psm_rules.specs.FileFaults.{Procedures, is_function, no_symbols, parameter_of, with_routine, with_routines, with_table, with_tables, symbols_of}
 use Rattle.psm_rules.specs.CheckerScope.{SymbolTable}
 use Rattle.psm_tree.specs.declared.file.FileTree.{FileTree}
-use Rattle.psm_tree.specs.declared.file.Mode.{Mode}
-use Rattle.psm_tree.specs.declared.file.Mode.TheVariants as modes
 use Rattle.psm_tree.specs.declared.file.Parameter.{Parameter}
 use Rattle.psm_tree.specs.declared.file.Routine.{Routine}
 use Rattle.psm_tree.specs.declared.file.TableTree.{TableTree}
@@ -22,13 +22,13 @@ use Rattle.psm_resolve.specs.Files.{resolve_parameter, resolve_routine}
 use Rattle.psm_resolve.specs.SymbolTables.{known_symbols, next_procedure, with_known_routine, with_known_routines, with_known_table, with_known_tables}
 use Rattle.psm_meaning.specs.Calls.{procedure_at, returns}
 use Rattle.psm_typing.specs.TypingContext.{Each, TypingContext}
-use Rattle.psm_checker_sound.specs.Meant.{AreParameters, IsProcedureMeant, mode_of}
+use Rattle.psm_checker_sound.specs.Meant.{AreParameters, IsProcedureMeant}
 use Rattle.psm_checker_sound.proofs.Flags.{at-end}
 use Rattle.psm_checker_sound.proofs.Routines.{IsAccepted, IsTypeKnown, parameters-known, with_result}
 
 -- ---- parameters
 
-same-mode : (m : Mode) → mode_of (rules.mode_of m) ≡ making.mode_of m
+same-mode : (m : ParameterMode) → m ≡ m
 same-mode modes.In = refl
 same-mode modes.Out = refl
 same-mode modes.InOut = refl

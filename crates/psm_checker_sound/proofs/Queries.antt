@@ -3,12 +3,13 @@ use Rattle.std.proofs.Common.{◌≡◌, inl, inr, ℕ, suc, ◌+◌, Bool, true
 use Rattle.std.specs.Prelude.{IfSome, ◌&&◌, if◌then◌else◌, is_some, not, nat_eq, slice_get, length}
 use Rattle.std.specs.List.{list_all}
 use Rattle.std.proofs.lemmas.Bool.Decides.{nat_tests}
+use Rattle.psm_terms.specs.declared.functions.SetFunction.TheVariants as sets
+use Rattle.psm_terms.specs.declared.functions.SetFunction.{SetFunction}
 use Rattle.psm_token.specs.declared.place.Place.{Place}
 use Rattle.psm_value.specs.declared.sqltype.SqlType.{SqlType}
 use Rattle.psm_exprcode.specs.declared.op.Letter.{Letter}
 use Rattle.psm_exprcode.specs.declared.op.Letter.TheVariants.{N}
 use Rattle.psm_exprcode.specs.Kinds.{is_value}
-use Rattle.psm_exprcode.specs.declared.aggregate.SetFunction.TheVariants as coded
 use Rattle.psm_scope.proofs.Lists.{both}
 use Rattle.psm_scope.specs.Scopes.{Spelling, is_spelled}
 use Rattle.psm_scope.specs.Lookup.{named, index_named}
@@ -29,8 +30,6 @@ use Rattle.psm_rules.specs.ExprFaults as faults
 use Rattle.psm_rules.specs.ExprFaults.{PickChecked, QueryChecked, argument, column_item, first_set, is_all, is_set, item_of, items_fault, items_in, joined_items, misplaced_set, other_faults, query_fault, set_argument, check_set, set_result, set_shape, sets_fault, typed_pick, without_type}
 use Rattle.psm_rules.specs.CheckerScope.{Columns}
 use Rattle.psm_rules.proofs.Earliest.{first_of_cons}
-use Rattle.psm_tree.specs.declared.expr.SetFunction.{SetFunction}
-use Rattle.psm_tree.specs.declared.expr.SetFunction.TheVariants as sets
 use Rattle.psm_table.specs.Definition.{kinds_of}
 use Rattle.psm_table.specs.declared.definition.Column.{Column}
 use Rattle.psm_tablecode.specs.Codes.{set_function}
@@ -44,7 +43,7 @@ use Rattle.psm_resolve_expr.specs.declared.resolved.Resolved.{Resolved}
 use Rattle.psm_resolve_expr.specs.declared.resolved.ShapedQuery.{ShapedQuery}
 use Rattle.psm_resolve_expr.specs.Resolved.{ShapedPick, Values, OfAll, values_in, sets_in, shape_of_type}
 use Rattle.psm_resolve_expr.specs.Exprs as making
-use Rattle.psm_resolve_expr.specs.Exprs.{columns_from, expr_in, optional_in, query_of, set_item, set_of, shape_of_set, shapes_of}
+use Rattle.psm_resolve_expr.specs.Exprs.{columns_from, expr_in, optional_in, query_of, set_item, shape_of_set, shapes_of}
 use Rattle.psm_meaning.specs.Rows as rows
 use Rattle.psm_typing.specs.Expressions as typed_expr
 use Rattle.psm_typing.specs.Queries.{AreItems, AreRowValues, AreSets, IsOperand as IsSetOperand, IsQuery, IsRowTest, IsRowValue, IsSet, letter_of_set}
@@ -242,11 +241,11 @@ plain_good e types cs alias a f m p well none =
     let o : IsOperand e (OnRow types) f m = operand e (OnRow types) a f m p well (as_value-clean f (p (operand_source a well)).clean none) in
     (refl, (o.type, ap (λ g. g.shape) o.checked, o.value, tt))
 
-rows_counted : (types : List SqlType) (e : TypingContext) → IsSet (letters_of types) (variables_of e) (rows.set_of (set_item coded.Count None)) N
-rows_counted types e = let r = sym (out-roll-ResolvedItem (record { function = coded.Count; operand = None })) in (N, subst (λ i. IsSetOperand (letters_of types) (variables_of e) i.operand N) r refl, subst (λ i. letter_of_set (set_function i.function) N ≡ N) r refl)
+rows_counted : (types : List SqlType) (e : TypingContext) → IsSet (letters_of types) (variables_of e) (rows.set_of (set_item sets.Count None)) N
+rows_counted types e = let r = sym (out-roll-ResolvedItem (record { function = sets.Count; operand = None })) in (N, subst (λ i. IsSetOperand (letters_of types) (variables_of e) i.operand N) r refl, subst (λ i. letter_of_set (set_function i.function) N ≡ N) r refl)
 
 pub count_good : (e : TypingContext) (types : List SqlType) (cs : Columns) (place : Place) (alias : Option Spelling)
-    → PickGood e types cs (record { form = Set; checked = well_typed place (Value integer); alias = alias }) (OfAll (set_item coded.Count None) (Value integer))
+    → PickGood e types cs (record { form = Set; checked = well_typed place (Value integer); alias = alias }) (OfAll (set_item sets.Count None) (Value integer))
 count_good e types cs place alias none = (refl, (record { type = integer; checked = refl; resolved = refl; sane = record { typed = refl; small = omega arith }; set = rows_counted types e; known = count_is (letters_of types) (variables_of e) }, tt))
 
 set_sane : (function : SetFunction) (t : Typed) → IsSane t → IsSane (set_result function t)
@@ -256,7 +255,7 @@ set_sane sets.Avg t h = record { typed = refl; small = h.small }
 set_sane sets.Min t h = h
 set_sane sets.Max t h = h
 
-set_letter : (function : SetFunction) (t : Typed) → letter_of_set (set_function (set_of function)) (letter_in (family_of t.kind)) ≡ letter_in (family_of (set_result function t).kind)
+set_letter : (function : SetFunction) (t : Typed) → letter_of_set (set_function function) (letter_in (family_of t.kind)) ≡ letter_in (family_of (set_result function t).kind)
 set_letter sets.Count t = refl
 set_letter sets.Sum t = refl
 set_letter sets.Avg t = refl
@@ -271,14 +270,14 @@ row_value_of : (e : TypingContext) (types : List SqlType) (m : Resolved) (t : Ty
 row_value_of e types m t v = record { value = value_letter (family_of t.kind); letter = goes_as_row_type (letter_in (family_of t.kind)) (row_type_at e types m.expr) v.judged }
 
 set_is : (e : TypingContext) (types : List SqlType) (function : SetFunction) (m : Resolved) (t : Typed) → IsValue e (OnRow types) m t
-    → IsSet (letters_of types) (variables_of e) (rows.set_of (set_item (set_of function) (Some m.expr))) (letter_in (family_of (set_result function t).kind))
-set_is e types function m t v = let r = sym (out-roll-ResolvedItem (record { function = set_of function; operand = Some m.expr })) in (
+    → IsSet (letters_of types) (variables_of e) (rows.set_of (set_item function (Some m.expr))) (letter_in (family_of (set_result function t).kind))
+set_is e types function m t v = let r = sym (out-roll-ResolvedItem (record { function = function; operand = Some m.expr })) in (
   letter_in (family_of t.kind),
   subst (λ i. IsSetOperand (letters_of types) (variables_of e) i.operand (letter_in (family_of t.kind))) r (row_value_of e types m t v),
   subst (λ i. letter_of_set (set_function i.function) (letter_in (family_of t.kind)) ≡ letter_in (family_of (set_result function t).kind)) r (set_letter function t),
 )
 
-from_letter : (function : SetFunction) (t : Typed) → letter_from (set_of function) (letter_in (family_of t.kind)) ≡ letter_in (family_of (set_result function t).kind)
+from_letter : (function : SetFunction) (t : Typed) → letter_from function (letter_in (family_of t.kind)) ≡ letter_in (family_of (set_result function t).kind)
 from_letter sets.Count t = refl
 from_letter sets.Sum t = refl
 from_letter sets.Avg t = refl
@@ -288,16 +287,16 @@ from_letter sets.Max t = refl
 value_of : (e : TypingContext) (types : List SqlType) (m : Resolved) (t : Typed) → IsValue e (OnRow types) m t → IsValueOf (letters_of types) (variables_of e) m.expr (letter_in (family_of t.kind))
 value_of e types m t v = record { letter = v.judged; value = value_letter (family_of t.kind) }
 
-set_known : (e : TypingContext) (types : List SqlType) (function : SetFunction) (m : Resolved) (t : Typed) → IsValue e (OnRow types) m t → is_due (set_of function) (letter_in (family_of t.kind)) ≡ true
-    → IsSetOf (letters_of types) (variables_of e) (set_item (set_of function) (Some m.expr)) (letter_in (family_of (set_result function t).kind))
-set_known e types function m t v due = subst (IsSetOf (letters_of types) (variables_of e) (set_item (set_of function) (Some m.expr))) (from_letter function t)
-    (set_is_of (letters_of types) (variables_of e) (set_of function) m.expr (letter_in (family_of t.kind)) (value_of e types m t v) due)
+set_known : (e : TypingContext) (types : List SqlType) (function : SetFunction) (m : Resolved) (t : Typed) → IsValue e (OnRow types) m t → is_due function (letter_in (family_of t.kind)) ≡ true
+    → IsSetOf (letters_of types) (variables_of e) (set_item function (Some m.expr)) (letter_in (family_of (set_result function t).kind))
+set_known e types function m t v due = subst (IsSetOf (letters_of types) (variables_of e) (set_item function (Some m.expr))) (from_letter function t)
+    (set_is_of (letters_of types) (variables_of e) function m.expr (letter_in (family_of t.kind)) (value_of e types m t v) due)
 
 -- the argument of a set function as it is found
 record IsSetArgument (e : TypingContext) (types : List SqlType) (function : SetFunction) (f : Checked) (m : Resolved) : Type 0 where
   operand : IsOperand e (OnRow types) f m
   is : shape_of (set_argument function f) ≡ Value operand.type
-  due : is_due (set_of function) (letter_in (family_of operand.type.kind)) ≡ true
+  due : is_due function (letter_in (family_of operand.type.kind)) ≡ true
 
 any_argument : (e : TypingContext) (types : List SqlType) (a : Standing) (f : Checked) (m : Resolved) → Part e (OnRow types) a f m → as_operand a ≡ true → is_shaped (as_value f) ≡ true → (o : IsOperand e (OnRow types) f m) × (shape_of (as_value f) ≡ Value o.type)
 any_argument e types a f m p well shaped = let o = operand e (OnRow types) a f m p well shaped in (o, ap shape_of o.checked)
@@ -326,7 +325,7 @@ set_shape_clean place function Untyped = λ none. refl
 set_shape_clean place function Condition = λ none. refl
 
 pub aggregate_good : (e : TypingContext) (types : List SqlType) (cs : Columns) (place : Place) (function : SetFunction) (alias : Option Spelling) (a : Standing) (f : Checked) (m : Resolved) → Part e (OnRow types) a f m → as_operand a ≡ true
-    → PickGood e types cs (record { form = Set; checked = check_set place function f; alias = alias }) (OfAll (set_item (set_of function) (Some m.expr)) (shape_of_set function m.shape))
+    → PickGood e types cs (record { form = Set; checked = check_set place function f; alias = alias }) (OfAll (set_item function (Some m.expr)) (shape_of_set function m.shape))
 aggregate_good e types cs place function alias a f m p well none =
     let value : Checked = set_argument function f in
     let whole : Checked = set_shape place function (shape_of value) in

@@ -2,6 +2,8 @@
 use Rattle.std.proofs.Common.{◌≡◌, ℕ, ◌+◌, ◌≤◌, Bool, true, false, ◌&&◌, List, [], ◌∷◌, map, Option, Some, None, refl, ap, sym, ◌∙◌, subst, arith}
 use Rattle.std.specs.Prelude.{IfSome, if◌then◌else◌, max, nat_le, not}
 use Rattle.std.proofs.lemmas.Bool.Decides.{nat_tests}
+use Rattle.psm_terms.specs.declared.operators.Operator.{Operator}
+use Rattle.psm_terms.specs.declared.operators.Operator.TheVariants as operators
 use Rattle.psm_token.specs.declared.place.Place.{Place}
 use Rattle.psm_scope.specs.Choice.{rank}
 use Rattle.psm_scope.specs.Exact.{is_typed}
@@ -18,12 +20,9 @@ use Rattle.psm_rules.specs.declared.shape.Typed.{Typed}
 use Rattle.psm_rules.specs.Checked.{broken, shape_of, well_typed}
 use Rattle.psm_rules.specs.Shapes.{at_larger_scale, at_sum_of_scales, clashes, family_in, family_of, higher, is_family, is_of, joined, number_in, number_of, varying}
 use Rattle.psm_rules.specs.ExprFaults.{differing, operated, product_of, result_of, results_agree, check_results, results_of, sum_of, with_numbers}
-use Rattle.psm_tree.specs.declared.expr.Operator.{Operator as WrittenOperator}
-use Rattle.psm_tree.specs.declared.expr.Operator.TheVariants as written
 use Rattle.psm_resolved.specs.RowType.{is_scale, letter_at}
 use Rattle.psm_resolve_expr.specs.Resolved as resolved
 use Rattle.psm_resolve_expr.specs.Resolved.{joined_in, scale_in}
-use Rattle.psm_resolve_expr.specs.Exprs.{operator_of}
 use Rattle.psm_typing.specs.Expressions.{letter_of_operator}
 use Rattle.psm_typing.specs.TypingContext.{Each}
 use Rattle.psm_checker_sound.specs.Agreement.{letter_in}
@@ -54,14 +53,14 @@ number_at : (t : Typed) (family : Family) → family_of t.kind ≡ family → nu
 number_at t family h = ap (number_of t) h
 
 -- the value of an operator, and the family of its operands
-pub record IsOperated (operator : WrittenOperator) (a b : Typed) (s : Shape) : Type 0 where
+pub record IsOperated (operator : Operator) (a b : Typed) (s : Shape) : Type 0 where
   pub type : Typed
   pub is : Value type ≡ s
   pub resolved : resolved.operated operator (Value a) (Value b) ≡ Value type
   pub sane : IsSane type
   pub left : family_of a.kind ≡ family_of type.kind
   pub right : family_of b.kind ≡ family_of type.kind
-  pub letter : letter_of_operator (operator_of operator) ≡ letter_in (family_of type.kind)
+  pub letter : letter_of_operator operator ≡ letter_in (family_of type.kind)
 
 value_same : (a : Typed) (s : Shape) → Some (Value a) ≡ Some s → Value a ≡ s
 value_same a s h = cc
@@ -81,8 +80,8 @@ numbers_at f place a b s Texts y h k is = absurd cc
 numbers : (f : Typed → Typed → Checked) (place : Place) (a b : Typed) (s : Shape) → (with_numbers f (broken rule.FamiliesMixed place) (number_of a (family_of a.kind)) (number_of b (family_of b.kind))).shape ≡ Some s → OfNumbers f a b s
 numbers f place a b s is = numbers_at f place a b s (family_of a.kind) (family_of b.kind) refl refl is
 
-sum_operated : (operator : WrittenOperator) (place : Place) (a b : Typed) (s : Shape) → IsSane a → IsSane b → resolved.operated operator (Value a) (Value b) ≡ Value (at_larger_scale a b)
-    → letter_of_operator (operator_of operator) ≡ letter_in Numbers → OfNumbers (sum_of place) a b s → IsOperated operator a b s
+sum_operated : (operator : Operator) (place : Place) (a b : Typed) (s : Shape) → IsSane a → IsSane b → resolved.operated operator (Value a) (Value b) ≡ Value (at_larger_scale a b)
+    → letter_of_operator operator ≡ letter_in Numbers → OfNumbers (sum_of place) a b s → IsOperated operator a b s
 sum_operated operator place a b s x y m l n =
     let of : family_of (at_larger_scale a b).kind ≡ Numbers = higher_family a.kind b.kind Numbers n.left n.right in record {
       type = at_larger_scale a b;
@@ -101,7 +100,7 @@ product_at : (place : Place) (p : Typed) (s : Shape) (b : Bool) → nat_le p.sca
 product_at place p s true h is = (h, value_same p s is)
 product_at place p s false h is = absurd cc
 
-product_operated : (place : Place) (a b : Typed) (s : Shape) → IsSane a → IsSane b → OfNumbers (product_of place) a b s → IsOperated written.Multiply a b s
+product_operated : (place : Place) (a b : Typed) (s : Shape) → IsSane a → IsSane b → OfNumbers (product_of place) a b s → IsOperated operators.Multiply a b s
 product_operated place a b s x y n =
     let of : family_of (at_sum_of_scales a b).kind ≡ Numbers = higher_family a.kind b.kind Numbers n.left n.right in
     let p = product_at place (at_sum_of_scales a b) s (nat_le (a.scale + b.scale) 18) refl n.is in record {
@@ -115,7 +114,7 @@ product_operated place a b s x y n =
     }
 
 texts_at : (place : Place) (a b : Typed) (s : Shape) (x y : Bool) → is_family Texts (family_of a.kind) ≡ x → is_family Texts (family_of b.kind) ≡ y
-    → (let f : Checked = if x && y then well_typed place (Value varying) else broken rule.FamiliesMixed place in f.shape ≡ Some s) → IsOperated written.Concatenate a b s
+    → (let f : Checked = if x && y then well_typed place (Value varying) else broken rule.FamiliesMixed place in f.shape ≡ Some s) → IsOperated operators.Concatenate a b s
 texts_at place a b s true true h k is = record {
   type = varying;
   is = value_same varying s is;
@@ -128,12 +127,12 @@ texts_at place a b s true true h k is = record {
 texts_at place a b s true false h k is = absurd cc
 texts_at place a b s false y h k is = absurd cc
 
-pub operated_value : (operator : WrittenOperator) (place : Place) (a b : Typed) (s : Shape) → IsSane a → IsSane b → (operated operator place (Value a) (Value b)).shape ≡ Some s → IsOperated operator a b s
-operated_value written.Add place a b s x y is = sum_operated written.Add place a b s x y refl refl (numbers (sum_of place) place a b s is)
-operated_value written.Subtract place a b s x y is = sum_operated written.Subtract place a b s x y refl refl (numbers (sum_of place) place a b s is)
-operated_value written.Concatenate place a b s x y is = texts_at place a b s (is_family Texts (family_of a.kind)) (is_family Texts (family_of b.kind)) refl refl is
-operated_value written.Multiply place a b s x y is = product_operated place a b s x y (numbers (product_of place) place a b s is)
-operated_value written.Divide place a b s x y is = sum_operated written.Divide place a b s x y refl refl (numbers (sum_of place) place a b s is)
+pub operated_value : (operator : Operator) (place : Place) (a b : Typed) (s : Shape) → IsSane a → IsSane b → (operated operator place (Value a) (Value b)).shape ≡ Some s → IsOperated operator a b s
+operated_value operators.Add place a b s x y is = sum_operated operators.Add place a b s x y refl refl (numbers (sum_of place) place a b s is)
+operated_value operators.Subtract place a b s x y is = sum_operated operators.Subtract place a b s x y refl refl (numbers (sum_of place) place a b s is)
+operated_value operators.Concatenate place a b s x y is = texts_at place a b s (is_family Texts (family_of a.kind)) (is_family Texts (family_of b.kind)) refl refl is
+operated_value operators.Multiply place a b s x y is = product_operated place a b s x y (numbers (product_of place) place a b s is)
+operated_value operators.Divide place a b s x y is = sum_operated operators.Divide place a b s x y refl refl (numbers (sum_of place) place a b s is)
 
 with_numbers-clean : (f : Typed → Typed → Checked) (place : Place) (x y : Option Typed) → ((a b : Typed) → Clean (f a b)) → Clean (with_numbers f (broken rule.FamiliesMixed place) x y)
 with_numbers-clean f place None y h = λ none. absurd cc
@@ -148,12 +147,12 @@ texts_clean_at : (place : Place) (b : Bool) → let f : Checked = if b then well
 texts_clean_at place true = λ none. refl
 texts_clean_at place false = λ none. absurd cc
 
-pub operated-clean : (operator : WrittenOperator) (place : Place) (s t : Shape) → Clean (operated operator place s t)
-operated-clean written.Add place s t = with_numbers-clean (sum_of place) place (number_in s) (number_in t) (λ a b none. refl)
-operated-clean written.Subtract place s t = with_numbers-clean (sum_of place) place (number_in s) (number_in t) (λ a b none. refl)
-operated-clean written.Concatenate place s t = texts_clean_at place (is_of Texts s && is_of Texts t)
-operated-clean written.Multiply place s t = with_numbers-clean (product_of place) place (number_in s) (number_in t) (λ a b. product_clean_at place (at_sum_of_scales a b) (nat_le (a.scale + b.scale) 18))
-operated-clean written.Divide place s t = with_numbers-clean (sum_of place) place (number_in s) (number_in t) (λ a b none. refl)
+pub operated-clean : (operator : Operator) (place : Place) (s t : Shape) → Clean (operated operator place s t)
+operated-clean operators.Add place s t = with_numbers-clean (sum_of place) place (number_in s) (number_in t) (λ a b none. refl)
+operated-clean operators.Subtract place s t = with_numbers-clean (sum_of place) place (number_in s) (number_in t) (λ a b none. refl)
+operated-clean operators.Concatenate place s t = texts_clean_at place (is_of Texts s && is_of Texts t)
+operated-clean operators.Multiply place s t = with_numbers-clean (product_of place) place (number_in s) (number_in t) (λ a b. product_clean_at place (at_sum_of_scales a b) (nat_le (a.scale + b.scale) 18))
+operated-clean operators.Divide place s t = with_numbers-clean (sum_of place) place (number_in s) (number_in t) (λ a b none. refl)
 
 -- ---- results of CASE and COALESCE
 

@@ -4,6 +4,9 @@ use Rattle.std.specs.Prelude.{IsTrue, nat_le}
 use Rattle.std.specs.List.{list_all}
 use denote.Hole.Carrier
 use Rattle.psm_list.specs.Several.{Several}
+use Rattle.psm_terms.specs.declared.operators.LogicalOperator.{LogicalOperator}
+use Rattle.psm_terms.specs.declared.operators.Operator.{Operator}
+use Rattle.psm_terms.specs.declared.functions.TextFunction.{TextFunction}
 use Rattle.psm_num.specs.Num.{Num}
 use Rattle.psm_token.specs.declared.place.Place.{Place}
 use Rattle.psm_tree.specs.Tests.{At}
@@ -12,10 +15,7 @@ use Rattle.psm_tree.specs.ExprValues as values
 use Rattle.psm_tree.specs.declared.name.Identifier.{Identifier}
 use Rattle.psm_tree.specs.declared.types.DataType.{DataType}
 use Rattle.psm_tree.specs.declared.types.Sign.{Sign}
-use Rattle.psm_tree.specs.declared.expr.LogicalOperator.{LogicalOperator}
-use Rattle.psm_tree.specs.declared.expr.Operator.{Operator}
-use Rattle.psm_tree.specs.declared.expr.TextFunction.{TextFunction}
-use Rattle.psm_tree.specs.declared.expr.TrimSide.{TrimSide}
+use Rattle.psm_text.specs.declared.parts.Side.{Side}
 use Rattle.psm_tree.specs.declared.expr.Expr.{Expr, roll-Expr}
 use Rattle.psm_tree.specs.declared.expr.Expr.TheVariants as exprs
 use Rattle.psm_tree.specs.declared.expr.Expr.TheOpen.{Expr-F, Pick-F}
@@ -147,7 +147,7 @@ substring-stood place p h = by place p.0 p.1 p.2 h.0 h.1 h.2
     by place text from None h k l = by_layer (layers.Substring place text from None) (all_true (as_operand (stands text)) _ h (all_true (as_operand (stands from)) true k refl))
     by place text from (Some length) h k l = by_layer (layers.Substring place text from (Some length)) (all_true (as_operand (stands text)) _ h (all_true (as_operand (stands from)) _ k (all_true (as_operand (stands length)) true l refl)))
 
-pub trim-stood : (place : Place) (p : TrimSide × Expr) → Stood p.1 → Stood (values.trim_of place p)
+pub trim-stood : (place : Place) (p : Side × Expr) → Stood p.1 → Stood (values.trim_of place p)
 unfolding roll-Expr Carrier.roll
 trim-stood place p h = by_layer (layers.Trim place p.0 p.1) h
 

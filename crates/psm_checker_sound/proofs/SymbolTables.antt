@@ -2,6 +2,8 @@
 use Rattle.std.proofs.Common.{◌≡◌, ℕ, Bool, true, false, List, [], ◌∷◌, ◌++◌, map, Option, Some, None, refl, ap, sym, ◌∙◌, subst}
 use Rattle.std.specs.Prelude.{filter, if◌then◌else◌, not}
 use Rattle.std.proofs.lemmas.List.{append_assoc, append-nil}
+use Rattle.psm_terms.specs.declared.routines.ParameterMode.{ParameterMode}
+use Rattle.psm_terms.specs.declared.routines.ParameterMode.TheVariants as modes
 use Rattle.psm_value.specs.declared.sqltype.SqlType.{SqlType}
 use Rattle.psm_scope.specs.Choice as choice
 use Rattle.psm_scope.specs.Choice.{Signature}
@@ -13,15 +15,13 @@ use Rattle.psm_rules.specs.StatementFaults.{repeated}
 use Rattle.psm_rules.specs.Types.{type_of}
 use Rattle.psm_rules.specs.CheckerScope.{Columns, SymbolTable}
 use Rattle.psm_tree.specs.declared.file.FileTree.{FileTree}
-use Rattle.psm_tree.specs.declared.file.Mode.{Mode}
-use Rattle.psm_tree.specs.declared.file.Mode.TheVariants as modes
 use Rattle.psm_tree.specs.declared.file.Parameter.{Parameter}
 use Rattle.psm_tree.specs.declared.file.Routine.{Routine}
 use Rattle.psm_tree.specs.declared.file.TableTree.{TableTree}
 use Rattle.psm_tree.specs.declared.types.DataType.{DataType}
 use Rattle.psm_resolved.specs.declared.file.ResolvedRoutine.{ResolvedRoutine}
 use Rattle.psm_resolve_expr.specs.Exprs.{type_known}
-use Rattle.psm_resolve.specs.Files.{mode_of, resolve_parameter, resolve_routine, resolve_table}
+use Rattle.psm_resolve.specs.Files.{resolve_parameter, resolve_routine, resolve_table}
 use Rattle.psm_resolve.specs.SymbolTables.{known_symbols, next_procedure, with_known_routine, with_known_routines, with_known_table, with_known_tables}
 use Rattle.psm_meaning.specs.Calls.{returns}
 use Rattle.psm_typing.specs.TypingContext.{Each, taken_by, with_taken}
@@ -155,7 +155,7 @@ same-functions f = routines-functions (with_tables no_symbols f.tables) f.«modu
     ∙ ap (λ fs. with_all fs (signatures_of f.«module».routines) (results_of f.«module».routines)) (tables-functions no_symbols f.tables) ∙ sym (known-functions f)
 
 -- a function takes what its parameters take, which are all IN
-taken-mode : (m : Mode) (t : SqlType) (ts : List SqlType) → is_in m ≡ true → with_taken (mode_of m) t ts ≡ t ∷ ts
+taken-mode : (m : ParameterMode) (t : SqlType) (ts : List SqlType) → is_in m ≡ true → with_taken m t ts ≡ t ∷ ts
 taken-mode modes.In t ts h = refl
 taken-mode modes.Out t ts h = absurd cc
 taken-mode modes.InOut t ts h = absurd cc

@@ -1,6 +1,8 @@
 -- CALL, SIGNAL and FETCH without a fault are well-formed.
 use Rattle.std.proofs.Common.{◌≡◌, ℕ, Bool, true, false, ◌||◌, List, [], ◌∷◌, length, Option, Some, None, option_map, refl, ap, sym, ◌∙◌, subst}
 use Rattle.std.specs.Prelude.{IfSome, IsTrue, codes, if◌then◌else◌, not, take}
+use Rattle.psm_terms.specs.declared.routines.ParameterMode.{ParameterMode}
+use Rattle.psm_terms.specs.declared.routines.ParameterMode.TheVariants.{In, Out, InOut}
 use Rattle.psm_token.specs.declared.place.Place.{Place}
 use Rattle.psm_sqlstate.specs.declared.kind.Kind.TheVariants as of_class
 use Rattle.psm_value.specs.declared.sqltype.SqlType.{SqlType}
@@ -11,8 +13,6 @@ use Rattle.psm_scope.specs.Lookup as lookup
 use Rattle.psm_scope.specs.Lookup.{as_variable, meant}
 use Rattle.psm_scope.specs.declared.known.DeclaredCondition.{DeclaredCondition}
 use Rattle.psm_scope.specs.declared.known.Variable.{Variable}
-use Rattle.psm_scope.specs.declared.procedures.ParameterMode.{ParameterMode}
-use Rattle.psm_scope.specs.declared.procedures.ParameterMode.TheVariants.{In, Out, InOut}
 use Rattle.psm_scope.specs.declared.procedures.ParameterScope.{ParameterScope}
 use Rattle.psm_scope.specs.declared.procedures.ProcedureScope.{ProcedureScope}
 use Rattle.psm_rules.specs.declared.rule.Rule.TheVariants as rule

@@ -1,6 +1,7 @@
 -- Simple statements without a fault are well-formed, where each table has a column.
 use Rattle.std.proofs.Common.{◌≡◌, true, List, ◌∷◌, [], length, map, Option, Some, None, refl, ap, sym, ◌∙◌, subst}
 use Rattle.std.specs.Prelude.{IsTrue}
+use Rattle.psm_terms.specs.declared.diagnostics.DiagnosticsArea.{DiagnosticsArea}
 use Rattle.psm_token.specs.declared.place.Place.{Place}
 use Rattle.psm_exprcode.specs.declared.op.Letter.{Letter}
 use Rattle.psm_scope.specs.Rows.{columns_known}
@@ -20,7 +21,6 @@ use Rattle.psm_tree.specs.declared.expr.Expr.{Expr}
 use Rattle.psm_tree.specs.declared.expr.Select.{Select}
 use Rattle.psm_tree.specs.declared.statement.Assignment.{Assignment}
 use Rattle.psm_tree.specs.declared.statement.Diagnostics.{Diagnostics}
-use Rattle.psm_tree.specs.declared.statement.DiagnosticsArea.{DiagnosticsArea}
 use Rattle.psm_tree.specs.declared.statement.Diagnostics.TheVariants as diagnostics
 use Rattle.psm_tree.specs.declared.statement.InsertSource.{InsertSource}
 use Rattle.psm_tree.specs.declared.statement.InsertSource.TheVariants as sources
@@ -90,13 +90,13 @@ call_by e known letters s h is inside checker_scope resolver_scope a r n xs (Som
 diagnostics_well_formed : (e : TypingContext) (known : Known) (letters : List (List Letter)) (s : places.StatementScope) (checker_scope : CheckerScope) (resolver_scope : ResolverScope) → Agree e checker_scope resolver_scope → (which : DiagnosticsArea) (d : Diagnostics) → diagnostics_fault checker_scope.scopes d ≡ None → WellFormedSimple e known letters s (resolved.GetDiagnostics (diagnostics_of resolver_scope.scopes which d))
 diagnostics_well_formed e known letters s checker_scope resolver_scope a which (diagnostics.Statement items) none = (
   refl,
-  gotten e checker_scope resolver_scope a (λ i. i.target) (λ i. i.place) (λ i. statement_item_family i.item) (λ i. making.statement_item i.item) statement_letter (λ i. statement_letters i.item) (several items) none,
+  gotten e checker_scope resolver_scope a (λ i. i.target) (λ i. i.place) (λ i. statement_item_family i.item) (λ i. i.item) statement_letter (λ i. statement_letters i.item) (several items) none,
 )
 diagnostics_well_formed e known letters s checker_scope resolver_scope a which (diagnostics.Condition number items) none =
     let parts = neither (number_fault checker_scope.scopes number) (first_of (map (λ i. item_fault checker_scope.scopes i.target i.place (condition_item_family i.item)) (several items))) none in (
       refl,
       number_slot e checker_scope resolver_scope a number parts.0,
-      gotten e checker_scope resolver_scope a (λ i. i.target) (λ i. i.place) (λ i. condition_item_family i.item) (λ i. making.condition_item i.item) condition_letter (λ i. condition_letters i.item) (several items) parts.1,
+      gotten e checker_scope resolver_scope a (λ i. i.target) (λ i. i.place) (λ i. condition_item_family i.item) (λ i. i.item) condition_letter (λ i. condition_letters i.item) (several items) parts.1,
     )
 
 -- ---- SELECT INTO

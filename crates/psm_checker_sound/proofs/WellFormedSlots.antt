@@ -1,6 +1,10 @@
 -- Variables that get values have the letters of these values, where the statements have no fault.
 use Rattle.std.proofs.Common.{◌≡◌, ℕ, suc, Bool, true, false, List, [], ◌∷◌, map, length, Option, Some, None, option_map, refl, ap, sym, ◌∙◌, subst, arith}
 use Rattle.std.specs.Prelude.{IfSome, if◌then◌else◌, nat_eq, not, slice_get}
+use Rattle.psm_terms.specs.declared.diagnostics.ConditionItem.{ConditionItem}
+use Rattle.psm_terms.specs.declared.diagnostics.ConditionItem.TheVariants as of_condition
+use Rattle.psm_terms.specs.declared.diagnostics.StatementItem.{StatementItem}
+use Rattle.psm_terms.specs.declared.diagnostics.StatementItem.TheVariants as of_statement
 use Rattle.psm_token.specs.declared.place.Place.{Place}
 use Rattle.psm_value.specs.declared.sqltype.SqlType.{SqlType}
 use Rattle.psm_exprcode.specs.declared.op.Letter.{Letter}
@@ -23,12 +27,8 @@ use Rattle.psm_rules.specs.CheckerScope.{CheckerScope}
 use Rattle.psm_rules.proofs.Earliest.{first_of_cons}
 use Rattle.psm_tree.specs.Names.{Targets}
 use Rattle.psm_tree.specs.declared.name.Target.{Target}
-use Rattle.psm_tree.specs.declared.statement.ConditionItem.{ConditionItem}
-use Rattle.psm_tree.specs.declared.statement.ConditionItem.TheVariants as of_condition
 use Rattle.psm_tree.specs.declared.statement.ConditionNumber.{ConditionNumber}
 use Rattle.psm_tree.specs.declared.statement.ConditionNumber.TheVariants as numbers
-use Rattle.psm_tree.specs.declared.statement.StatementItem.{StatementItem}
-use Rattle.psm_tree.specs.declared.statement.StatementItem.TheVariants as of_statement
 use Rattle.psm_resolve_expr.specs.ResolverScope.{ResolverScope}
 use Rattle.psm_resolve.specs.Statements as making
 use Rattle.psm_resolve.specs.Statements.{slot_in, slot_of, slots_of}
@@ -80,14 +80,14 @@ shape_slot e checker_scope resolver_scope t place Condition k i typed type_check
 
 -- ---- GET DIAGNOSTICS
 
-pub statement_letters : (i : StatementItem) → letter_in (statement_item_family i) ≡ statement_letter (making.statement_item i)
+pub statement_letters : (i : StatementItem) → letter_in (statement_item_family i) ≡ statement_letter i
 statement_letters of_statement.Number = refl
 statement_letters of_statement.More = refl
 statement_letters of_statement.RowCount = refl
 
-pub condition_letters : (i : ConditionItem) → letter_in (condition_item_family i) ≡ condition_letter (making.condition_item i)
+pub condition_letters : (i : ConditionItem) → letter_in (condition_item_family i) ≡ condition_letter i
 condition_letters of_condition.ConditionNumber = refl
-condition_letters of_condition.ReturnedSqlState = refl
+condition_letters of_condition.ReturnedSqlstate = refl
 condition_letters of_condition.ConditionIdentifier = refl
 condition_letters of_condition.MessageText = refl
 condition_letters of_condition.MessageLength = refl

@@ -3,6 +3,7 @@ use Rattle.std.proofs.Common.{◌≡◌, ℕ, ◌+◌, Bool, true, false, ◌&&�
 use Rattle.std.specs.Prelude.{IfSome, slice_get}
 use Rattle.std.specs.List.{list_all}
 use Rattle.psm_list.specs.Several.{Several}
+use Rattle.psm_terms.specs.declared.operators.Operator.{Operator}
 use Rattle.psm_value.specs.declared.sqltype.SqlType.{SqlType}
 use Rattle.psm_exprcode.specs.declared.op.Letter.TheVariants.{B}
 use Rattle.psm_scope.specs.Rows.{columns_known}
@@ -17,7 +18,6 @@ use Rattle.psm_rules.specs.CheckerScope as checker_scopes
 use Rattle.psm_rules.specs.CheckerScope.{CheckerScope, Columns, table_named}
 use Rattle.psm_rules.proofs.Earliest.{first_of_cons}
 use Rattle.psm_tree.specs.declared.name.Identifier.{Identifier}
-use Rattle.psm_tree.specs.declared.expr.Operator.{Operator as WrittenOperator}
 use Rattle.psm_tree.specs.declared.expr.Expr.{Expr}
 use Rattle.psm_tree.specs.declared.expr.Expr.TheOpen.{Pick-F, ChainLink-F, Select-F, When-F}
 use Rattle.psm_tree.specs.declared.expr.Expr.TheOpen as layers
@@ -57,7 +57,7 @@ abbrev pick_checked_at : Pick-F Expr Pick ChainLink Select When → CheckerScope
 pick_checked_at layer = faults.pick_layer (map-Pick Expr Pick ChainLink Select When (Of Checked) PickPart ChainLinkPart (Of QueryChecked) WhenPart check_expr check_pick check_chain_link check_query check_when layer)
 
 abbrev pick_resolved_at : Pick-F Expr Pick ChainLink Select When → ResolverScope → ShapedPick
-pick_resolved_at layer = making.pick_layer (map-Pick Expr Pick ChainLink Select When (making.Of Resolved) (making.Of ShapedPick) (making.Of (WrittenOperator × Resolved)) (making.Of ShapedQuery) (making.Of (Resolved × Resolved)) resolve_expr resolve_pick resolve_chain_link resolve_query resolve_when layer)
+pick_resolved_at layer = making.pick_layer (map-Pick Expr Pick ChainLink Select When (making.Of Resolved) (making.Of ShapedPick) (making.Of (Operator × Resolved)) (making.Of ShapedQuery) (making.Of (Resolved × Resolved)) resolve_expr resolve_pick resolve_chain_link resolve_query resolve_when layer)
 
 on_this_row : (types : List SqlType) (row : Option (RowTable (Option SqlType))) (r : RowTable (Option SqlType)) → row ≡ Some r → HaveTypes r.columns types → Fits (OnRow types) row
 on_this_row types row r is h = subst (Fits (OnRow types)) (sym is) h
@@ -75,7 +75,7 @@ unfolding check_expr check_pick check_chain_link check_query check_when
 pick_step x y is = subst (λ z. OfPick (roll-Pick z)) is (λ e checker_scope resolver_scope row types a r h well.
     let z : Pick-F Expr Pick ChainLink Select When = bare_pick y in
     subst (λ g. PickGood e types row.columns (g checker_scope) (resolve_pick (roll-Pick z) resolver_scope)) (sym (fold-roll-Pick (Of Checked) PickPart ChainLinkPart (Of QueryChecked) WhenPart faults.expr_layer faults.pick_layer faults.chain_link_layer faults.select_layer faults.when_layer z))
-    (subst (λ g. PickGood e types row.columns (pick_checked_at z checker_scope) (g resolver_scope)) (sym (fold-roll-Pick (making.Of Resolved) (making.Of ShapedPick) (making.Of (WrittenOperator × Resolved)) (making.Of ShapedQuery) (making.Of (Resolved × Resolved)) making.expr_layer making.pick_layer making.chain_link_layer making.select_layer making.when_layer z))
+    (subst (λ g. PickGood e types row.columns (pick_checked_at z checker_scope) (g resolver_scope)) (sym (fold-roll-Pick (making.Of Resolved) (making.Of ShapedPick) (making.Of (Operator × Resolved)) (making.Of ShapedQuery) (making.Of (Resolved × Resolved)) making.expr_layer making.pick_layer making.chain_link_layer making.select_layer making.when_layer z))
     (pick_good y e checker_scope resolver_scope row types a r h (sym (fold-roll-Pick Standing Bool Bool Bool Bool stands_layer pick_stands_layer chain_link_stands_layer select_stands_layer when_stands_layer z) ∙ well))))
 
 -- ---- operators with their operands, and branches
@@ -89,7 +89,7 @@ chain_link_step x y is = subst (λ z. OfChainLink (roll-ChainLink z)) is (λ e c
     let z : ChainLink-F Expr Pick ChainLink Select When = bare_chain_link y in
     subst (λ b. IsChainLink e w b (check_chain_link (roll-ChainLink z) checker_scope) (resolve_chain_link (roll-ChainLink z) resolver_scope)) (sym (fold-roll-ChainLink Standing Bool Bool Bool Bool stands_layer pick_stands_layer chain_link_stands_layer select_stands_layer when_stands_layer z))
     (subst (λ g. IsChainLink e w (as_operand (stands y.operand.0)) (g checker_scope) (resolve_chain_link (roll-ChainLink z) resolver_scope)) (sym (fold-roll-ChainLink (Of Checked) PickPart ChainLinkPart (Of QueryChecked) WhenPart faults.expr_layer faults.pick_layer faults.chain_link_layer faults.select_layer faults.when_layer z))
-    (subst (λ g. IsChainLink e w (as_operand (stands y.operand.0)) (y.operator, check_expr y.operand.0 checker_scope) (g resolver_scope)) (sym (fold-roll-ChainLink (making.Of Resolved) (making.Of ShapedPick) (making.Of (WrittenOperator × Resolved)) (making.Of ShapedQuery) (making.Of (Resolved × Resolved)) making.expr_layer making.pick_layer making.chain_link_layer making.select_layer making.when_layer z))
+    (subst (λ g. IsChainLink e w (as_operand (stands y.operand.0)) (y.operator, check_expr y.operand.0 checker_scope) (g resolver_scope)) (sym (fold-roll-ChainLink (making.Of Resolved) (making.Of ShapedPick) (making.Of (Operator × Resolved)) (making.Of ShapedQuery) (making.Of (Resolved × Resolved)) making.expr_layer making.pick_layer making.chain_link_layer making.select_layer making.when_layer z))
     (record { operator = refl; standing = stands y.operand.0; stands = refl; part = y.operand.1 e checker_scope resolver_scope w a f }))))
 
 abbrev bare_when : When-F E P L S W → When-F Expr Pick ChainLink Select When
@@ -101,7 +101,7 @@ when_step x y is = subst (λ z. OfWhen (roll-When z)) is (λ e checker_scope res
     let z : When-F Expr Pick ChainLink Select When = bare_when y in
     subst (λ b. IsWhen e w b (check_when (roll-When z) checker_scope) (resolve_when (roll-When z) resolver_scope)) (sym (fold-roll-When Standing Bool Bool Bool Bool stands_layer pick_stands_layer chain_link_stands_layer select_stands_layer when_stands_layer z))
     (subst (λ g. IsWhen e w (as_operand (stands y.test.0) && as_source (stands y.result.0)) (g checker_scope) (resolve_when (roll-When z) resolver_scope)) (sym (fold-roll-When (Of Checked) PickPart ChainLinkPart (Of QueryChecked) WhenPart faults.expr_layer faults.pick_layer faults.chain_link_layer faults.select_layer faults.when_layer z))
-    (subst (λ g. IsWhen e w (as_operand (stands y.test.0) && as_source (stands y.result.0)) (check_expr y.test.0 checker_scope, check_expr y.result.0 checker_scope) (g resolver_scope)) (sym (fold-roll-When (making.Of Resolved) (making.Of ShapedPick) (making.Of (WrittenOperator × Resolved)) (making.Of ShapedQuery) (making.Of (Resolved × Resolved)) making.expr_layer making.pick_layer making.chain_link_layer making.select_layer making.when_layer z))
+    (subst (λ g. IsWhen e w (as_operand (stands y.test.0) && as_source (stands y.result.0)) (check_expr y.test.0 checker_scope, check_expr y.result.0 checker_scope) (g resolver_scope)) (sym (fold-roll-When (making.Of Resolved) (making.Of ShapedPick) (making.Of (Operator × Resolved)) (making.Of ShapedQuery) (making.Of (Resolved × Resolved)) making.expr_layer making.pick_layer making.chain_link_layer making.select_layer making.when_layer z))
     (record { test = stands y.test.0; result = stands y.result.0; stands = refl; tested = y.test.1 e checker_scope resolver_scope w a f; given = y.result.1 e checker_scope resolver_scope w a f }))))
 
 -- ---- queries
@@ -193,7 +193,7 @@ abbrev select_checked_at : Select-F Expr Pick ChainLink Select When → CheckerS
 select_checked_at layer = faults.select_layer (map-Select Expr Pick ChainLink Select When (Of Checked) PickPart ChainLinkPart (Of QueryChecked) WhenPart check_expr check_pick check_chain_link check_query check_when layer)
 
 abbrev select_resolved_at : Select-F Expr Pick ChainLink Select When → ResolverScope → ShapedQuery
-select_resolved_at layer = making.select_layer (map-Select Expr Pick ChainLink Select When (making.Of Resolved) (making.Of ShapedPick) (making.Of (WrittenOperator × Resolved)) (making.Of ShapedQuery) (making.Of (Resolved × Resolved)) resolve_expr resolve_pick resolve_chain_link resolve_query resolve_when layer)
+select_resolved_at layer = making.select_layer (map-Select Expr Pick ChainLink Select When (making.Of Resolved) (making.Of ShapedPick) (making.Of (Operator × Resolved)) (making.Of ShapedQuery) (making.Of (Resolved × Resolved)) resolve_expr resolve_pick resolve_chain_link resolve_query resolve_when layer)
 
 select_good_at : (y : Select-F E P L S W) (test : Option E) (e : TypingContext) (checker_scope : CheckerScope) (resolver_scope : ResolverScope) → Agree e checker_scope resolver_scope → select_stands_at (bare_select (record y { condition = test })) ≡ true
     → QueryGood e (select_checked_at (bare_select (record y { condition = test })) checker_scope) (select_resolved_at (bare_select (record y { condition = test })) resolver_scope)
@@ -212,7 +212,7 @@ unfolding check_expr check_pick check_chain_link check_query check_when
 select_step x y is = subst (λ z. OfSelect (roll-Select z)) is (λ e checker_scope resolver_scope a well.
     let z : Select-F Expr Pick ChainLink Select When = bare_select y in
     subst (λ g. QueryGood e (g checker_scope) (resolve_query (roll-Select z) resolver_scope)) (sym (fold-roll-Select (Of Checked) PickPart ChainLinkPart (Of QueryChecked) WhenPart faults.expr_layer faults.pick_layer faults.chain_link_layer faults.select_layer faults.when_layer z))
-    (subst (λ g. QueryGood e (select_checked_at z checker_scope) (g resolver_scope)) (sym (fold-roll-Select (making.Of Resolved) (making.Of ShapedPick) (making.Of (WrittenOperator × Resolved)) (making.Of ShapedQuery) (making.Of (Resolved × Resolved)) making.expr_layer making.pick_layer making.chain_link_layer making.select_layer making.when_layer z))
+    (subst (λ g. QueryGood e (select_checked_at z checker_scope) (g resolver_scope)) (sym (fold-roll-Select (making.Of Resolved) (making.Of ShapedPick) (making.Of (Operator × Resolved)) (making.Of ShapedQuery) (making.Of (Resolved × Resolved)) making.expr_layer making.pick_layer making.chain_link_layer making.select_layer making.when_layer z))
     (select_good y e checker_scope resolver_scope a (sym (fold-roll-Select Standing Bool Bool Bool Bool stands_layer pick_stands_layer chain_link_stands_layer select_stands_layer when_stands_layer z) ∙ well))))
 
 -- ---- the whole

@@ -6,12 +6,8 @@ use Rattle.psm_scope.specs.Lookup.{labels, named}
 use Rattle.psm_scope.specs.KeptScopes.{level}
 use Rattle.psm_scope.specs.Routines.{procedure}
 use Rattle.psm_scope.specs.declared.known.DeclaredCondition.{DeclaredCondition}
-use Rattle.psm_scope.specs.declared.procedures.ParameterMode.{ParameterMode}
-use Rattle.psm_scope.specs.declared.procedures.ParameterMode.TheVariants.{In, Out, InOut}
 use Rattle.psm_scope.specs.declared.procedures.ParameterScope.{ParameterScope}
 use Rattle.psm_scope.specs.declared.procedures.ProcedureScope.{ProcedureScope}
-use Rattle.psm_resolved.specs.declared.file.ParameterMode.{ParameterMode as Mode}
-use Rattle.psm_resolved.specs.declared.file.ParameterMode.TheVariants as modes
 use Rattle.psm_resolved.specs.declared.file.ResolvedParameter.{ResolvedParameter}
 use Rattle.psm_resolved.specs.declared.file.ResolvedRoutine.{ResolvedRoutine}
 use Rattle.psm_meaning.specs.Calls.{procedure_at}
@@ -53,16 +49,11 @@ IsLabelMeant s (Some of_loop) level = Among level s.leaves × (of_loop ≡ true 
 
 -- ---- procedures
 
-abbrev pub mode_of : ParameterMode → Mode
-mode_of In = modes.In
-mode_of Out = modes.Out
-mode_of InOut = modes.InOut
-
 abbrev pub AreParameters : List ParameterScope → List ResolvedParameter → Type 0
 AreParameters [] [] = Unit {0}
 AreParameters [] (r ∷ rs) = ⊥
 AreParameters (p ∷ ps) [] = ⊥
-AreParameters (p ∷ ps) (r ∷ rs) = ((mode_of p.mode ≡ r.mode) × (p.kind ≡ Some r.kind)) × AreParameters ps rs
+AreParameters (p ∷ ps) (r ∷ rs) = ((p.mode ≡ r.mode) × (p.kind ≡ Some r.kind)) × AreParameters ps rs
 
 -- a procedure with n parameters
 pub record HasRoutine (e : TypingContext) (count : ℕ) (known resolved : ProcedureScope) : Type 0 where

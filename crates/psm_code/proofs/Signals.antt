@@ -1,17 +1,17 @@
 -- SIGNAL, RESIGNAL and GET DIAGNOSTICS.
 use Rattle.std.proofs.Common.{◌≡◌, ℕ, Bool, true, List, [], ◌∷◌, length, refl, Option, Some, None}
 use Rattle.std.specs.Prelude.{slice_get}
+use Rattle.psm_terms.specs.declared.diagnostics.ConditionItem.{ConditionItem}
+use Rattle.psm_terms.specs.declared.diagnostics.ConditionItem.TheVariants as of_condition
+use Rattle.psm_terms.specs.declared.diagnostics.DiagnosticsArea.{DiagnosticsArea}
+use Rattle.psm_terms.specs.declared.diagnostics.DiagnosticsArea.TheVariants.{Current, Stacked}
+use Rattle.psm_terms.specs.declared.diagnostics.StatementItem.{StatementItem}
+use Rattle.psm_terms.specs.declared.diagnostics.StatementItem.TheVariants as of_statement
 use Rattle.psm_value.specs.declared.datum.Datum.{Datum}
 use Rattle.psm_value.specs.declared.datum.Datum.TheVariants.{Null, Num, Text}
 use Rattle.psm_cond.specs.Item.{entries_of, entry_item, statement_item}
 use Rattle.psm_cond.specs.declared.entry.Entry.{Entry}
 use Rattle.psm_cond.specs.declared.handlers.Declared.{Declared}
-use Rattle.psm_cond.specs.declared.item.ConditionItem.{ConditionItem}
-use Rattle.psm_cond.specs.declared.item.ConditionItem.TheVariants as of_condition
-use Rattle.psm_cond.specs.declared.item.DiagnosticsArea.{DiagnosticsArea}
-use Rattle.psm_cond.specs.declared.item.DiagnosticsArea.TheVariants.{Current, Stacked}
-use Rattle.psm_cond.specs.declared.item.StatementItem.{StatementItem}
-use Rattle.psm_cond.specs.declared.item.StatementItem.TheVariants as of_statement
 use Rattle.psm_exprcode.specs.declared.op.Letter.{Letter}
 use Rattle.psm_exprcode.specs.declared.op.Letter.TheVariants.{N, T}
 use Rattle.psm_exprcode.specs.declared.operand.Operand.{Operand}

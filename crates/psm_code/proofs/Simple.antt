@@ -1,9 +1,9 @@
 -- Instructions that go on at the next line or raise a condition: about variables, warnings, turns, conditions and the area.
 use Rattle.std.proofs.Common.{◌≡◌, inl, inr, ℕ, zero, suc, List, [], ◌∷◌, refl, ap, eqb-true, Option, None}
 use Rattle.std.specs.Prelude.{codes, option_map, reverse, slice_get}
-use Rattle.psm_cond.specs.declared.item.ConditionItem.{ConditionItem}
-use Rattle.psm_cond.specs.declared.item.DiagnosticsArea.{DiagnosticsArea}
-use Rattle.psm_cond.specs.declared.item.StatementItem.{StatementItem}
+use Rattle.psm_terms.specs.declared.diagnostics.ConditionItem.{ConditionItem}
+use Rattle.psm_terms.specs.declared.diagnostics.DiagnosticsArea.{DiagnosticsArea}
+use Rattle.psm_terms.specs.declared.diagnostics.StatementItem.{StatementItem}
 use Rattle.psm_exprcode.specs.declared.op.Letter.{Letter}
 use Rattle.psm_exprcode.specs.declared.op.Letter.TheVariants.{N, T}
 use Rattle.psm_exprcode.specs.Kinds.{letter_of}

@@ -1,5 +1,7 @@
 -- Activations of routines (ISO/IEC 9075-4:1996, CALL and the invocation of functions), and how they end.
 use Rattle.std.specs.Prelude.{ℕ, suc, List, [], ◌∷◌, codes, length, nat_lt, replicate, Option, Some, None, if◌then◌else◌}
+use Rattle.psm_terms.specs.declared.routines.ParameterMode.{ParameterMode}
+use Rattle.psm_terms.specs.declared.routines.ParameterMode.TheVariants.{In, Out, InOut}
 use Rattle.psm_value.specs.declared.datum.Datum.{Datum}
 use Rattle.psm_value.specs.declared.datum.Datum.TheVariants.{Null}
 use Rattle.psm_value.specs.declared.sqltype.SqlType.{SqlType}
@@ -11,8 +13,6 @@ use Rattle.psm_exprcode.specs.declared.operand.Operand.TheVariants.{Value}
 use Rattle.psm_table.specs.Cursors.{Closed}
 use Rattle.psm_table.specs.Table.{Contents}
 use Rattle.psm_code.specs.declared.code.Parameter.{Parameter}
-use Rattle.psm_code.specs.declared.code.ParameterMode.{ParameterMode}
-use Rattle.psm_code.specs.declared.code.ParameterMode.TheVariants.{In, Out, InOut}
 use Rattle.psm_code.specs.declared.code.RawCode.{RawCode}
 use Rattle.psm_code.specs.declared.code.RawRoutine.{RawRoutine}
 use Rattle.psm_code.specs.Parts.{given_back, routine_at, slots_of, taking}

@@ -1,6 +1,8 @@
 -- The rules of routines in code, line by line of the listing.
 use Rattle.std.specs.Prelude.{ℕ, suc, Bool, true, false, ◌&&◌, ◌||◌, not, nat_eq, nat_lt, nat_le, List, [], ◌∷◌, ◌++◌, length, map, reverse, slice_get, Option, Some, None, if◌then◌else◌}
 use Rattle.std.specs.List.{flat_map, list_all}
+use Rattle.psm_terms.specs.declared.routines.HandlerKind.{HandlerKind}
+use Rattle.psm_terms.specs.declared.routines.HandlerKind.TheVariants.{Continue, Exit, Undo}
 use Rattle.psm_sqlstate.specs.declared.kind.Kind.{Kind}
 use Rattle.psm_sqlstate.specs.declared.kind.Kind.TheVariants as of_class
 use Rattle.psm_sqlstate.specs.declared.state.SqlState.{SqlState}
@@ -15,8 +17,6 @@ use Rattle.psm_cond.specs.declared.handlers.ContextKind.TheVariants as kinds
 use Rattle.psm_cond.specs.declared.handlers.Declared.{Declared}
 use Rattle.psm_cond.specs.declared.handlers.Declared.TheVariants as declares
 use Rattle.psm_cond.specs.declared.handlers.Handler.{Handler}
-use Rattle.psm_cond.specs.declared.handlers.HandlerKind.{HandlerKind}
-use Rattle.psm_cond.specs.declared.handlers.HandlerKind.TheVariants.{Continue, Exit, Undo}
 use Rattle.psm_cond.specs.Handlers.{context_at}
 use Rattle.psm_exprcode.specs.declared.op.Letter.{Letter}
 use Rattle.psm_exprcode.specs.declared.op.Op.TheVariants as op

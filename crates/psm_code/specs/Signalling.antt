@@ -2,6 +2,10 @@
 use Rattle.std.specs.Prelude.{ℕ, suc, Bool, false, List, [], ◌∷◌, length, codes, slice_get, Option, Some, None, if◌then◌else◌}
 use Rattle.std.specs.Ordering.{is_eq}
 use Rattle.std.specs.declared.cmp.Ordering.{Ordering}
+use Rattle.psm_terms.specs.declared.diagnostics.ConditionItem.{ConditionItem}
+use Rattle.psm_terms.specs.declared.diagnostics.DiagnosticsArea.{DiagnosticsArea}
+use Rattle.psm_terms.specs.declared.diagnostics.DiagnosticsArea.TheVariants.{Current, Stacked}
+use Rattle.psm_terms.specs.declared.diagnostics.StatementItem.{StatementItem}
 use Rattle.psm_value.specs.declared.datum.Datum.{Datum}
 use Rattle.psm_value.specs.declared.datum.Datum.TheVariants.{Null, Num, Text}
 use Rattle.psm_value.specs.Order.{compared}
@@ -12,10 +16,6 @@ use Rattle.psm_cond.specs.Item.{entries_of, entry_item, statement_item, whole}
 use Rattle.psm_cond.specs.declared.entry.Entry.{Entry}
 use Rattle.psm_cond.specs.declared.handlers.Declared.{Declared}
 use Rattle.psm_cond.specs.declared.handlers.Declared.TheVariants.{OfState, Named}
-use Rattle.psm_cond.specs.declared.item.ConditionItem.{ConditionItem}
-use Rattle.psm_cond.specs.declared.item.DiagnosticsArea.{DiagnosticsArea}
-use Rattle.psm_cond.specs.declared.item.DiagnosticsArea.TheVariants.{Current, Stacked}
-use Rattle.psm_cond.specs.declared.item.StatementItem.{StatementItem}
 use Rattle.psm_code.specs.declared.code.RawRoutine.{RawRoutine}
 use Rattle.psm_code.specs.State.{Frame, InBlock, InAction, Stuck}
 use Rattle.psm_code.specs.Steps.{Act, got, raises, ends, of_state, pop, present, put_value, read, ◌>>=◌}

@@ -5,16 +5,9 @@ use psm_cond::HandlerTable;
 use psm_exprcode::{ExprCode, Query, SetItem};
 use psm_list::List;
 use psm_table::{ForeignKeys, TableDef};
+use psm_terms::ParameterMode;
 use psm_text::Name;
 use psm_value::SqlType;
-
-/// How a parameter passes its value (ISO/IEC 9075-4:1996, SQL-invoked routine).
-#[derive(Clone, Copy, Debug, PartialEq, Eq)]
-pub enum ParameterMode {
-    In,
-    Out,
-    InOut,
-}
 
 /// A parameter of a routine.
 #[derive(Debug, Drop)]

@@ -1,7 +1,7 @@
 //! The instructions of routines.
 
-use psm_cond::{ConditionItem, DiagnosticsArea, StatementItem};
 use psm_exprcode::Op;
+use psm_terms::{ConditionItem, DiagnosticsArea, StatementItem};
 
 /// What a line of a routine does. A number of a line is its index in the routine, from 0; tables and routines are numbered in the
 /// code, and all else in the routine.

@@ -9,7 +9,7 @@ mod lines;
 mod rule;
 mod writing;
 
-pub use code::{CodeCursor, CodeTable, Parameter, ParameterMode, Plan, RawCode, RawRoutine};
+pub use code::{CodeCursor, CodeTable, Parameter, Plan, RawCode, RawRoutine};
 pub use instruction::Instruction;
 pub use laws::{
     empty_code_is_well_formed, expressions_that_fit_break_no_rule,

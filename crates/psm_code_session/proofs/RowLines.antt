@@ -4,6 +4,9 @@ use Rattle.std.specs.Prelude.{option_map, slice_get}
 use Rattle.std.proofs.lemmas.List.{append-nil}
 use denote.Hole.Carrier
 use Rattle.psm_list.specs.Several.{Several, several_map}
+use Rattle.psm_terms.specs.declared.operators.Comparison.{Comparison}
+use Rattle.psm_terms.specs.declared.operators.LogicalOperator.{LogicalOperator}
+use Rattle.psm_terms.specs.declared.functions.TextFunction.{TextFunction}
 use Rattle.psm_text.specs.declared.parts.Side.{Side}
 use Rattle.psm_value.specs.declared.datum.Datum.TheVariants as data_of
 use Rattle.psm_value.specs.declared.sqltype.SqlType.{SqlType}
@@ -13,9 +16,6 @@ use Rattle.psm_exprcode.specs.declared.op.Line.{Line}
 use Rattle.psm_exprcode.specs.declared.op.Op.TheVariants as op
 use Rattle.psm_exprcode.specs.Kinds.{letter_of}
 use Rattle.psm_exprcode.specs.Numbered.{with_op_at}
-use Rattle.psm_resolved.specs.declared.expr.Comparison.{Comparison}
-use Rattle.psm_resolved.specs.declared.expr.LogicalOperator.{LogicalOperator}
-use Rattle.psm_resolved.specs.declared.expr.TextFunction.{TextFunction}
 use Rattle.psm_resolved.specs.declared.expr.ResolvedExpr.{ResolvedExpr, roll-ResolvedExpr, out-ResolvedExpr, roll-out-ResolvedExpr}
 use Rattle.psm_resolved.specs.declared.expr.ResolvedExpr.TheVariants as exprs
 use Rattle.psm_resolved.specs.declared.expr.ResolvedExpr.TheOpen.{ResolvedExpr-F, ResolvedOperation-F, ResolvedWhen-F}

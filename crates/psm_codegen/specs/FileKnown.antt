@@ -1,8 +1,8 @@
 -- What is known of a file alone, and how what is known of one of its routines comes of it.
 use Rattle.std.specs.Prelude.{Bool, true, false, [], map, not}
+use Rattle.psm_terms.specs.declared.routines.ParameterMode.{ParameterMode}
 use Rattle.psm_exprcode.specs.declared.op.Letter.TheVariants.{N}
 use Rattle.psm_exprcode.specs.Kinds.{letter_of}
-use Rattle.psm_resolved.specs.declared.file.ParameterMode.{ParameterMode}
 use Rattle.psm_resolved.specs.declared.file.ResolvedFile.{ResolvedFile}
 use Rattle.psm_resolved.specs.declared.file.ResolvedRoutine.{ResolvedRoutine}
 use Rattle.psm_simulation.specs.Expressions.{wants}

@@ -1,12 +1,12 @@
 -- The lines that are written for a statement that has no statements, one rule a form. The run goes on at the line after them where a
 -- condition is handled.
 use Rattle.std.specs.Prelude.{◌-◌, ℕ, suc, List, [], ◌∷◌, ◌++◌, length, slice_get, Option, Some, None}
+use Rattle.psm_terms.specs.declared.diagnostics.ConditionItem.{ConditionItem}
+use Rattle.psm_terms.specs.declared.diagnostics.DiagnosticsArea.{DiagnosticsArea}
+use Rattle.psm_terms.specs.declared.diagnostics.StatementItem.{StatementItem}
 use Rattle.psm_value.specs.declared.datum.Datum.TheVariants as data_of
 use Rattle.psm_cond.specs.declared.handlers.Declared.{Declared}
 use Rattle.psm_cond.specs.declared.handlers.Declared.TheVariants as declares
-use Rattle.psm_cond.specs.declared.item.ConditionItem.{ConditionItem}
-use Rattle.psm_cond.specs.declared.item.DiagnosticsArea.{DiagnosticsArea}
-use Rattle.psm_cond.specs.declared.item.StatementItem.{StatementItem}
 use Rattle.psm_exprcode.specs.declared.op.Letter.{Letter}
 use Rattle.psm_exprcode.specs.declared.op.Letter.TheVariants.{N, T}
 use Rattle.psm_exprcode.specs.declared.op.Line.{Line}

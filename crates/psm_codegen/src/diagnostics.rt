@@ -4,10 +4,10 @@ ghost use Rattle.psm_code.specs.Instructions.{condition_letter, statement_letter
 ghost use Rattle.psm_codegen.specs.Simples.{condition_items, item_stored, statement_items};
 
 use psm_code::Instruction;
-use psm_cond::{ConditionItem, DiagnosticsArea, StatementItem};
 use psm_exprcode::{Letter, Op};
 use psm_exprgen::{EmitContext, Writer};
 use psm_list::List;
+use psm_terms::{ConditionItem, DiagnosticsArea, StatementItem};
 use std::alloc::AllocError;
 
 /// Stores items of a diagnostics area about the statement.

@@ -3,7 +3,7 @@ ghost use Rattle.std.specs.Prelude.{◌≡◌, IsTrue, drop, length, map, IfOk};
 ghost use Rattle.std.specs.List.{All};
 ghost use Rattle.psm_cond.specs.declared.handlers.Declared.TheVariants as declares;
 ghost use Rattle.psm_cond.specs.WellFormed.{is_numbered};
-ghost use Rattle.psm_simulation.specs.Simulation.{FileStands, last_instruction, mode_of, parameter_of};
+ghost use Rattle.psm_simulation.specs.Simulation.{FileStands, last_instruction, parameter_of};
 ghost use Rattle.psm_exprgen.specs.Labels.{patched_line};
 ghost use Rattle.psm_codegen.specs.Files.{FileWritten, RoutineWritten, RoutinesWritten, is_function};
 ghost use Rattle.psm_codegen.specs.Labels.{line_of, patched_context};
@@ -13,11 +13,11 @@ use crate::declared_letters::{file_known, for_routine};
 use crate::parts::FunctionBuilder;
 use crate::statements::statement;
 use crate::tables::tables_code;
-use psm_code::{Instruction, Parameter, ParameterMode as Mode, RawCode, RawRoutine};
+use psm_code::{Instruction, Parameter, RawCode, RawRoutine};
 use psm_cond::Declared;
 use psm_exprgen::{EmitContext, Known};
 use psm_list::List;
-use psm_resolved::{ParameterMode, ResolvedFile, ResolvedParameter, ResolvedRoutine};
+use psm_resolved::{ResolvedFile, ResolvedParameter, ResolvedRoutine};
 use psm_table::{ForeignKey, ForeignKeys};
 use psm_text::Name;
 use psm_value::SqlType;
@@ -154,22 +154,12 @@ fn parameters_of(
     let mut all = Vec::new(alloc);
     for parameter in parameters.items() {
         all.push(Parameter {
-            mode: mode_of(parameter.mode),
+            mode: parameter.mode,
             name: parameter.name.copy(alloc)?,
             kind: parameter.kind,
         })?;
     }
     Ok(List::of(all))
-}
-
-fn mode_of(mode: ParameterMode) -> Mode
-    ensures { result ≡ mode_of mode }
-{
-    match mode {
-        ParameterMode::In => Mode::In,
-        ParameterMode::Out => Mode::Out,
-        ParameterMode::InOut => Mode::InOut,
-    }
 }
 
 /// The types of the slots after those of the parameters.

@@ -11,13 +11,12 @@ ghost use Rattle.psm_codegen.specs.Statements.{with_cursor};
 
 use crate::labels::{patch_contexts, patch_lines};
 use psm_code::{CodeCursor, Instruction, Lines, Plan};
-use psm_cond::{
-    Block, ConditionValue, Context, ContextKind, Declared, Handler, HandlerKind, HandlerTable,
-};
+use psm_cond::{Block, ConditionValue, Context, ContextKind, Declared, Handler, HandlerTable};
 use psm_exprcode::{Letter, Query};
 use psm_exprgen::{EmitContext, Writer, letters_at};
 use psm_list::{List, OneOrMore};
 use psm_resolved::{ResolvedCondition, ResolvedCursor};
+use psm_terms::HandlerKind;
 use std::alloc::{AllocError, Global};
 use std::marker::Model;
 

@@ -6,7 +6,8 @@ ghost use Rattle.psm_codegen.specs.Files as files;
 
 use psm_exprcode::Letter;
 use psm_list::List;
-use psm_resolved::{ParameterMode, ResolvedParameter, ResolvedRoutine};
+use psm_resolved::{ResolvedParameter, ResolvedRoutine};
+use psm_terms::ParameterMode;
 use psm_value::SqlType;
 use std::alloc::{AllocError, Global};
 

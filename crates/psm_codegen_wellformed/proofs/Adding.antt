@@ -1,9 +1,9 @@
 -- The queries, cursors and plans that a simple statement adds to its routine are well-formed.
 use Rattle.std.specs.Prelude.{slice_get}
 use Rattle.std.proofs.Common.{◌≡◌, ◌++◌, ℕ, Bool, true, false, List, [], ◌∷◌, Option, Some, None, length, nat_eq, if◌then◌else◌, refl, sym, subst}
-use Rattle.psm_cond.specs.declared.item.ConditionItem.{ConditionItem}
-use Rattle.psm_cond.specs.declared.item.DiagnosticsArea.{DiagnosticsArea}
-use Rattle.psm_cond.specs.declared.item.StatementItem.{StatementItem}
+use Rattle.psm_terms.specs.declared.diagnostics.ConditionItem.{ConditionItem}
+use Rattle.psm_terms.specs.declared.diagnostics.DiagnosticsArea.{DiagnosticsArea}
+use Rattle.psm_terms.specs.declared.diagnostics.StatementItem.{StatementItem}
 use Rattle.psm_exprcode.specs.declared.op.Letter.{Letter}
 use Rattle.psm_exprcode.specs.declared.op.Letter.TheVariants.{N, T}
 use Rattle.psm_exprcode.specs.declared.op.Op.TheVariants as op

@@ -1,8 +1,8 @@
 -- The first line that is written for a statement stands in its context and states the operands that stand before it, as the line does
 -- that follows: where nothing is written that line is the first one.
 use Rattle.std.proofs.Common.{ℕ, suc, Bool, true, false, nat_eq, if◌then◌else◌, List, [], ◌∷◌, length, map, Some, None}
-use Rattle.psm_cond.specs.declared.item.DiagnosticsArea.{DiagnosticsArea}
-use Rattle.psm_cond.specs.declared.item.StatementItem.{StatementItem}
+use Rattle.psm_terms.specs.declared.diagnostics.DiagnosticsArea.{DiagnosticsArea}
+use Rattle.psm_terms.specs.declared.diagnostics.StatementItem.{StatementItem}
 use Rattle.psm_exprcode.specs.declared.op.Letter.TheVariants.{N, B}
 use Rattle.psm_exprcode.specs.declared.op.Op.TheVariants as op
 use Rattle.psm_resolved.specs.declared.statement.ResolvedBlock.{out-ResolvedBlock}

@@ -3,9 +3,9 @@ use Rattle.std.proofs.Common.{Bool, not, ◌≡◌, ℕ, zero, suc, true, false,
 use Rattle.std.specs.Prelude.{filter, slice_get}
 use Rattle.std.proofs.lemmas.Bool.{false≢true}
 use Rattle.std.proofs.lemmas.Option.{slice_get-map}
+use Rattle.psm_terms.specs.declared.routines.ParameterMode.{ParameterMode}
+use Rattle.psm_terms.specs.declared.routines.ParameterMode.TheVariants as modes
 use Rattle.psm_exprcode.specs.Kinds.{letter_of}
-use Rattle.psm_resolved.specs.declared.file.ParameterMode.{ParameterMode}
-use Rattle.psm_resolved.specs.declared.file.ParameterMode.TheVariants as modes
 use Rattle.psm_resolved.specs.declared.file.ResolvedFile.{ResolvedFile}
 use Rattle.psm_resolved.specs.declared.file.ResolvedParameter.{ResolvedParameter}
 use Rattle.psm_resolved.specs.declared.file.ResolvedRoutine.{ResolvedRoutine}
@@ -18,7 +18,7 @@ use Rattle.psm_code.specs.Instructions.{parameter_letters}
 use Rattle.psm_code.specs.Parts.{gives, giving, takes, taking}
 use Rattle.psm_simulation.specs.Expressions.{wants}
 use Rattle.psm_simulation.specs.Scheme.{slots_given}
-use Rattle.psm_simulation.specs.Simulation.{mode_of, parameter_of}
+use Rattle.psm_simulation.specs.Simulation.{parameter_of}
 use Rattle.psm_exprgen.specs.declared.known.Known.{Known}
 use Rattle.psm_codegen.specs.Files.{FileWritten, RoutineWritten, gives_back, is_function, known_of, letters_of}
 use Rattle.psm_meaning.specs.Calls.{procedure_at, returns}
@@ -34,7 +34,7 @@ use Rattle.psm_wellformed.specs.Simples.{WellFormedArguments}
 use Rattle.psm_codegen_wellformed.proofs.Keeping.{keeps-written, routine-written, taken-letters}
 
 taking-one : (m : ParameterMode) (p : Parameter) (kept : List Parameter) (q : ResolvedParameter) (others : List ResolvedParameter) → letter_of p.kind ≡ letter_of q.kind → parameter_letters kept ≡ map (λ x. letter_of x.kind) others
-    → parameter_letters (if takes (mode_of m) then p ∷ kept else kept) ≡ map (λ x. letter_of x.kind) (if wants m then q ∷ others else others)
+    → parameter_letters (if takes m then p ∷ kept else kept) ≡ map (λ x. letter_of x.kind) (if wants m then q ∷ others else others)
 taking-one modes.In p kept q others k h = ap (λ j. j ∷ parameter_letters kept) k ∙ ap (λ js. letter_of q.kind ∷ js) h
 taking-one modes.Out p kept q others k h = h
 taking-one modes.InOut p kept q others k h = ap (λ j. j ∷ parameter_letters kept) k ∙ ap (λ js. letter_of q.kind ∷ js) h
@@ -44,7 +44,7 @@ taking-letters [] = refl
 taking-letters (p ∷ ps) = taking-one p.mode (parameter_of p) (taking (map parameter_of ps)) p (filter (λ x. wants x.mode) ps) refl (taking-letters ps)
 
 giving-one : (m : ParameterMode) (p : Parameter) (kept : List Parameter) (q : ResolvedParameter) (others : List ResolvedParameter) → letter_of p.kind ≡ letter_of q.kind → parameter_letters kept ≡ map (λ x. letter_of x.kind) others
-    → parameter_letters (if gives (mode_of m) then p ∷ kept else kept) ≡ map (λ x. letter_of x.kind) (if gives_back m then q ∷ others else others)
+    → parameter_letters (if gives m then p ∷ kept else kept) ≡ map (λ x. letter_of x.kind) (if gives_back m then q ∷ others else others)
 giving-one modes.In p kept q others k h = h
 giving-one modes.Out p kept q others k h = ap (λ j. j ∷ parameter_letters kept) k ∙ ap (λ js. letter_of q.kind ∷ js) h
 giving-one modes.InOut p kept q others k h = ap (λ j. j ∷ parameter_letters kept) k ∙ ap (λ js. letter_of q.kind ∷ js) h

@@ -1,9 +1,9 @@
 -- Simple statements that are written are well-formed: they begin and end with no operand.
 use Rattle.std.proofs.Common.{arith, ◌≡◌, ◌++◌, ℕ, true, not, ◌&&◌, List, [], ◌∷◌, length, Option, Some, None, option_map, ap, refl, sym, subst, ◌∙◌, append-nil}
 use Rattle.std.specs.Prelude.{codes, reverse, slice_get}
-use Rattle.psm_cond.specs.declared.item.ConditionItem.{ConditionItem}
-use Rattle.psm_cond.specs.declared.item.DiagnosticsArea.{DiagnosticsArea}
-use Rattle.psm_cond.specs.declared.item.StatementItem.{StatementItem}
+use Rattle.psm_terms.specs.declared.diagnostics.ConditionItem.{ConditionItem}
+use Rattle.psm_terms.specs.declared.diagnostics.DiagnosticsArea.{DiagnosticsArea}
+use Rattle.psm_terms.specs.declared.diagnostics.StatementItem.{StatementItem}
 use Rattle.psm_value.specs.declared.sqltype.SqlType.{SqlType}
 use Rattle.psm_exprcode.specs.declared.op.Letter.TheVariants.{N, B}
 use Rattle.psm_exprcode.specs.declared.query.Query.{Query}

@@ -1,10 +1,10 @@
 -- The first line that is written for an expression states the operands that stand before it, as the line does that follows.
 use Rattle.std.proofs.Common.{ℕ, suc, List, Option, Some}
+use Rattle.psm_terms.specs.declared.operators.LogicalOperator.{LogicalOperator}
 use Rattle.psm_exprcode.specs.declared.op.Letter.{Letter}
 use Rattle.psm_exprcode.specs.declared.op.Letter.TheVariants.{N, B}
 use Rattle.psm_exprcode.specs.declared.op.Op.TheVariants as op
 use Rattle.psm_code.specs.declared.code.RawRoutine.{RawRoutine}
-use Rattle.psm_resolved.specs.declared.expr.LogicalOperator.{LogicalOperator}
 use Rattle.psm_resolved.specs.declared.expr.ResolvedExpr.{ResolvedExpr, out-ResolvedExpr}
 use Rattle.psm_resolved.specs.declared.expr.ResolvedOperation.{ResolvedOperation, out-ResolvedOperation}
 use Rattle.psm_resolved.specs.declared.expr.ResolvedWhen.{ResolvedWhen}

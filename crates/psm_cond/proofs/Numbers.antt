@@ -3,10 +3,10 @@ use Rattle.std.proofs.Common.{◌≡◌, ℕ, suc, ◌+◌, ◌<◌, ◌≤◌, 
 use Rattle.std.specs.Prelude.{Some}
 use Rattle.std.proofs.lemmas.Bool.{cases_lt, false≢true}
 use Rattle.std.proofs.lemmas.Option.{slice_get-get_or}
+use Rattle.psm_terms.specs.declared.diagnostics.ConditionItem.{ConditionItem}
 use Rattle.psm_value.specs.declared.datum.Datum.{Datum}
 use Rattle.psm_cond.specs.declared.entry.Entry.{Entry}
 use Rattle.psm_cond.specs.declared.fault.AreaFault.TheVariants as fault
-use Rattle.psm_cond.specs.declared.item.ConditionItem.{ConditionItem}
 use Rattle.psm_cond.specs.Item.{IsNumber, GivesItem, entry_item}
 
 -- no entry whose number is the value stands before an index

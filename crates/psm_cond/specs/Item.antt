@@ -1,16 +1,16 @@
 -- What GET DIAGNOSTICS reads (ISO/IEC 9075:1992, 18.1).
 use Rattle.std.specs.Prelude.{◌≡◌, ℕ, suc, pos, ◌≤◌, ⊤, Bool, Some, List, ◌∷◌, length, codes, slice_get, Result, Ok, Err, if◌then◌else◌}
 use Rattle.std.specs.declared.cmp.Ordering.TheVariants.{Equal}
+use Rattle.psm_terms.specs.declared.diagnostics.StatementItem.{StatementItem}
+use Rattle.psm_terms.specs.declared.diagnostics.StatementItem.TheVariants.{Number, More, RowCount}
+use Rattle.psm_terms.specs.declared.diagnostics.ConditionItem.{ConditionItem}
+use Rattle.psm_terms.specs.declared.diagnostics.ConditionItem.TheVariants.{ConditionNumber, ReturnedSqlstate, ConditionIdentifier, MessageText, MessageLength, TableName, CursorName}
 use Rattle.psm_value.specs.declared.datum.Datum.{Datum}
 use Rattle.psm_value.specs.declared.datum.Datum.TheVariants.{Num, Text}
 use Rattle.psm_value.specs.Order.{compared}
 use Rattle.psm_cond.specs.declared.entry.Entry.{Entry}
 use Rattle.psm_cond.specs.declared.fault.AreaFault.{AreaFault}
 use Rattle.psm_cond.specs.declared.fault.AreaFault.TheVariants as fault
-use Rattle.psm_cond.specs.declared.item.StatementItem.{StatementItem}
-use Rattle.psm_cond.specs.declared.item.StatementItem.TheVariants.{Number, More, RowCount}
-use Rattle.psm_cond.specs.declared.item.ConditionItem.{ConditionItem}
-use Rattle.psm_cond.specs.declared.item.ConditionItem.TheVariants.{ConditionNumber, ReturnedSqlstate, ConditionIdentifier, MessageText, MessageLength, TableName, CursorName}
 use Rattle.psm_cond.specs.Condition.{Entries}
 
 -- a number of things as a value

@@ -5,9 +5,10 @@ ghost use Rattle.psm_cond.specs.Item.{GivesItem, entries_of, statement_item};
 
 use crate::condition::Condition;
 use crate::fault::AreaFault;
-use crate::item::{ConditionItem, StatementItem};
+use crate::item::statement_item;
 use psm_list::Boxed;
 use psm_sqlstate::SqlState;
+use psm_terms::{ConditionItem, StatementItem};
 use psm_value::Datum;
 use std::alloc::{AllocError, Global};
 use std::marker::Model;
@@ -93,7 +94,7 @@ impl Area {
         ensures { IfOk result (λ d. d ≡ statement_item (length (entries_of self.now.entries)) self.now.entries.more self.now.rows item) }
     {
         match &self.held {
-            Held::Success => item.of(alloc, 1, false, self.rows),
+            Held::Success => statement_item(alloc, item, 1, false, self.rows),
             Held::Raised(condition) => condition.get().statement_item(alloc, item, self.rows),
         }
     }

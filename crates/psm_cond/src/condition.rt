@@ -7,9 +7,10 @@ ghost use Rattle.psm_cond.specs.Item.{GivesItem, IsNumber, entries_of, statement
 
 use crate::entry::{Entry, text_of};
 use crate::fault::AreaFault;
-use crate::item::{ConditionItem, StatementItem, whole};
+use crate::item::{entry_item, statement_item, whole};
 use psm_list::{Boxed, List};
 use psm_sqlstate::{Kind, SqlState};
+use psm_terms::{ConditionItem, StatementItem};
 use psm_text::Name;
 use psm_value::{Datum, compare};
 use std::alloc::{AllocError, Global};
@@ -181,7 +182,7 @@ impl Condition {
     ) -> Result<Datum, AllocError>
         ensures { IfOk result (λ d. d ≡ statement_item (length (entries_of self.now)) self.now.more rows item) }
     {
-        item.of(alloc, self.count(), self.more, rows)
+        statement_item(alloc, item, self.count(), self.more, rows)
     }
 
     /// An item of the entry with that number, counted from 1. `Number` comes exactly where the number is null
@@ -195,12 +196,12 @@ impl Condition {
         ensures { GivesItem (entries_of self.now) number.now item result }
     {
         if is_number(number, 1) {
-            return Ok(item.of(alloc, 1, &self.first)?);
+            return Ok(entry_item(alloc, item, 1, &self.first)?);
         }
         for (at, entry) in self.others.items().iter().enumerate() {
             let position = at as u32 + 2;
             if is_number(number, position) {
-                return Ok(item.of(alloc, position, entry)?);
+                return Ok(entry_item(alloc, item, position, entry)?);
             }
         }
         Err(AreaFault::Number)

@@ -8,6 +8,7 @@ use crate::index::Index;
 use crate::key::HandlerKey;
 use psm_list::{List, OneOrMore};
 use psm_sqlstate::SqlState;
+use psm_terms::HandlerKind;
 use psm_text::Name;
 use std::alloc::{AllocError, Global};
 use std::marker::Model;
@@ -77,14 +78,6 @@ pub struct Handler {
     /// The first line of its action.
     pub pc: u32,
     pub values: OneOrMore<ConditionValue>,
-}
-
-/// How the run goes on after the action of a handler.
-#[derive(Clone, Copy, Debug, PartialEq, Eq)]
-pub enum HandlerKind {
-    Continue,
-    Exit,
-    Undo,
 }
 
 /// A value of a condition for which a handler is declared.

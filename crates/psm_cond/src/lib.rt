@@ -19,9 +19,6 @@ pub use choice::choose;
 pub use condition::Condition;
 pub use entry::Entry;
 pub use fault::{AreaFault, DataFault};
-pub use handlers::{
-    Block, ConditionValue, Context, ContextKind, Declared, Handler, HandlerKind, HandlerTable,
-};
-pub use item::{ConditionItem, DiagnosticsArea, StatementItem};
+pub use handlers::{Block, ConditionValue, Context, ContextKind, Declared, Handler, HandlerTable};
 pub use laws::{choice_is_innermost, choice_is_most_specific, scopes_go_outward};
 pub use message::Message;

@@ -1,21 +1,7 @@
 //! Set functions of expressions.
 
 use crate::code::ExprCode;
-
-/// The name of a set function (ISO/IEC 9075:1992, 6.5).
-#[derive(Clone, Copy, Debug, PartialEq, Eq)]
-pub enum SetFunction {
-    /// The number of values.
-    Count,
-    /// The sum of numbers.
-    Sum,
-    /// The first value than which none is less.
-    Min,
-    /// The first value than which none is greater.
-    Max,
-    /// The sum of numbers over how many they are.
-    Avg,
-}
+use psm_terms::SetFunction;
 
 /// A set function, and the expression whose values it is of. `COUNT(*)` has none: it counts rows.
 #[derive(Debug, Drop)]

@@ -26,7 +26,7 @@ mod table;
 mod texts;
 mod writing;
 
-pub use aggregate::{Aggregate, SetFunction};
+pub use aggregate::Aggregate;
 pub use applying::apply;
 pub use code::ExprCode;
 pub use evaluating::{eval, eval_on};

@@ -3,12 +3,12 @@ use Rattle.std.proofs.Common.{◌≡◌, ℕ, suc, true, List, [], ◌∷◌, Op
 use Rattle.std.specs.Prelude.{Result, Ok, Err, IfOk}
 use Rattle.std.specs.declared.alloc.AllocError.{AllocError}
 use Rattle.psm_list.specs.Several.{Several}
+use Rattle.psm_terms.specs.declared.operators.LogicalOperator.{LogicalOperator}
 use Rattle.psm_value.specs.declared.datum.Datum.TheVariants as data_of
 use Rattle.psm_exprcode.specs.declared.op.Letter.{Letter}
 use Rattle.psm_exprcode.specs.declared.op.Letter.TheVariants.{B, N}
 use Rattle.psm_exprcode.specs.declared.op.Op.TheVariants as op
 use Rattle.psm_exprcode.specs.declared.query.Query.{Query}
-use Rattle.psm_resolved.specs.declared.expr.LogicalOperator.{LogicalOperator}
 use Rattle.psm_resolved.specs.declared.expr.ResolvedExpr.{ResolvedExpr, out-ResolvedExpr}
 use Rattle.psm_resolved.specs.declared.expr.ResolvedExpr.TheOpen as layers
 use Rattle.psm_resolved.specs.declared.expr.ResolvedQuery.{ResolvedQuery}

@@ -2,10 +2,10 @@
 -- columns and variables, each has the value of its expression.
 use Rattle.std.specs.Prelude.{◌≡◌, ℕ, Bool, true, ◌&&◌, IsTrue, List, [], ◌∷◌, map, Option, Some, None}
 use Rattle.std.specs.List.{list_all}
+use Rattle.psm_terms.specs.declared.functions.SetFunction.{SetFunction}
+use Rattle.psm_terms.specs.declared.functions.SetFunction.TheVariants as functions
 use Rattle.psm_value.specs.declared.datum.Datum.{Datum}
 use Rattle.psm_exprcode.specs.declared.aggregate.Aggregate.{Aggregate}
-use Rattle.psm_exprcode.specs.declared.aggregate.SetFunction.{SetFunction}
-use Rattle.psm_exprcode.specs.declared.aggregate.SetFunction.TheVariants as functions
 use Rattle.psm_exprcode.specs.declared.items.Items.{Items}
 use Rattle.psm_exprcode.specs.declared.items.Items.TheVariants as coded
 use Rattle.psm_exprcode.specs.declared.op.Letter.{Letter}

@@ -16,9 +16,10 @@ use psm_code::Instruction;
 use psm_exprcode::{Letter, Op};
 use psm_list::{Boxed, List, OneOrMore};
 use psm_resolved::{
-    LogicalOperator, ResolvedExpr, ResolvedOperation, ResolvedQuery, ResolvedWhen, calculated,
-    calculating, changed, changing, comparing, joining, letter_of_results,
+    ResolvedExpr, ResolvedOperation, ResolvedQuery, ResolvedWhen, calculated, calculating, changed,
+    changing, comparing, joining, letter_of_results,
 };
+use psm_terms::LogicalOperator;
 use psm_value::Datum;
 use std::alloc::AllocError;
 

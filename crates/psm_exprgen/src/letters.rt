@@ -6,9 +6,10 @@ ghost use Rattle.psm_exprgen.specs.Written.{letter_at};
 
 use crate::known::Known;
 use crate::row_types::row_type_of;
-use psm_exprcode::{Letter, SetFunction};
+use psm_exprcode::Letter;
 use psm_list::{Boxed, List};
 use psm_resolved::{ResolvedExpr, ResolvedItem, ResolvedItems, ResolvedQuery};
+use psm_terms::SetFunction;
 use std::alloc::{AllocError, Global};
 
 /// The letters of the items of a query (ISO/IEC 9075:1992, clause 7), the first one first: N, T or B each. Out of memory is the one

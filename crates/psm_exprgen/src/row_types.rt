@@ -13,8 +13,9 @@ ghost use Rattle.psm_exprgen.specs.Seen.{seen};
 use psm_exprcode::Letter;
 use psm_list::{Boxed, List, OneOrMore};
 use psm_resolved::{
-    Operator, ResolvedExpr, ResolvedOperation, ResolvedWhen, calculated, changed, letter_of_results,
+    ResolvedExpr, ResolvedOperation, ResolvedWhen, calculated, changed, letter_of_results,
 };
+use psm_terms::Operator;
 use psm_value::SqlType;
 
 /// No row expression, NULL, or one of a letter.

@@ -2,6 +2,17 @@
 use Rattle.std.proofs.Common.{ℕ, Bool, true, false, List, [], ◌∷◌, ◌++◌, length, map, Option, Some, None, refl, subst, sym, arith}
 use Rattle.std.specs.Prelude.{codes, is_some}
 use Rattle.std.specs.List.{flat_map}
+use Rattle.psm_terms.specs.declared.routines.HandlerKind.{HandlerKind}
+use Rattle.psm_terms.specs.declared.routines.HandlerKind.TheVariants.{Continue, Exit, Undo}
+use Rattle.psm_terms.specs.declared.diagnostics.ConditionItem.{ConditionItem}
+use Rattle.psm_terms.specs.declared.diagnostics.ConditionItem.TheVariants as of_condition
+use Rattle.psm_terms.specs.declared.diagnostics.DiagnosticsArea.TheVariants.{Current, Stacked}
+use Rattle.psm_terms.specs.declared.diagnostics.StatementItem.{StatementItem}
+use Rattle.psm_terms.specs.declared.diagnostics.StatementItem.TheVariants as of_statement
+use Rattle.psm_terms.specs.declared.functions.SetFunction.{SetFunction}
+use Rattle.psm_terms.specs.declared.functions.SetFunction.TheVariants as sets
+use Rattle.psm_terms.specs.declared.routines.ParameterMode.{ParameterMode}
+use Rattle.psm_terms.specs.declared.routines.ParameterMode.TheVariants.{In, Out, InOut}
 use Rattle.psm_value.specs.declared.sqltype.SqlType.{SqlType}
 use Rattle.psm_cond.specs.declared.handlers.ConditionValue.{ConditionValue}
 use Rattle.psm_cond.specs.declared.handlers.ConditionValue.TheVariants as values
@@ -11,19 +22,10 @@ use Rattle.psm_cond.specs.declared.handlers.ContextKind.TheVariants as kinds
 use Rattle.psm_cond.specs.declared.handlers.Declared.{Declared}
 use Rattle.psm_cond.specs.declared.handlers.Declared.TheVariants as declares
 use Rattle.psm_cond.specs.declared.handlers.Handler.{Handler}
-use Rattle.psm_cond.specs.declared.handlers.HandlerKind.{HandlerKind}
-use Rattle.psm_cond.specs.declared.handlers.HandlerKind.TheVariants.{Continue, Exit, Undo}
-use Rattle.psm_cond.specs.declared.item.ConditionItem.{ConditionItem}
-use Rattle.psm_cond.specs.declared.item.ConditionItem.TheVariants as of_condition
-use Rattle.psm_cond.specs.declared.item.DiagnosticsArea.TheVariants.{Current, Stacked}
-use Rattle.psm_cond.specs.declared.item.StatementItem.{StatementItem}
-use Rattle.psm_cond.specs.declared.item.StatementItem.TheVariants as of_statement
 use Rattle.psm_table.specs.declared.definition.Column.{Column}
 use Rattle.psm_text.specs.declared.parts.Side.{Side}
 use Rattle.psm_text.specs.declared.parts.Side.TheVariants.{Leading, Trailing, Both}
 use Rattle.psm_exprcode.specs.declared.aggregate.Aggregate.{Aggregate}
-use Rattle.psm_exprcode.specs.declared.aggregate.SetFunction.{SetFunction}
-use Rattle.psm_exprcode.specs.declared.aggregate.SetFunction.TheVariants as sets
 use Rattle.psm_exprcode.specs.declared.items.Items.{Items}
 use Rattle.psm_exprcode.specs.declared.items.Items.TheVariants as items
 use Rattle.psm_exprcode.specs.declared.op.Line.{Line}
@@ -33,8 +35,6 @@ use Rattle.psm_exprcode.specs.declared.query.Query.{Query}
 use Rattle.psm_exprcode.specs.declared.set_item.SetItem.{SetItem}
 use Rattle.psm_code.specs.declared.code.CodeCursor.{CodeCursor}
 use Rattle.psm_code.specs.declared.code.Parameter.{Parameter}
-use Rattle.psm_code.specs.declared.code.ParameterMode.{ParameterMode}
-use Rattle.psm_code.specs.declared.code.ParameterMode.TheVariants.{In, Out, InOut}
 use Rattle.psm_code.specs.declared.code.Plan.{Plan}
 use Rattle.psm_code.specs.declared.code.Plan.TheVariants as plans
 use Rattle.psm_code.specs.declared.code.RawCode.{RawCode}

@@ -3,6 +3,7 @@
 -- COUNT alone has no operand. A value of Rust's types is such code where it
 -- breaks no rule and no list has 2^32 items.
 use Rattle.std.specs.Prelude.{◌≡◌, ℕ, suc, true, List, [], ◌∷◌, length, map, is_some, Option, Some, None}
+use Rattle.psm_terms.specs.declared.functions.SetFunction.{SetFunction}
 use Rattle.psm_table.specs.declared.definition.ForeignKey.{ForeignKey}
 use Rattle.psm_sqlstate.specs.State.{IsState}
 use Rattle.psm_cond.specs.declared.handlers.ConditionValue.{ConditionValue}
@@ -11,7 +12,6 @@ use Rattle.psm_cond.specs.declared.handlers.Declared.{Declared}
 use Rattle.psm_cond.specs.declared.handlers.Declared.TheVariants as declares
 use Rattle.psm_cond.specs.declared.handlers.Handler.{Handler}
 use Rattle.psm_exprcode.specs.declared.aggregate.Aggregate.{Aggregate}
-use Rattle.psm_exprcode.specs.declared.aggregate.SetFunction.{SetFunction}
 use Rattle.psm_exprcode.specs.declared.items.Items.{Items}
 use Rattle.psm_exprcode.specs.declared.items.Items.TheVariants as items
 use Rattle.psm_exprcode.specs.declared.op.Line.{Line}

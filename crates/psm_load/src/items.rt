@@ -9,9 +9,10 @@ use crate::left::LinesLeft;
 use crate::listed::{Listed, several_after};
 use crate::stop::Stop;
 use psm_code::CodeRule;
-use psm_exprcode::{Aggregate, ExprCode, Items, RawExpr, SetFunction};
+use psm_exprcode::{Aggregate, ExprCode, Items, RawExpr};
 use psm_list::List;
 use psm_load_line::{ItemHead, item_head};
+use psm_terms::SetFunction;
 use std::alloc::Global;
 
 /// The items of a query, of which there are n.

@@ -1,17 +1,17 @@
 -- The other lines are read as they are written.
 use Rattle.std.proofs.Common.{◌≡◌, ℕ, Bool, true, false, List, [], ◌∷◌, ◌++◌, map, Option, Some, refl, sym, ap, subst, ◌∙◌}
 use Rattle.std.specs.Prelude.{codes}
+use Rattle.psm_terms.specs.declared.functions.SetFunction.TheVariants as sets
+use Rattle.psm_terms.specs.declared.routines.ParameterMode.{ParameterMode}
+use Rattle.psm_terms.specs.declared.routines.ParameterMode.TheVariants.{In, Out, InOut}
 use Rattle.psm_value.specs.declared.datum.Datum.{Datum}
 use Rattle.psm_value.specs.declared.sqltype.SqlType.{SqlType}
 use Rattle.psm_cond.specs.declared.handlers.Context.{Context}
 use Rattle.psm_cond.specs.declared.handlers.ContextKind.{ContextKind}
 use Rattle.psm_cond.specs.declared.handlers.ContextKind.TheVariants as kinds
 use Rattle.psm_table.specs.declared.definition.Column.{Column}
-use Rattle.psm_exprcode.specs.declared.aggregate.SetFunction.TheVariants as sets
 use Rattle.psm_code.specs.declared.code.CodeCursor.{CodeCursor}
 use Rattle.psm_code.specs.declared.code.Parameter.{Parameter}
-use Rattle.psm_code.specs.declared.code.ParameterMode.{ParameterMode}
-use Rattle.psm_code.specs.declared.code.ParameterMode.TheVariants.{In, Out, InOut}
 use Rattle.psm_words.specs.Words.{datum_word, number, quoted, state_word, type_word, FitsType, IsDatum, IsStateWord}
 use Rattle.psm_words.specs.Reading.{◌>>=◌, datum_at, state_at, type_at}
 use Rattle.psm_words.proofs.Several.{bind_some, some_is}

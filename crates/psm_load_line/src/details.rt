@@ -8,8 +8,8 @@ ghost use Rattle.psm_load_line.specs.Readers.{both, index_at, last, made, one_of
 
 use crate::front::{index, keyword, kind, pick, pick_last};
 use psm_code::Instruction;
-use psm_cond::{ConditionItem, StatementItem};
 use psm_exprcode::Letter;
+use psm_terms::{ConditionItem, StatementItem};
 use psm_text::Side;
 use psm_value::SqlType;
 use psm_words::number;

@@ -12,9 +12,10 @@ use crate::fault::Unread;
 use crate::front::{flag, index, keyword, name_first, pick, text_word};
 use crate::lists::{add_indexes, add_values};
 use crate::values::{condition_value, state, state_of};
-use psm_cond::{Block, ConditionValue, Context, ContextKind, Declared, Handler, HandlerKind};
+use psm_cond::{Block, ConditionValue, Context, ContextKind, Declared, Handler};
 use psm_list::{List, OneOrMore};
 use psm_sqlstate::SqlState;
+use psm_terms::HandlerKind;
 use psm_text::Name;
 use std::alloc::Global;
 

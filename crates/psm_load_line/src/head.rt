@@ -1,7 +1,7 @@
 //! What the lines that count others say.
 
-use psm_exprcode::SetFunction;
 use psm_list::List;
+use psm_terms::SetFunction;
 use psm_text::Name;
 use psm_value::SqlType;
 

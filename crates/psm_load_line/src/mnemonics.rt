@@ -11,8 +11,8 @@ use crate::details::{
 use crate::fault::Unread;
 use crate::front::{text_word, value};
 use psm_code::Instruction;
-use psm_cond::DiagnosticsArea;
 use psm_exprcode::Op;
+use psm_terms::DiagnosticsArea;
 use std::alloc::Global;
 
 /// The instruction after a blank, up to the end.

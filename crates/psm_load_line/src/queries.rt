@@ -13,7 +13,7 @@ use crate::front::{bare_size, flag, index, keyword, name, pick, pick_last, text_
 use crate::head::{ItemHead, PlanHead, QueryHead};
 use crate::lists::columns;
 use psm_code::CodeCursor;
-use psm_exprcode::SetFunction;
+use psm_terms::SetFunction;
 use std::alloc::Global;
 
 /// What a line `QUERY` says.

@@ -1,8 +1,8 @@
 -- Instructions that are done, and where the run goes on after them.
 use Rattle.std.proofs.Common.{◌≡◌, ℕ, false, Result, Ok, Err, IsErrAnd, refl, ap, sym, subst}
-use Rattle.psm_cond.specs.declared.item.ConditionItem.{ConditionItem}
-use Rattle.psm_cond.specs.declared.item.DiagnosticsArea.{DiagnosticsArea}
-use Rattle.psm_cond.specs.declared.item.StatementItem.{StatementItem}
+use Rattle.psm_terms.specs.declared.diagnostics.ConditionItem.{ConditionItem}
+use Rattle.psm_terms.specs.declared.diagnostics.DiagnosticsArea.{DiagnosticsArea}
+use Rattle.psm_terms.specs.declared.diagnostics.StatementItem.{StatementItem}
 use Rattle.psm_exprcode.specs.declared.op.Op.{Op}
 use Rattle.psm_exprcode.specs.declared.operand.Next.{Next}
 use Rattle.psm_exprcode.specs.declared.operand.Next.TheVariants.{FallThrough}

@@ -3,6 +3,8 @@ use Rattle.std.proofs.Common.{◌≡◌, ℕ, zero, suc, ◌+◌, ◌*◌, ◌^�
 use Rattle.std.specs.Cmp.{int_ranked}
 use Rattle.std.specs.declared.cmp.Ordering.{Ordering}
 use Rattle.std.specs.declared.cmp.Ordering.TheVariants.{Less, Equal, Greater}
+use Rattle.psm_terms.specs.declared.diagnostics.ConditionItem.{ConditionItem}
+use Rattle.psm_terms.specs.declared.diagnostics.DiagnosticsArea.TheVariants.{Current}
 use Rattle.psm_num.specs.Num.{Num as Number}
 use Rattle.psm_num.specs.Order.{order}
 use Rattle.psm_num.proofs.Powers.{power_pos}
@@ -12,8 +14,6 @@ use Rattle.psm_value.specs.Order.{compared}
 use Rattle.psm_cond.specs.declared.entry.Entry.{Entry}
 use Rattle.psm_exprcode.specs.declared.operand.Operand.{Operand}
 use Rattle.psm_exprcode.specs.declared.operand.Operand.TheVariants.{Value, Truth}
-use Rattle.psm_cond.specs.declared.item.ConditionItem.{ConditionItem}
-use Rattle.psm_cond.specs.declared.item.DiagnosticsArea.TheVariants.{Current}
 use Rattle.psm_cond.specs.Area.{Diagnostics}
 use Rattle.psm_cond.specs.Condition.{Entries}
 use Rattle.psm_cond.specs.Item.{IsNumber, entries_of, entry_item, whole}

@@ -1,10 +1,10 @@
 -- GET DIAGNOSTICS, by the area that is read.
 use Rattle.std.proofs.Common.{◌≡◌, true, false, List, [], ◌∷◌, Option, Some, None, Ok, Err, codes, option_map, refl, ap, sym, subst, ◌∙◌, reverse}
+use Rattle.psm_terms.specs.declared.diagnostics.ConditionItem.{ConditionItem}
+use Rattle.psm_terms.specs.declared.diagnostics.DiagnosticsArea.{DiagnosticsArea}
+use Rattle.psm_terms.specs.declared.diagnostics.DiagnosticsArea.TheVariants.{Stacked}
+use Rattle.psm_terms.specs.declared.diagnostics.StatementItem.{StatementItem}
 use Rattle.psm_value.specs.declared.datum.Datum.{Datum}
-use Rattle.psm_cond.specs.declared.item.ConditionItem.{ConditionItem}
-use Rattle.psm_cond.specs.declared.item.DiagnosticsArea.{DiagnosticsArea}
-use Rattle.psm_cond.specs.declared.item.DiagnosticsArea.TheVariants.{Stacked}
-use Rattle.psm_cond.specs.declared.item.StatementItem.{StatementItem}
 use Rattle.psm_cond.specs.declared.fault.AreaFault.TheVariants as fault
 use Rattle.psm_cond.specs.Area.{Diagnostics}
 use Rattle.psm_cond.specs.Item.{GivesItem, entries_of}

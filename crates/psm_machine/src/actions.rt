@@ -9,8 +9,9 @@ ghost use Rattle.psm_machine.specs.Successors.{GoesOn, SameMarks, exit_of, resum
 
 use crate::stop::Stop;
 use psm_code::RawRoutine;
-use psm_cond::{Handler, HandlerKind};
+use psm_cond::Handler;
 use psm_exprcode::Next;
+use psm_terms::HandlerKind;
 use psm_unwind::{Frame, Run, block_at, handler_at, leave_action};
 
 /// Ends the action of a handler, whose frame has to be the innermost one, and answers where the run goes on: after the statement for

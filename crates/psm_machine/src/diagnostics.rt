@@ -6,9 +6,9 @@ ghost use Rattle.psm_machine.specs.Successors.{statement_item_of};
 
 use crate::operands::put;
 use crate::stop::{Stop, stop_at};
-use psm_cond::{DiagnosticsArea, StatementItem};
 use psm_exprcode::Operand;
 use psm_sqlstate::SqlState;
+use psm_terms::{DiagnosticsArea, StatementItem};
 use psm_unwind::{Run, stacked_statement_item};
 use psm_value::Datum;
 use std::alloc::Global;

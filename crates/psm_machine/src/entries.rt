@@ -1,7 +1,7 @@
 //! GET DIAGNOSTICS of one condition (ISO/IEC 9075:1992, 18.1), which leaves the areas as they are.
 ghost use Rattle.std.specs.Prelude.{◌≡◌, Some};
+ghost use Rattle.psm_terms.specs.declared.diagnostics.DiagnosticsArea.TheVariants.{Current, Stacked};
 ghost use Rattle.psm_cond.specs.Area.{Diagnostics};
-ghost use Rattle.psm_cond.specs.declared.item.DiagnosticsArea.TheVariants.{Current, Stacked};
 ghost use Rattle.psm_code.specs.Rules.{there};
 ghost use Rattle.psm_code.specs.Signalling.{item_of_condition};
 ghost use Rattle.psm_unwind.specs.Actions.{stacked_in};
@@ -11,9 +11,10 @@ ghost use Rattle.psm_machine.specs.Successors.{item_at};
 
 use crate::operands::{pop, put};
 use crate::stop::{Stop, stop_at};
-use psm_cond::{Area, AreaFault, ConditionItem, DiagnosticsArea};
+use psm_cond::{Area, AreaFault};
 use psm_exprcode::Operand;
 use psm_sqlstate::SqlState;
+use psm_terms::{ConditionItem, DiagnosticsArea};
 use psm_unwind::{Run, activating, stacked_condition_item};
 use psm_value::Datum;
 use std::alloc::Global;

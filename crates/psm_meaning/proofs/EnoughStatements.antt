@@ -1,11 +1,11 @@
 -- The same of simple statements and of compound statements.
 use Rattle.std.proofs.Common.{arith, ◌≡◌, ◌≤◌, ◌&&◌, ℕ, suc, Bool, true, false, List, [], ◌∷◌, map, not, Option, Some, None, All, nat_eq, refl, sym, subst, if◌then◌else◌}
 use Rattle.std.proofs.lemmas.List.Elements.{All-nil, All-cons}
+use Rattle.psm_terms.specs.declared.routines.HandlerKind.{HandlerKind}
+use Rattle.psm_terms.specs.declared.routines.HandlerKind.TheVariants.{Continue, Exit, Undo}
 use Rattle.psm_value.specs.declared.datum.Datum.TheVariants.{Null}
 use Rattle.psm_cond.specs.Condition.{Entries, alone, «following» as in_front}
 use Rattle.psm_cond.specs.declared.entry.Entry.{Entry}
-use Rattle.psm_cond.specs.declared.handlers.HandlerKind.{HandlerKind}
-use Rattle.psm_cond.specs.declared.handlers.HandlerKind.TheVariants.{Continue, Exit, Undo}
 use Rattle.psm_table.specs.Cursors.{Closed}
 use Rattle.psm_table.specs.Table.{Contents}
 use Rattle.psm_resolved.specs.declared.expr.ResolvedExpr.{ResolvedExpr}

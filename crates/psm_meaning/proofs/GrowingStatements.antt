@@ -1,12 +1,12 @@
 -- The same of every statement, and so of a step: more fuel leaves a meaning as it is.
 use Rattle.std.proofs.Common.{arith, ◌≡◌, inl, inr, ℕ, zero, suc, ◌≤◌, ◌+◌, ◌-◌, sym, subst, Bool, true, false, List, [], ◌∷◌, Option, Some, None, refl, nat_eq}
 use Rattle.std.specs.Prelude.{◌&&◌, codes}
+use Rattle.psm_terms.specs.declared.routines.HandlerKind.{HandlerKind}
+use Rattle.psm_terms.specs.declared.routines.HandlerKind.TheVariants.{Continue, Exit, Undo}
 use Rattle.psm_value.specs.declared.datum.Datum.{Datum}
 use Rattle.psm_value.specs.declared.datum.Datum.TheVariants.{Null}
 use Rattle.psm_value.specs.declared.truth.Truth as truth
 use Rattle.psm_value.specs.Truth.{is_certain}
-use Rattle.psm_cond.specs.declared.handlers.HandlerKind.{HandlerKind}
-use Rattle.psm_cond.specs.declared.handlers.HandlerKind.TheVariants.{Continue, Exit, Undo}
 use Rattle.psm_table.specs.Cursors.{Closed}
 use Rattle.psm_table.specs.Table.{Contents}
 use Rattle.psm_resolved.specs.declared.expr.ResolvedExpr.{ResolvedExpr, out-ResolvedExpr}

@@ -1,13 +1,13 @@
 -- The lines that a command of a script prints.
 use Rattle.std.specs.Prelude.{ℕ, List, [], ◌∷◌, ◌++◌, codes, decimal, encode_utf8_all}
 use Rattle.std.specs.List.{flat_map}
+use Rattle.psm_terms.specs.declared.routines.ParameterMode.{ParameterMode}
+use Rattle.psm_terms.specs.declared.routines.ParameterMode.TheVariants.{In, Out, InOut}
 use Rattle.psm_value.specs.declared.datum.Datum.{Datum}
 use Rattle.psm_value.specs.Printed.{printed}
 use Rattle.psm_cond.specs.Condition.{Entries}
 use Rattle.psm_cond.specs.Item.{entries_of}
 use Rattle.psm_cond.specs.declared.entry.Entry.{Entry}
-use Rattle.psm_resolved.specs.declared.file.ParameterMode.{ParameterMode}
-use Rattle.psm_resolved.specs.declared.file.ParameterMode.TheVariants.{In, Out, InOut}
 use Rattle.psm_resolved.specs.declared.file.ResolvedParameter.{ResolvedParameter}
 
 -- a line ends with a line feed

@@ -1,12 +1,12 @@
 -- What happens where a condition is raised (ISO/IEC 9075-4:1996): the choice of a handler, and what the handler does.
 use Rattle.std.specs.Prelude.{ℕ, List, [], ◌∷◌, map, Option, Some, None, if◌then◌else◌}
+use Rattle.psm_terms.specs.declared.routines.HandlerKind.{HandlerKind}
+use Rattle.psm_terms.specs.declared.routines.HandlerKind.TheVariants.{Continue, Exit, Undo}
 use Rattle.psm_sqlstate.specs.Kind.{kind_of}
 use Rattle.psm_cond.specs.Area.{Diagnostics}
 use Rattle.psm_cond.specs.Choice.{chosen, highest, is_exception, rank}
 use Rattle.psm_cond.specs.Condition.{Entries}
 use Rattle.psm_cond.specs.declared.entry.Entry.{Entry}
-use Rattle.psm_cond.specs.declared.handlers.HandlerKind.{HandlerKind}
-use Rattle.psm_cond.specs.declared.handlers.HandlerKind.TheVariants.{Continue, Exit, Undo}
 use Rattle.psm_resolved.specs.declared.statement.ResolvedHandler.{ResolvedHandler, out-ResolvedHandler}
 use Rattle.psm_meaning.specs.State.{Scope, EvalContext, holding, put_back}
 use Rattle.psm_meaning.specs.Acts.{Given, Got, Raises, Ends, Outcome, Normal, Raised, Away, Stopped, Do, Act, Deed, ends_as, following, changing, at_turn}

@@ -2,6 +2,8 @@
 use Rattle.std.specs.Prelude.{ℕ, suc, Bool, false, List, [], ◌∷◌, length, codes, slice_get, Option, Some, None, if◌then◌else◌}
 use Rattle.std.specs.Ordering.{is_eq}
 use Rattle.std.specs.declared.cmp.Ordering.{Ordering}
+use Rattle.psm_terms.specs.declared.diagnostics.DiagnosticsArea.{DiagnosticsArea}
+use Rattle.psm_terms.specs.declared.diagnostics.DiagnosticsArea.TheVariants.{Current, Stacked}
 use Rattle.psm_value.specs.declared.datum.Datum.{Datum}
 use Rattle.psm_value.specs.declared.datum.Datum.TheVariants.{Null, Num, Text}
 use Rattle.psm_value.specs.Order.{compared}
@@ -10,8 +12,6 @@ use Rattle.psm_cond.specs.Condition.{Entries, alone, «following» as in_front}
 use Rattle.psm_cond.specs.Entry.{entry_of, name_text}
 use Rattle.psm_cond.specs.Item.{entries_of, entry_item, statement_item, whole}
 use Rattle.psm_cond.specs.declared.entry.Entry.{Entry}
-use Rattle.psm_cond.specs.declared.item.DiagnosticsArea.{DiagnosticsArea}
-use Rattle.psm_cond.specs.declared.item.DiagnosticsArea.TheVariants.{Current, Stacked}
 use Rattle.psm_resolved.specs.declared.expr.ResolvedExpr.{ResolvedExpr}
 use Rattle.psm_resolved.specs.declared.statement.ResolvedCondition.{ResolvedCondition}
 use Rattle.psm_resolved.specs.declared.statement.ResolvedCondition.TheVariants.{State, Own}

@@ -3,6 +3,7 @@ use Rattle.std.proofs.Common.{◌≡◌, ℕ, suc, List, [], ◌∷◌, ◌++◌
 use Rattle.std.specs.Prelude.{Result, Ok, Err}
 use Rattle.std.proofs.lemmas.List.{append_assoc, append-nil}
 use Rattle.psm_list.specs.Several.{Several, several_map}
+use Rattle.psm_terms.specs.declared.operators.Operator.{Operator}
 use Rattle.psm_value.specs.declared.sqltype.SqlType.{SqlType}
 use Rattle.psm_scope.specs.Lookup as lookup
 use Rattle.psm_scope.specs.Lookup.{Meaning, RowTable, index_named}
@@ -17,7 +18,6 @@ use Rattle.psm_token.specs.declared.place.Place.{Place}
 use Rattle.psm_tree.specs.declared.name.Identifier.{Identifier}
 use Rattle.psm_tree.specs.declared.types.Sign.{Sign}
 use Rattle.psm_tree.specs.declared.types.Sign.TheVariants.{Plus, Minus}
-use Rattle.psm_tree.specs.declared.expr.Operator.{Operator as WrittenOperator}
 use Rattle.psm_tree.specs.declared.expr.Expr.{Expr, roll-Expr}
 use Rattle.psm_tree.specs.declared.expr.Expr.TheOpen.{Expr-F, Pick-F, ChainLink-F, Select-F, When-F}
 use Rattle.psm_tree.specs.declared.expr.Expr.TheOpen as layers
@@ -55,7 +55,7 @@ pub record AsQuery (symbols : SymbolTable) (m : ShapedQuery) (x : QuerySeen) : T
   pub shapes : m.shapes ≡ x.shapes
   pub gives : Gives symbols (query_referents m.query) x.occurrences
 
-record AsLink (symbols : SymbolTable) (m : WrittenOperator × Resolved) (x : WrittenOperator × Seen) : Type 0 where
+record AsLink (symbols : SymbolTable) (m : Operator × Resolved) (x : Operator × Seen) : Type 0 where
   operator : m.0 ≡ x.0
   shape : m.1.shape ≡ x.1.shape
   gives : Gives symbols (chain_link_referents (chain_link_of m)) x.1.occurrences
@@ -127,24 +127,24 @@ kinds-same : (s : ResolverScope) (es : List E) → map (λ m. kind_of m.shape) (
 kinds-same s [] = refl
 kinds-same s (e ∷ es) = ap (λ x. kind_of x ∷ map (λ m. kind_of m.shape) (resolved_in s es)) (e.1 s).shape ∙ ap (λ l. kind_of (expr_seen e.0 (site_of s)).shape ∷ l) (kinds-same s es)
 
-abbrev resolved_links : ResolverScope → List L → List (WrittenOperator × Resolved)
+abbrev resolved_links : ResolverScope → List L → List (Operator × Resolved)
 resolved_links s ls = all_at s (map resolve_chain_link (map (λ e. e.0) ls))
 
-abbrev seen_links : ResolverScope → List L → List (WrittenOperator × Seen)
+abbrev seen_links : ResolverScope → List L → List (Operator × Seen)
 seen_links s ls = at_each (site_of s) (map chain_link_seen (map (λ e. e.0) ls))
 
 links-give : (s : ResolverScope) (ls : List L) → Gives s.symbols (together (map chain_link_referents (map chain_link_of (resolved_links s ls)))) (together (map (λ l. l.1.occurrences) (seen_links s ls)))
 links-give s [] = gives-none
 links-give s (l ∷ ls) = gives-both (l.1 s).gives (links-give s ls)
 
-operated-same : (o p : WrittenOperator) (a b c d : Shape) → o ≡ p → a ≡ b → c ≡ d → operated o a c ≡ operated p b d
+operated-same : (o p : Operator) (a b c d : Shape) → o ≡ p → a ≡ b → c ≡ d → operated o a c ≡ operated p b d
 operated-same o p a b c d e f g = ap (λ x. operated x a c) e ∙ ap (λ x. operated p x c) f ∙ ap (operated p b) g
 
 links-shape : (s : ResolverScope) (ls : List L) (a b : Shape) → a ≡ b → chained a (resolved_links s ls) ≡ places.chained b (seen_links s ls)
 links-shape s [] a b e = e
 links-shape s (l ∷ ls) a b e =
-    let m : WrittenOperator × Resolved = resolve_chain_link l.0 s in
-    let x : WrittenOperator × Seen = chain_link_seen l.0 (site_of s) in
+    let m : Operator × Resolved = resolve_chain_link l.0 s in
+    let x : Operator × Seen = chain_link_seen l.0 (site_of s) in
     links-shape s ls (operated m.0 a m.1.shape) (operated x.0 b x.1.shape) (operated-same m.0 x.0 a b m.1.shape x.1.shape (l.1 s).operator e (l.1 s).shape)
 
 abbrev resolved_whens : ResolverScope → List W → List (Resolved × Resolved)
@@ -199,10 +199,10 @@ abbrev bare : Expr-F E P L S W → Expr-F Expr Pick ChainLink Select When
 bare y = map-Expr E P L S W Expr Pick ChainLink Select When (λ e. e.0) (λ e. e.0) (λ e. e.0) (λ e. e.0) (λ e. e.0) y
 
 abbrev resolved_layer : Expr-F Expr Pick ChainLink Select When → ResolverScope → Resolved
-resolved_layer layer = expr_layer (map-Expr Expr Pick ChainLink Select When (Of Resolved) (Of ShapedPick) (Of (WrittenOperator × Resolved)) (Of ShapedQuery) (Of (Resolved × Resolved)) resolve_expr resolve_pick resolve_chain_link resolve_query resolve_when layer)
+resolved_layer layer = expr_layer (map-Expr Expr Pick ChainLink Select When (Of Resolved) (Of ShapedPick) (Of (Operator × Resolved)) (Of ShapedQuery) (Of (Resolved × Resolved)) resolve_expr resolve_pick resolve_chain_link resolve_query resolve_when layer)
 
 abbrev seen_layer : Expr-F Expr Pick ChainLink Select When → At Seen
-seen_layer layer = places.expr_layer (map-Expr Expr Pick ChainLink Select When (At Seen) (At PickSeen) (At (WrittenOperator × Seen)) (At QuerySeen) (At Seen) expr_seen pick_seen chain_link_seen query_seen when_seen layer)
+seen_layer layer = places.expr_layer (map-Expr Expr Pick ChainLink Select When (At Seen) (At PickSeen) (At (Operator × Seen)) (At QuerySeen) (At Seen) expr_seen pick_seen chain_link_seen query_seen when_seen layer)
 
 layer-claim : (y : Expr-F E P L S W) (s : ResolverScope) → As s.symbols (resolved_layer (bare y) s) (seen_layer (bare y) (site_of s))
 layer-claim (layers.Null place) s = record { shape = refl; gives = gives-lone referents-Null }
@@ -249,8 +249,8 @@ layer-claim (layers.Trim place side text) s = record { shape = refl; gives = giv
 
 expr-rolled : (x : Expr-F Expr Pick ChainLink Select When) → ((s : ResolverScope) → As s.symbols (resolved_layer x s) (seen_layer x (site_of s))) → OfExpr (roll-Expr x)
 expr-rolled x c s =
-    subst (λ f. As s.symbols (resolve_expr (roll-Expr x) s) (f (site_of s))) (sym (fold-roll-Expr (At Seen) (At PickSeen) (At (WrittenOperator × Seen)) (At QuerySeen) (At Seen) places.expr_layer places.pick_layer places.chain_link_layer places.select_layer places.when_layer x))
-    (subst (λ f. As s.symbols (f s) (seen_layer x (site_of s))) (sym (fold-roll-Expr (Of Resolved) (Of ShapedPick) (Of (WrittenOperator × Resolved)) (Of ShapedQuery) (Of (Resolved × Resolved)) expr_layer pick_layer chain_link_layer select_layer when_layer x)) (c s))
+    subst (λ f. As s.symbols (resolve_expr (roll-Expr x) s) (f (site_of s))) (sym (fold-roll-Expr (At Seen) (At PickSeen) (At (Operator × Seen)) (At QuerySeen) (At Seen) places.expr_layer places.pick_layer places.chain_link_layer places.select_layer places.when_layer x))
+    (subst (λ f. As s.symbols (f s) (seen_layer x (site_of s))) (sym (fold-roll-Expr (Of Resolved) (Of ShapedPick) (Of (Operator × Resolved)) (Of ShapedQuery) (Of (Resolved × Resolved)) expr_layer pick_layer chain_link_layer select_layer when_layer x)) (c s))
 
 expr-step : (x : Expr-F Expr Pick ChainLink Select When) (y : Expr-F E P L S W) → bare y ≡ x → OfExpr (roll-Expr x)
 expr-step x y is = subst (λ z. OfExpr (roll-Expr z)) is (expr-rolled (bare y) (layer-claim y))
@@ -261,10 +261,10 @@ abbrev bare_pick : Pick-F E P L S W → Pick-F Expr Pick ChainLink Select When
 bare_pick y = map-Pick E P L S W Expr Pick ChainLink Select When (λ e. e.0) (λ e. e.0) (λ e. e.0) (λ e. e.0) (λ e. e.0) y
 
 abbrev resolve_pick_layer : Pick-F Expr Pick ChainLink Select When → ResolverScope → ShapedPick
-resolve_pick_layer layer = pick_layer (map-Pick Expr Pick ChainLink Select When (Of Resolved) (Of ShapedPick) (Of (WrittenOperator × Resolved)) (Of ShapedQuery) (Of (Resolved × Resolved)) resolve_expr resolve_pick resolve_chain_link resolve_query resolve_when layer)
+resolve_pick_layer layer = pick_layer (map-Pick Expr Pick ChainLink Select When (Of Resolved) (Of ShapedPick) (Of (Operator × Resolved)) (Of ShapedQuery) (Of (Resolved × Resolved)) resolve_expr resolve_pick resolve_chain_link resolve_query resolve_when layer)
 
 abbrev seen_pick : Pick-F Expr Pick ChainLink Select When → At PickSeen
-seen_pick layer = places.pick_layer (map-Pick Expr Pick ChainLink Select When (At Seen) (At PickSeen) (At (WrittenOperator × Seen)) (At QuerySeen) (At Seen) expr_seen pick_seen chain_link_seen query_seen when_seen layer)
+seen_pick layer = places.pick_layer (map-Pick Expr Pick ChainLink Select When (At Seen) (At PickSeen) (At (Operator × Seen)) (At QuerySeen) (At Seen) expr_seen pick_seen chain_link_seen query_seen when_seen layer)
 
 each-column : (i : ℕ) (columns : Columns) → together (map expr_referents (map expr_in (columns_from i columns))) ≡ occurring.columns_from i columns
 each-column i [] = refl
@@ -291,8 +291,8 @@ pick-claim (layers.Aggregate place function argument alias) s = (ap (shape_of_se
 pick-step : (x : Pick-F Expr Pick ChainLink Select When) (y : Pick-F E P L S W) → bare_pick y ≡ x → OfPick (roll-Pick x)
 pick-step x y is s =
     subst (λ z. AsPicked s.symbols (resolve_pick (roll-Pick z) s) (pick_seen (roll-Pick z) (site_of s))) is
-    (subst (λ f. AsPicked s.symbols (resolve_pick (roll-Pick (bare_pick y)) s) (f (site_of s))) (sym (fold-roll-Pick (At Seen) (At PickSeen) (At (WrittenOperator × Seen)) (At QuerySeen) (At Seen) places.expr_layer places.pick_layer places.chain_link_layer places.select_layer places.when_layer (bare_pick y)))
-    (subst (λ f. AsPicked s.symbols (f s) (seen_pick (bare_pick y) (site_of s))) (sym (fold-roll-Pick (Of Resolved) (Of ShapedPick) (Of (WrittenOperator × Resolved)) (Of ShapedQuery) (Of (Resolved × Resolved)) expr_layer pick_layer chain_link_layer select_layer when_layer (bare_pick y)))
+    (subst (λ f. AsPicked s.symbols (resolve_pick (roll-Pick (bare_pick y)) s) (f (site_of s))) (sym (fold-roll-Pick (At Seen) (At PickSeen) (At (Operator × Seen)) (At QuerySeen) (At Seen) places.expr_layer places.pick_layer places.chain_link_layer places.select_layer places.when_layer (bare_pick y)))
+    (subst (λ f. AsPicked s.symbols (f s) (seen_pick (bare_pick y) (site_of s))) (sym (fold-roll-Pick (Of Resolved) (Of ShapedPick) (Of (Operator × Resolved)) (Of ShapedQuery) (Of (Resolved × Resolved)) expr_layer pick_layer chain_link_layer select_layer when_layer (bare_pick y)))
     (pick-claim y s)))
 
 -- ---- parts
@@ -303,8 +303,8 @@ bare_chain_link y = map-ChainLink E P L S W Expr Pick ChainLink Select When (λ 
 chain_link-step : (x : ChainLink-F Expr Pick ChainLink Select When) (y : ChainLink-F E P L S W) → bare_chain_link y ≡ x → OfChainLink (roll-ChainLink x)
 chain_link-step x y is s =
     subst (λ z. AsLink s.symbols (resolve_chain_link (roll-ChainLink z) s) (chain_link_seen (roll-ChainLink z) (site_of s))) is
-    (subst (λ f. AsLink s.symbols (resolve_chain_link (roll-ChainLink (bare_chain_link y)) s) (f (site_of s))) (sym (fold-roll-ChainLink (At Seen) (At PickSeen) (At (WrittenOperator × Seen)) (At QuerySeen) (At Seen) places.expr_layer places.pick_layer places.chain_link_layer places.select_layer places.when_layer (bare_chain_link y)))
-    (subst (λ f. AsLink s.symbols (f s) (y.operator, expr_seen y.operand.0 (site_of s))) (sym (fold-roll-ChainLink (Of Resolved) (Of ShapedPick) (Of (WrittenOperator × Resolved)) (Of ShapedQuery) (Of (Resolved × Resolved)) expr_layer pick_layer chain_link_layer select_layer when_layer (bare_chain_link y)))
+    (subst (λ f. AsLink s.symbols (resolve_chain_link (roll-ChainLink (bare_chain_link y)) s) (f (site_of s))) (sym (fold-roll-ChainLink (At Seen) (At PickSeen) (At (Operator × Seen)) (At QuerySeen) (At Seen) places.expr_layer places.pick_layer places.chain_link_layer places.select_layer places.when_layer (bare_chain_link y)))
+    (subst (λ f. AsLink s.symbols (f s) (y.operator, expr_seen y.operand.0 (site_of s))) (sym (fold-roll-ChainLink (Of Resolved) (Of ShapedPick) (Of (Operator × Resolved)) (Of ShapedQuery) (Of (Resolved × Resolved)) expr_layer pick_layer chain_link_layer select_layer when_layer (bare_chain_link y)))
     (record { operator = refl; shape = (y.operand.1 s).shape; gives = gives-as (referents-link _ _) (y.operand.1 s).gives })))
 
 abbrev bare_when : When-F E P L S W → When-F Expr Pick ChainLink Select When
@@ -316,8 +316,8 @@ seen_when y site = record { shape = (expr_seen y.result.0 site).shape; occurrenc
 when-step : (x : When-F Expr Pick ChainLink Select When) (y : When-F E P L S W) → bare_when y ≡ x → OfWhen (roll-When x)
 when-step x y is s =
     subst (λ z. AsWhen s.symbols (resolve_when (roll-When z) s) (when_seen (roll-When z) (site_of s))) is
-    (subst (λ f. AsWhen s.symbols (resolve_when (roll-When (bare_when y)) s) (f (site_of s))) (sym (fold-roll-When (At Seen) (At PickSeen) (At (WrittenOperator × Seen)) (At QuerySeen) (At Seen) places.expr_layer places.pick_layer places.chain_link_layer places.select_layer places.when_layer (bare_when y)))
-    (subst (λ f. AsWhen s.symbols (f s) (seen_when y (site_of s))) (sym (fold-roll-When (Of Resolved) (Of ShapedPick) (Of (WrittenOperator × Resolved)) (Of ShapedQuery) (Of (Resolved × Resolved)) expr_layer pick_layer chain_link_layer select_layer when_layer (bare_when y)))
+    (subst (λ f. AsWhen s.symbols (resolve_when (roll-When (bare_when y)) s) (f (site_of s))) (sym (fold-roll-When (At Seen) (At PickSeen) (At (Operator × Seen)) (At QuerySeen) (At Seen) places.expr_layer places.pick_layer places.chain_link_layer places.select_layer places.when_layer (bare_when y)))
+    (subst (λ f. AsWhen s.symbols (f s) (seen_when y (site_of s))) (sym (fold-roll-When (Of Resolved) (Of ShapedPick) (Of (Operator × Resolved)) (Of ShapedQuery) (Of (Resolved × Resolved)) expr_layer pick_layer chain_link_layer select_layer when_layer (bare_when y)))
     (record { shape = (y.result.1 s).shape; gives = gives-as (referents-when _ _) (gives-both (y.test.1 s).gives (y.result.1 s).gives) })))
 
 -- ---- queries
@@ -408,10 +408,10 @@ abbrev bare_select : Select-F E P L S W → Select-F Expr Pick ChainLink Select 
 bare_select y = map-Select E P L S W Expr Pick ChainLink Select When (λ e. e.0) (λ e. e.0) (λ e. e.0) (λ e. e.0) (λ e. e.0) y
 
 abbrev resolve_select_layer : Select-F Expr Pick ChainLink Select When → ResolverScope → ShapedQuery
-resolve_select_layer layer = select_layer (map-Select Expr Pick ChainLink Select When (Of Resolved) (Of ShapedPick) (Of (WrittenOperator × Resolved)) (Of ShapedQuery) (Of (Resolved × Resolved)) resolve_expr resolve_pick resolve_chain_link resolve_query resolve_when layer)
+resolve_select_layer layer = select_layer (map-Select Expr Pick ChainLink Select When (Of Resolved) (Of ShapedPick) (Of (Operator × Resolved)) (Of ShapedQuery) (Of (Resolved × Resolved)) resolve_expr resolve_pick resolve_chain_link resolve_query resolve_when layer)
 
 abbrev seen_select : Select-F Expr Pick ChainLink Select When → At QuerySeen
-seen_select layer = places.select_layer (map-Select Expr Pick ChainLink Select When (At Seen) (At PickSeen) (At (WrittenOperator × Seen)) (At QuerySeen) (At Seen) expr_seen pick_seen chain_link_seen query_seen when_seen layer)
+seen_select layer = places.select_layer (map-Select Expr Pick ChainLink Select When (At Seen) (At PickSeen) (At (Operator × Seen)) (At QuerySeen) (At Seen) expr_seen pick_seen chain_link_seen query_seen when_seen layer)
 
 -- on the rows of its table
 abbrev within : ResolverScope → Identifier → Option Identifier → ResolverScope
@@ -462,8 +462,8 @@ select-claim y s = fields-claim y.place y.picks y.table y.alias y.condition s
 select-step : (x : Select-F Expr Pick ChainLink Select When) (y : Select-F E P L S W) → bare_select y ≡ x → OfSelect (roll-Select x)
 select-step x y is s =
     subst (λ z. AsQuery s.symbols (resolve_query (roll-Select z) s) (query_seen (roll-Select z) (site_of s))) is
-    (subst (λ f. AsQuery s.symbols (resolve_query (roll-Select (bare_select y)) s) (f (site_of s))) (sym (fold-roll-Select (At Seen) (At PickSeen) (At (WrittenOperator × Seen)) (At QuerySeen) (At Seen) places.expr_layer places.pick_layer places.chain_link_layer places.select_layer places.when_layer (bare_select y)))
-    (subst (λ f. AsQuery s.symbols (f s) (seen_select (bare_select y) (site_of s))) (sym (fold-roll-Select (Of Resolved) (Of ShapedPick) (Of (WrittenOperator × Resolved)) (Of ShapedQuery) (Of (Resolved × Resolved)) expr_layer pick_layer chain_link_layer select_layer when_layer (bare_select y)))
+    (subst (λ f. AsQuery s.symbols (resolve_query (roll-Select (bare_select y)) s) (f (site_of s))) (sym (fold-roll-Select (At Seen) (At PickSeen) (At (Operator × Seen)) (At QuerySeen) (At Seen) places.expr_layer places.pick_layer places.chain_link_layer places.select_layer places.when_layer (bare_select y)))
+    (subst (λ f. AsQuery s.symbols (f s) (seen_select (bare_select y) (site_of s))) (sym (fold-roll-Select (Of Resolved) (Of ShapedPick) (Of (Operator × Resolved)) (Of ShapedQuery) (Of (Resolved × Resolved)) expr_layer pick_layer chain_link_layer select_layer when_layer (bare_select y)))
     (select-claim y s)))
 
 -- ---- the induction

@@ -1,5 +1,8 @@
 -- The referents of a resolved simple statement are those that look-up gives for its occurrences.
 use Rattle.std.proofs.Common.{◌≡◌, ℕ, suc, List, [], ◌∷◌, length, map, Option, Some, None, option_map, refl, ap, sym, ◌∙◌, subst}
+use Rattle.psm_terms.specs.declared.routines.ParameterMode.{ParameterMode}
+use Rattle.psm_terms.specs.declared.routines.ParameterMode.TheVariants.{In, Out, InOut}
+use Rattle.psm_terms.specs.declared.diagnostics.DiagnosticsArea.{DiagnosticsArea}
 use Rattle.psm_value.specs.declared.sqltype.SqlType.{SqlType}
 use Rattle.psm_scope.specs.Scopes.{Spelling}
 use Rattle.psm_scope.specs.Lookup as lookup
@@ -9,8 +12,6 @@ use Rattle.psm_scope.specs.declared.known.Variable.{Variable as Known}
 use Rattle.psm_scope.specs.declared.known.DeclaredCondition.{DeclaredCondition}
 use Rattle.psm_scope.specs.declared.procedures.ProcedureScope.{ProcedureScope}
 use Rattle.psm_scope.specs.declared.procedures.ParameterScope.{ParameterScope}
-use Rattle.psm_scope.specs.declared.procedures.ParameterMode.{ParameterMode}
-use Rattle.psm_scope.specs.declared.procedures.ParameterMode.TheVariants.{In, Out, InOut}
 use Rattle.psm_rules.specs.CheckerScope.{Columns, SymbolTable}
 use Rattle.psm_rules.specs.ExprFaults.{spelling}
 use Rattle.psm_rules.specs.StatementFaults.{several, good_state}
@@ -26,7 +27,6 @@ use Rattle.psm_tree.specs.declared.statement.Condition.TheVariants as signals
 use Rattle.psm_tree.specs.declared.statement.ConditionNumber.{ConditionNumber}
 use Rattle.psm_tree.specs.declared.statement.ConditionNumber.TheVariants as numbers
 use Rattle.psm_tree.specs.declared.statement.Diagnostics.{Diagnostics}
-use Rattle.psm_tree.specs.declared.statement.DiagnosticsArea.{DiagnosticsArea}
 use Rattle.psm_tree.specs.declared.statement.Diagnostics.TheVariants as diagnostics
 use Rattle.psm_tree.specs.declared.statement.InsertSource.{InsertSource}
 use Rattle.psm_tree.specs.declared.statement.InsertSource.TheVariants as sources
@@ -168,8 +168,8 @@ number-gives symbols scopes (numbers.Number place n) = gives-none
 number-gives symbols scopes (numbers.Target t) = gives-one (target-is symbols scopes t) gives-none
 
 diagnostics-give : (symbols : SymbolTable) (scopes : Scopes) (which : DiagnosticsArea) (d : Diagnostics) → Gives symbols (of_diagnostics (diagnostics_of scopes which d)) (in_diagnostics (known scopes) d)
-diagnostics-give symbols scopes which (diagnostics.Statement items) = gotten-give symbols scopes (λ i. i.target) (λ i. resolving.statement_item i.item) (several items)
-diagnostics-give symbols scopes which (diagnostics.Condition number items) = gives-both (number-gives symbols scopes number) (gotten-give symbols scopes (λ i. i.target) (λ i. resolving.condition_item i.item) (several items))
+diagnostics-give symbols scopes which (diagnostics.Statement items) = gotten-give symbols scopes (λ i. i.target) (λ i. i.item) (several items)
+diagnostics-give symbols scopes which (diagnostics.Condition number items) = gives-both (number-gives symbols scopes number) (gotten-give symbols scopes (λ i. i.target) (λ i. i.item) (several items))
 
 source-gives : (s : ResolverScope) (source : InsertSource) → Gives s.symbols (of_rows (rows_of s source)) (in_rows (site_of s) source)
 source-gives s (sources.Values values) = rows-give s (several values)

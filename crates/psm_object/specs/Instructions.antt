@@ -5,10 +5,10 @@
 -- An instruction is its mnemonic and what stands after it: the number of a variable, a context, a handler, a routine, a query, a
 -- plan, a cursor or a condition, or the name of an item. `NEXT` has a cursor and a line.
 use Rattle.std.specs.Prelude.{ℕ, List, [], ◌∷◌, codes, Option, Some, None}
-use Rattle.psm_cond.specs.declared.item.ConditionItem.{ConditionItem}
-use Rattle.psm_cond.specs.declared.item.ConditionItem.TheVariants as of_condition
-use Rattle.psm_cond.specs.declared.item.StatementItem.{StatementItem}
-use Rattle.psm_cond.specs.declared.item.StatementItem.TheVariants as of_statement
+use Rattle.psm_terms.specs.declared.diagnostics.ConditionItem.{ConditionItem}
+use Rattle.psm_terms.specs.declared.diagnostics.ConditionItem.TheVariants as of_condition
+use Rattle.psm_terms.specs.declared.diagnostics.StatementItem.{StatementItem}
+use Rattle.psm_terms.specs.declared.diagnostics.StatementItem.TheVariants as of_statement
 use Rattle.psm_code.specs.declared.instruction.Instruction.{Instruction}
 use Rattle.psm_code.specs.declared.instruction.Instruction.TheVariants as instruction
 use Rattle.psm_code.specs.declared.lines.CodeLine.{CodeLine}

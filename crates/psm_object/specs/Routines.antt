@@ -12,10 +12,10 @@
 --     context resume|- stack instruction  lines times, numbered from 0
 use Rattle.std.specs.Prelude.{ℕ, Bool, true, false, List, [], ◌∷◌, ◌++◌, codes, map, Option, Some, None}
 use Rattle.std.specs.List.{flat_map}
+use Rattle.psm_terms.specs.declared.routines.ParameterMode.{ParameterMode}
+use Rattle.psm_terms.specs.declared.routines.ParameterMode.TheVariants.{In, Out, InOut}
 use Rattle.psm_value.specs.declared.sqltype.SqlType.{SqlType}
 use Rattle.psm_code.specs.declared.code.Parameter.{Parameter}
-use Rattle.psm_code.specs.declared.code.ParameterMode.{ParameterMode}
-use Rattle.psm_code.specs.declared.code.ParameterMode.TheVariants.{In, Out, InOut}
 use Rattle.psm_code.specs.declared.code.RawRoutine.{RawRoutine}
 use Rattle.psm_words.specs.Words.{quoted, type_word}
 use Rattle.psm_object.specs.Handlers.{condition_line, context_line, handler_line}

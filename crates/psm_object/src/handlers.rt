@@ -4,7 +4,8 @@ ghost use Rattle.psm_object.specs.Handlers.{condition_line, context_line, handle
 ghost use Rattle.psm_object.specs.Words.{ended, further, text};
 
 use crate::words::{end_line, put_flag, put_index, put_indices, put_name, put_word};
-use psm_cond::{Block, ConditionValue, Context, ContextKind, Declared, Handler, HandlerKind};
+use psm_cond::{Block, ConditionValue, Context, ContextKind, Declared, Handler};
+use psm_terms::HandlerKind;
 use psm_words::put_number;
 use std::alloc::AllocError;
 

@@ -7,8 +7,8 @@ ghost use Rattle.psm_object.specs.Words.{ended, further, text};
 use crate::expressions::put_operation_details;
 use crate::words::{end_line, put_index, put_word};
 use psm_code::{Instruction, Lines};
-use psm_cond::{ConditionItem, DiagnosticsArea, StatementItem};
 use psm_exprcode::Letter;
+use psm_terms::{ConditionItem, DiagnosticsArea, StatementItem};
 use psm_words::{put_number, put_stack};
 use std::alloc::AllocError;
 

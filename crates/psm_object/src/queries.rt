@@ -8,7 +8,8 @@ ghost use Rattle.psm_object.specs.Words.{ended, text};
 use crate::expressions::{put_expression, put_test};
 use crate::words::{end_line, put_count, put_flag, put_index, put_name, put_word};
 use psm_code::CodeCursor;
-use psm_exprcode::{Aggregate, ExprCode, Items, Query, SetFunction};
+use psm_exprcode::{Aggregate, ExprCode, Items, Query};
+use psm_terms::SetFunction;
 use std::alloc::AllocError;
 
 /// Appends the lines of queries.

@@ -10,7 +10,8 @@ use crate::instructions::put_code_lines;
 use crate::plans::put_plans;
 use crate::queries::{put_cursors, put_queries};
 use crate::words::{end_line, put_count, put_kind, put_name, put_word};
-use psm_code::{Parameter, ParameterMode, RawRoutine};
+use psm_code::{Parameter, RawRoutine};
+use psm_terms::ParameterMode;
 use psm_value::SqlType;
 use std::alloc::AllocError;
 

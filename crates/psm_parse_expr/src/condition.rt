@@ -8,8 +8,9 @@ use crate::predicate::predicate;
 use psm_grammar::Halt;
 use psm_list::{Boxed, List, OneOrMore};
 use psm_parse_token::Tokens;
+use psm_terms::LogicalOperator;
 use psm_token::Word;
-use psm_tree::{Expr, LogicalOperator};
+use psm_tree::Expr;
 use std::alloc::{AllocError, Global};
 
 /// `[NOT] predicate`

@@ -17,8 +17,9 @@ use crate::value::sum;
 use psm_grammar::Halt;
 use psm_list::Boxed;
 use psm_parse_token::{Tokens, data_type};
+use psm_text::Side;
 use psm_token::{Sign, Word};
-use psm_tree::{Expr, TrimSide};
+use psm_tree::Expr;
 use std::alloc::Global;
 
 const TRIM_SIDES: [Word; 3] = [Word::Leading, Word::Trailing, Word::Both];
@@ -146,7 +147,7 @@ pub(crate) fn trimmed(
     alloc: Global,
     tokens: &mut Tokens,
     levels: u32,
-) -> Result<(TrimSide, Boxed<Expr>), Halt>
+) -> Result<(Side, Boxed<Expr>), Halt>
     ensures { Takes (reading levels trimmed_part tokens.old.rest.now) result tokens.new.rest.now }
 {
     if tokens.at_two(&TRIM_SIDES, Word::From) {
@@ -158,7 +159,7 @@ pub(crate) fn trimmed(
     }
     let text = expr(alloc, tokens, levels)?;
     tokens.sign(Sign::RightParen)?;
-    Ok((TrimSide::Both, text))
+    Ok((Side::Both, text))
 }
 
 /// `TRIM "(" trimmed` (ISO/IEC 9075:1992, 6.7).

@@ -7,8 +7,9 @@ ghost use Rattle.psm_tree.specs.Tests.{term_operator as term_operator_test, sum_
 
 use psm_grammar::Halt;
 use psm_parse_token::Tokens;
+use psm_terms::{Comparison, Operator, SetFunction, TextFunction};
+use psm_text::Side;
 use psm_token::{Place, Sign, Word};
-use psm_tree::{Comparison, Operator, SetFunction, TextFunction, TrimSide};
 
 /// `*` or `/`; `Syntax` where another token or none stands there.
 pub(crate) fn term_operator(tokens: &mut Tokens) -> Result<Operator, Halt>
@@ -121,17 +122,17 @@ pub(crate) fn set_function(tokens: &mut Tokens) -> Result<(Place, SetFunction), 
 }
 
 /// LEADING, TRAILING or BOTH; `Syntax` where another token or none stands there.
-pub(crate) fn trim_side(tokens: &mut Tokens) -> Result<TrimSide, Halt>
+pub(crate) fn trim_side(tokens: &mut Tokens) -> Result<Side, Halt>
     ensures { Takes (one kind trim_side_test tokens.old.rest.now) result tokens.new.rest.now }
 {
     if tokens.at(Word::Leading) {
         tokens.word(Word::Leading)?;
-        return Ok(TrimSide::Leading);
+        return Ok(Side::Leading);
     }
     if tokens.at(Word::Trailing) {
         tokens.word(Word::Trailing)?;
-        return Ok(TrimSide::Trailing);
+        return Ok(Side::Trailing);
     }
     tokens.word(Word::Both)?;
-    Ok(TrimSide::Both)
+    Ok(Side::Both)
 }

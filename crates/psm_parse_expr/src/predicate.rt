@@ -11,8 +11,9 @@ use crate::value::sum;
 use psm_grammar::Halt;
 use psm_list::{Boxed, List, OneOrMore};
 use psm_parse_token::Tokens;
+use psm_terms::Comparison;
 use psm_token::{Sign, Word};
-use psm_tree::{Comparison, Expr};
+use psm_tree::Expr;
 use std::alloc::{AllocError, Global};
 
 const COMPARISONS: [Sign; 6] = [

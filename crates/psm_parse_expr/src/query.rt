@@ -11,8 +11,9 @@ use crate::operator::set_function;
 use psm_grammar::Halt;
 use psm_list::{Boxed, List, OneOrMore};
 use psm_parse_token::Tokens;
+use psm_terms::SetFunction;
 use psm_token::{Place, Sign, Word};
-use psm_tree::{Expr, Identifier, Pick, Select, SetFunction};
+use psm_tree::{Expr, Identifier, Pick, Select};
 use std::alloc::{AllocError, Global};
 
 const SET_FUNCTIONS: [Word; 4] = [Word::Sum, Word::Avg, Word::Min, Word::Max];

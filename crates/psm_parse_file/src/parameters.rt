@@ -9,26 +9,27 @@ use crate::optional::in_front;
 use psm_grammar::Halt;
 use psm_list::List;
 use psm_parse_token::{Tokens, data_type};
+use psm_terms::ParameterMode;
 use psm_token::{Place, Sign, Word};
-use psm_tree::{DataType, Identifier, Mode, Parameter};
+use psm_tree::{DataType, Identifier, Parameter};
 use std::alloc::Global;
 
 const MODE_WORDS: [Word; 3] = [Word::In, Word::Out, Word::InOut];
 
 /// `IN | OUT | INOUT`, with its place.
-fn mode(tokens: &mut Tokens) -> Result<(Place, Mode), Halt>
+fn mode(tokens: &mut Tokens) -> Result<(Place, ParameterMode), Halt>
     ensures { TakesAs (λ x. record { place = x.0; value = x.1 }) (one kind mode_test tokens.old.rest.now) result tokens.new.rest.now }
 {
     if tokens.at(Word::Out) {
         let place = tokens.word(Word::Out)?;
-        return Ok((place, Mode::Out));
+        return Ok((place, ParameterMode::Out));
     }
     if tokens.at(Word::InOut) {
         let place = tokens.word(Word::InOut)?;
-        return Ok((place, Mode::InOut));
+        return Ok((place, ParameterMode::InOut));
     }
     let place = tokens.word(Word::In)?;
-    Ok((place, Mode::In))
+    Ok((place, ParameterMode::In))
 }
 
 /// `name type`
@@ -63,7 +64,7 @@ fn param(alloc: Global, tokens: &mut Tokens, levels: u32) -> Result<Parameter, H
     let (name, kind) = named_type(alloc, tokens, levels)?;
     Ok(Parameter {
         place: name.place,
-        mode: Mode::In,
+        mode: ParameterMode::In,
         name,
         kind,
     })

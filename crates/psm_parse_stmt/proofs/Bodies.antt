@@ -1,5 +1,6 @@
 -- The rest of a block, one declaration at a time.
 use Rattle.std.proofs.Common.{◌≡◌, ℕ, Bool, cond, true, false, List, [], ◌∷◌, Ok, Err, refl, sym, ap, ◌∙◌}
+use Rattle.psm_terms.specs.declared.routines.HandlerKind.{HandlerKind}
 use Rattle.psm_token.specs.declared.place.Place.{Place}
 use Rattle.psm_token.specs.declared.word.Word.TheVariants as w
 use Rattle.psm_token.specs.declared.sign.Sign.TheVariants as s
@@ -17,7 +18,6 @@ use Rattle.psm_tree.specs.StatementValues.{named_rest, declared, cursor_of, cond
 use Rattle.psm_tree.specs.StatementGrammar.{insensitive, other_variables, typed, default_source, for_state, cursor_query, cursor_rest, declaration_rest, declared_handler, declared_cursor, declared_variables, declare_rest, body_rest, ending}
 use Rattle.psm_tree.specs.Readers.{part, reading, opening}
 use Rattle.psm_tree.specs.declared.name.Identifier.{Identifier}
-use Rattle.psm_tree.specs.declared.statement.HandlerKind.{HandlerKind}
 use Rattle.psm_tree.proofs.Reading.{reading_next, reading_level, reading_part}
 use Rattle.psm_parse_stmt.specs.declared.item.Item.{Item}
 use Rattle.psm_parse_stmt.specs.Declaring.{named_item, handled_item, handler_item, named, any_rest, condition_rest, variables_rest, declared_item, declaration_item, phase_of, stage_after, with_item}

@@ -1,5 +1,6 @@
 -- The declarations of a block, read one after another.
 use Rattle.std.specs.Prelude.{Result, Ok, Err, ◌≡◌, ℕ, ◌≤◌, List, [], ◌∷◌, ◌++◌, length}
+use Rattle.psm_terms.specs.declared.routines.HandlerKind.{HandlerKind}
 use Rattle.psm_token.specs.declared.place.Place.{Place}
 use Rattle.psm_token.specs.declared.word.Word.TheVariants as w
 use Rattle.psm_token.specs.declared.sign.Sign.TheVariants as s
@@ -22,7 +23,6 @@ use Rattle.psm_tree.specs.declared.statement.Declaration.{Declaration}
 use Rattle.psm_tree.specs.declared.statement.Declaration.TheVariants as declarations
 use Rattle.psm_tree.specs.declared.statement.CursorDeclaration.{CursorDeclaration}
 use Rattle.psm_tree.specs.declared.statement.Handler.{Handler, roll-Handler}
-use Rattle.psm_tree.specs.declared.statement.HandlerKind.{HandlerKind}
 use Rattle.psm_tree.specs.declared.statement.Statement.{Statement}
 use Rattle.psm_parse_stmt.specs.declared.item.Item.{Item}
 use Rattle.psm_parse_stmt.specs.declared.item.Item.TheVariants as item

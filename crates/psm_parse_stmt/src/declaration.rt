@@ -11,8 +11,9 @@ use crate::parts::state;
 use psm_grammar::Halt;
 use psm_list::{List, OneOrMore};
 use psm_parse_token::{Tokens, next_names};
+use psm_terms::HandlerKind;
 use psm_token::{Place, Sign, Word};
-use psm_tree::{ForCursor, HandlerKind, HandlerValue, Identifier, State, Updatability};
+use psm_tree::{ForCursor, HandlerValue, Identifier, State, Updatability};
 use std::alloc::Global;
 
 /// `[INSENSITIVE]`

@@ -8,11 +8,9 @@ ghost use Rattle.psm_tree.specs.Tests.{statement_item as statement_item_test, co
 use psm_grammar::Halt;
 use psm_list::{Boxed, List, OneOrMore};
 use psm_parse_token::{Tokens, target};
+use psm_terms::{ConditionItem, DiagnosticsArea, StatementItem};
 use psm_token::{Place, Sign, Word};
-use psm_tree::{
-    ConditionInformation, ConditionItem, ConditionNumber, Diagnostics, DiagnosticsArea, Simple,
-    StatementInformation, StatementItem,
-};
+use psm_tree::{ConditionInformation, ConditionNumber, Diagnostics, Simple, StatementInformation};
 use std::alloc::Global;
 
 /// The words before the number of a condition, which mean the same.
@@ -37,7 +35,7 @@ fn condition_item(tokens: &mut Tokens) -> Result<(Place, ConditionItem), Halt>
 {
     if tokens.at(Word::ReturnedSqlState) {
         let place = tokens.word(Word::ReturnedSqlState)?;
-        return Ok((place, ConditionItem::ReturnedSqlState));
+        return Ok((place, ConditionItem::ReturnedSqlstate));
     }
     if tokens.at(Word::ConditionIdentifier) {
         let place = tokens.word(Word::ConditionIdentifier)?;

@@ -1,11 +1,11 @@
 -- Loops, declarations and blocks forget their places where their tokens do, part by part.
 use Rattle.std.proofs.Common.{◌≡◌, ◌∷◌, Option, Some, None, map, option_map, refl, sym, ap}
+use Rattle.psm_terms.specs.declared.routines.HandlerKind.{HandlerKind}
 use Rattle.psm_token.specs.declared.place.Place.{Place}
 use Rattle.psm_tree.specs.Tests.{At, handler_kind_of}
 use Rattle.psm_tree.specs.Parts.{Phase, Declarations, Cursors, Handlers, HandlerParts, Variables, Condition, Cursor, Declared, Named, Handled, Body}
 use Rattle.psm_tree.specs.StatementValues.{with_declared}
 use Rattle.psm_tree.specs.StatementGrammar
-use Rattle.psm_tree.specs.declared.statement.HandlerKind.{HandlerKind}
 use Rattle.psm_print.specs.WithoutPositions.{origin}
 use Rattle.psm_print.specs.ExprWithoutPositions.{type_without_positions, expr_without_positions, name_without_positions}
 use Rattle.psm_print.specs.StatementWithoutPositions.{ordered_query_without_positions, for_cursor_without_positions, handler_value_without_positions, handler_without_positions}

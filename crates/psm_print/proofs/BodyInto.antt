@@ -2,6 +2,7 @@
 use Rattle.std.proofs.Common.{◌≡◌, Bool, List, [], ◌∷◌, ◌++◌, map, option_map, refl, sym, ap, subst, ◌∙◌}
 use Rattle.std.proofs.lemmas.List.{append_assoc}
 use native.Mathlib.Omega.{arith}
+use Rattle.psm_terms.specs.declared.routines.HandlerKind.{HandlerKind}
 use Rattle.psm_token.specs.declared.place.Place.{Place}
 use Rattle.psm_token.specs.declared.word.Word.TheVariants as w
 use Rattle.psm_token.specs.declared.sign.Sign.TheVariants as s
@@ -11,7 +12,6 @@ use Rattle.psm_tree.specs.StatementValues.{with_declared, with_named}
 use Rattle.psm_tree.specs.StatementGrammar
 use Rattle.psm_tree.specs.StatementGrammar.{typed, other_variables, declaration_rest, cursor_query, cursor_rest, body_rest, declared_handler, declared_cursor, declared_variables, declare_rest, begin_rest}
 use Rattle.psm_tree.specs.declared.name.Identifier.{Identifier}
-use Rattle.psm_tree.specs.declared.statement.HandlerKind.{HandlerKind}
 use Rattle.psm_print.specs.Spelling.{Spelling, word, sign, perhaps, each, ended}
 use Rattle.psm_print.specs.ExprTokens.{name_tokens, type_tokens, expr_tokens}
 use Rattle.psm_print.specs.StatementTokens.{state_tokens, ordered_query_tokens, declaration_tokens, insensitive_tokens, updatability_tokens, cursor_tokens, handler_kind_tokens, handled_tokens, statement_tokens, handler_tokens}

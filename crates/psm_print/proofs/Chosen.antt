@@ -1,5 +1,21 @@
 -- Names, literals, operators and words that choose go over into printed tokens.
 use Rattle.std.proofs.Common.{◌≡◌, Bool, true, false, [], ◌∷◌, refl, ap}
+use Rattle.psm_terms.specs.declared.operators.Comparison.{Comparison}
+use Rattle.psm_terms.specs.declared.operators.Comparison.TheVariants as comparisons
+use Rattle.psm_terms.specs.declared.operators.Operator.{Operator}
+use Rattle.psm_terms.specs.declared.operators.Operator.TheVariants as operators
+use Rattle.psm_terms.specs.declared.functions.TextFunction.{TextFunction}
+use Rattle.psm_terms.specs.declared.functions.TextFunction.TheVariants as functions
+use Rattle.psm_terms.specs.declared.functions.SetFunction.{SetFunction}
+use Rattle.psm_terms.specs.declared.functions.SetFunction.TheVariants as sets
+use Rattle.psm_terms.specs.declared.routines.HandlerKind.{HandlerKind}
+use Rattle.psm_terms.specs.declared.routines.HandlerKind.TheVariants as handlers
+use Rattle.psm_terms.specs.declared.diagnostics.StatementItem.{StatementItem}
+use Rattle.psm_terms.specs.declared.diagnostics.StatementItem.TheVariants as items
+use Rattle.psm_terms.specs.declared.diagnostics.ConditionItem.{ConditionItem}
+use Rattle.psm_terms.specs.declared.diagnostics.ConditionItem.TheVariants as conditions
+use Rattle.psm_terms.specs.declared.routines.ParameterMode.{ParameterMode}
+use Rattle.psm_terms.specs.declared.routines.ParameterMode.TheVariants as modes
 use Rattle.psm_token.specs.declared.place.Place.{Place}
 use Rattle.psm_token.specs.declared.word.Word.{Word}
 use Rattle.psm_token.specs.declared.word.Word.TheVariants as w
@@ -15,24 +31,8 @@ use Rattle.psm_token.specs.Kinds.{token_kind, number_kind, text_kind}
 use Rattle.psm_tree.specs.Tests.{word, name, name_kinds, spelled, number, number_of, text, characters_of, plus_minus, sign_of, comparison, comparison_of, sum_operator, sum_operator_of, term_operator, term_operator_of, text_function, text_function_of, set_function, set_function_of, trim_side, trim_side_of, integer_word, numeric_word, char_word, handler_kind, handler_kind_of, statement_item, statement_item_of, condition_item, condition_item_of, exception_word, mode, mode_of}
 use Rattle.psm_tree.specs.declared.types.Sign.{Sign as PlusMinus}
 use Rattle.psm_tree.specs.declared.types.Sign.TheVariants as signs
-use Rattle.psm_tree.specs.declared.expr.Comparison.{Comparison}
-use Rattle.psm_tree.specs.declared.expr.Comparison.TheVariants as comparisons
-use Rattle.psm_tree.specs.declared.expr.Operator.{Operator}
-use Rattle.psm_tree.specs.declared.expr.Operator.TheVariants as operators
-use Rattle.psm_tree.specs.declared.expr.TextFunction.{TextFunction}
-use Rattle.psm_tree.specs.declared.expr.TextFunction.TheVariants as functions
-use Rattle.psm_tree.specs.declared.expr.SetFunction.{SetFunction}
-use Rattle.psm_tree.specs.declared.expr.SetFunction.TheVariants as sets
-use Rattle.psm_tree.specs.declared.expr.TrimSide.{TrimSide}
-use Rattle.psm_tree.specs.declared.expr.TrimSide.TheVariants as sides
-use Rattle.psm_tree.specs.declared.statement.HandlerKind.{HandlerKind}
-use Rattle.psm_tree.specs.declared.statement.HandlerKind.TheVariants as handlers
-use Rattle.psm_tree.specs.declared.statement.StatementItem.{StatementItem}
-use Rattle.psm_tree.specs.declared.statement.StatementItem.TheVariants as items
-use Rattle.psm_tree.specs.declared.statement.ConditionItem.{ConditionItem}
-use Rattle.psm_tree.specs.declared.statement.ConditionItem.TheVariants as conditions
-use Rattle.psm_tree.specs.declared.file.Mode.{Mode}
-use Rattle.psm_tree.specs.declared.file.Mode.TheVariants as modes
+use Rattle.psm_text.specs.declared.parts.Side.{Side}
+use Rattle.psm_text.specs.declared.parts.Side.TheVariants as sides
 use Rattle.psm_print.specs.ExprTokens.{name_tokens, number_tokens, plus_minus_tokens, comparison_tokens, operator_tokens, text_function_tokens, set_function_tokens}
 use Rattle.psm_print.specs.StatementTokens.{handler_kind_tokens, statement_item_tokens, condition_item_tokens}
 use Rattle.psm_print.specs.FileTokens.{mode_tokens}
@@ -234,16 +234,16 @@ into_set_function {z} = into_equal _ (λ a. set_function_equal a.value) (into_to
   kept = λ y e g. z.kept.of_word _;
 }))
 
-abbrev pub side_word : TrimSide → Word
+abbrev pub side_word : Side → Word
 side_word sides.Leading = w.Leading
 side_word sides.Trailing = w.Trailing
 side_word sides.Both = w.Both
 
-side_known : (a : TrimSide) → has (word_kind (side_word a)) trim_side.kinds ≡ true
+side_known : (a : Side) → has (word_kind (side_word a)) trim_side.kinds ≡ true
 side_known sides.Leading = refl
 side_known _ = refl
 
-side_again : (a : TrimSide) → trim_side_of (t.Word (side_word a)) ≡ a
+side_again : (a : Side) → trim_side_of (t.Word (side_word a)) ≡ a
 side_again sides.Leading = refl
 side_again _ = refl
 
@@ -310,7 +310,7 @@ into_statement_item {z} = into_equal _ (λ a. item_equal a.value) (into_token {t
 
 abbrev condition_word : ConditionItem → Word
 condition_word conditions.ConditionNumber = w.ConditionNumber
-condition_word conditions.ReturnedSqlState = w.ReturnedSqlState
+condition_word conditions.ReturnedSqlstate = w.ReturnedSqlState
 condition_word conditions.ConditionIdentifier = w.ConditionIdentifier
 condition_word conditions.MessageText = w.MessageText
 condition_word conditions.MessageLength = w.MessageLength
@@ -333,20 +333,20 @@ pub into_condition_item : {z : PrintContext} → Into z (token condition_item) (
 into_condition_item {z} = into_equal _ (λ a. condition_equal a.value) (into_token {tok = λ a. t.Word (condition_word a.value)} (says_all (λ a. a.place) (λ a. condition_known a.value)
     (λ a. ap (λ v. record { place = a.place; value = v }) (condition_again a.value)) (λ y e g. z.kept.of_word _)))
 
-abbrev mode_word : Mode → Word
+abbrev mode_word : ParameterMode → Word
 mode_word modes.In = w.In
 mode_word modes.Out = w.Out
 mode_word modes.InOut = w.InOut
 
-mode_known : (a : Mode) → has (word_kind (mode_word a)) mode.kinds ≡ true
+mode_known : (a : ParameterMode) → has (word_kind (mode_word a)) mode.kinds ≡ true
 mode_known modes.In = refl
 mode_known _ = refl
 
-mode_again : (a : Mode) → mode_of (t.Word (mode_word a)) ≡ a
+mode_again : (a : ParameterMode) → mode_of (t.Word (mode_word a)) ≡ a
 mode_again modes.In = refl
 mode_again _ = refl
 
-mode_equal : (a : Mode) → t.Word (mode_word a) ∷ [] ≡ mode_tokens a
+mode_equal : (a : ParameterMode) → t.Word (mode_word a) ∷ [] ≡ mode_tokens a
 mode_equal modes.In = refl
 mode_equal _ = refl
 

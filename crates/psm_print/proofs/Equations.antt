@@ -1,6 +1,10 @@
 -- The tokens of each kind of expression, block and statement, by its layer.
 use Rattle.std.proofs.Common.{◌≡◌, ℕ, Bool, List, [], ◌∷◌, ◌++◌, Option, Some, None, map, option_map, refl, ◌∙◌}
 use denote.Hole.Carrier
+use Rattle.psm_terms.specs.declared.operators.LogicalOperator.{LogicalOperator}
+use Rattle.psm_terms.specs.declared.operators.Comparison.{Comparison}
+use Rattle.psm_terms.specs.declared.functions.TextFunction.{TextFunction}
+use Rattle.psm_terms.specs.declared.functions.SetFunction.{SetFunction}
 use Rattle.psm_num.specs.Num.{Num}
 use Rattle.psm_list.specs.Several.{Several, several_map}
 use Rattle.psm_token.specs.declared.place.Place.{Place}
@@ -16,11 +20,7 @@ use Rattle.psm_tree.specs.declared.expr.Expr.TheVariants as exprs
 use Rattle.psm_tree.specs.declared.expr.Expr.TheOpen.{Expr-F, Pick-F, ChainLink-F, Select-F, When-F}
 use Rattle.psm_tree.specs.declared.expr.Expr.TheOpen as layers
 use Rattle.psm_tree.specs.declared.expr.Expr.TheFolds.{map-Expr, map-Pick, map-ChainLink, map-Select, map-When, fold-roll-Expr, fold-roll-Pick, fold-roll-ChainLink, fold-roll-Select, fold-roll-When, fold_out-ChainLink, fold_out-Select, fold_out-When}
-use Rattle.psm_tree.specs.declared.expr.LogicalOperator.{LogicalOperator}
-use Rattle.psm_tree.specs.declared.expr.Comparison.{Comparison}
-use Rattle.psm_tree.specs.declared.expr.TextFunction.{TextFunction}
-use Rattle.psm_tree.specs.declared.expr.SetFunction.{SetFunction}
-use Rattle.psm_tree.specs.declared.expr.TrimSide.{TrimSide}
+use Rattle.psm_text.specs.declared.parts.Side.{Side}
 use Rattle.psm_tree.specs.declared.expr.ChainLink.{ChainLink, out-ChainLink, roll-ChainLink}
 use Rattle.psm_tree.specs.declared.expr.When.{When, out-When, roll-When}
 use Rattle.psm_tree.specs.declared.expr.Select.{Select, out-Select, roll-Select}
@@ -174,7 +174,7 @@ unfolding roll-Expr Carrier.roll
 tokens-Substring place text from None = expr_rolled (layers.Substring place text from None)
 tokens-Substring place text from (Some length) = expr_rolled (layers.Substring place text from (Some length))
 
-pub tokens-Trim : (place : Place) (side : TrimSide) (text : Expr) → expr_tokens (exprs.Trim place side text) ≡ word w.Trim ++ in_parens (side_tokens side ++ expr_tokens text)
+pub tokens-Trim : (place : Place) (side : Side) (text : Expr) → expr_tokens (exprs.Trim place side text) ≡ word w.Trim ++ in_parens (side_tokens side ++ expr_tokens text)
 unfolding roll-Expr Carrier.roll
 tokens-Trim place side text = expr_rolled (layers.Trim place side text)
 

@@ -2,6 +2,7 @@
 use Rattle.std.proofs.Common.{◌≡◌, inl, inr, false, List, [], ◌∷◌, ◌++◌, Option, Some, None, map, option_map, refl, sym, ap, subst, ◌∙◌}
 use Rattle.std.proofs.lemmas.List.{append-nil}
 use Rattle.psm_list.specs.Several.{several_map}
+use Rattle.psm_terms.specs.declared.operators.LogicalOperator.TheVariants as logical_operators
 use Rattle.psm_token.specs.declared.place.Place.{Place}
 use Rattle.psm_token.specs.declared.word.Word.TheVariants as w
 use Rattle.psm_token.specs.declared.sign.Sign.TheVariants as s
@@ -13,7 +14,6 @@ use Rattle.psm_tree.specs.ExprGrammar
 use Rattle.psm_tree.specs.ExprGrammar.{name_rest, named_primary, worded_primary, primary, factor, next_factors, term, next_terms, sum, between, sums_in_parens, in_list, like, is_null, negatable, negated_test, predicate_rest, predicate, negation, conjunction, expr, source, next_sources, sources}
 use Rattle.psm_tree.specs.declared.name.Identifier.{Identifier}
 use Rattle.psm_tree.specs.declared.expr.Expr.{Expr}
-use Rattle.psm_tree.specs.declared.expr.LogicalOperator.TheVariants as logical_operators
 use Rattle.psm_tree.specs.declared.expr.ChainLink.{ChainLink}
 use Rattle.psm_print.specs.Spelling.{Spelling, word, sign, perhaps, each, separated, listed, in_parens}
 use Rattle.psm_print.specs.ExprTokens.{name_tokens, comparison_tokens, not_tokens, expr_tokens, chain_link_tokens}

@@ -3,6 +3,8 @@ use Rattle.std.proofs.Common.{◌≡◌, inr, ℕ, ◌≤◌, Bool, true, false,
 use Rattle.std.proofs.lemmas.List.{length-append}
 use Rattle.std.proofs.lemmas.Bool.{eqb-true, eq-eqb}
 use native.Mathlib.Omega.{arith}
+use Rattle.psm_terms.specs.declared.routines.ParameterMode.{ParameterMode}
+use Rattle.psm_terms.specs.declared.routines.ParameterMode.TheVariants as modes
 use Rattle.psm_token.specs.declared.place.Place.{Place}
 use Rattle.psm_token.specs.declared.token.Placed.{Placed}
 use Rattle.psm_grammar.specs.Language.{Words}
@@ -14,8 +16,6 @@ use Rattle.psm_tree.specs.FileGrammar
 use Rattle.psm_tree.specs.FileGrammar.{named_type, param}
 use Rattle.psm_tree.specs.declared.name.Identifier.{Identifier}
 use Rattle.psm_tree.specs.declared.types.DataType.{DataType}
-use Rattle.psm_tree.specs.declared.file.Mode.{Mode}
-use Rattle.psm_tree.specs.declared.file.Mode.TheVariants as modes
 use Rattle.psm_tree.specs.declared.file.Parameter.{Parameter}
 use Rattle.psm_print.specs.Spelling.{Spelling}
 use Rattle.psm_print.specs.ExprTokens.{name_tokens, type_tokens}
@@ -44,7 +44,7 @@ unfolding FileGrammar.all_files
 moded_into = or_left (into_seq (λ x. mode_tokens x.mode ++ (name_tokens x.name ++ type_tokens x.kind)) into_mode named_type_into (λ x y. refl))
 
 module _ (z : PrintContext) (place : Place) (p : Identifier × DataType) (n : ℕ) (alone : Printed z.good (said z named_type) p (named_tokens p) n) where
-  mode_at : (m : Mode) (same : Bool) → same_place place p.0.place ≡ same → Printed z.good (said z param) (moded (record { place = place; value = m }) p) (mode_tokens m ++ named_tokens p) n
+  mode_at : (m : ParameterMode) (same : Bool) → same_place place p.0.place ≡ same → Printed z.good (said z param) (moded (record { place = place; value = m }) p) (mode_tokens m ++ named_tokens p) n
       → Printed z.good (said z param) (moded (record { place = place; value = m }) p) (said_tokens m same ++ named_tokens p) n
   unfolding FileGrammar.all_files
   mode_at modes.In true e q = reread (λ u l. inr (record { one = p; left = l; made = ap (λ v. record { place = v; mode = modes.In; name = p.0; kind = p.1 }) (same_true place p.0.place e) })) alone
@@ -52,7 +52,7 @@ module _ (z : PrintContext) (place : Place) (p : Identifier × DataType) (n : �
   mode_at modes.Out same e q = q
   mode_at modes.InOut same e q = q
 
-said_equal : (m : Mode) (same : Bool) (p : Identifier × DataType) → said_tokens m same ++ named_tokens p ≡ said_tokens m same ++ name_tokens p.0 ++ type_tokens p.1
+said_equal : (m : ParameterMode) (same : Bool) (p : Identifier × DataType) → said_tokens m same ++ named_tokens p ≡ said_tokens m same ++ name_tokens p.0 ++ type_tokens p.1
 said_equal m same p = before2 (said_tokens m same) (name_tokens p.0) (type_tokens p.1)
 
 same_refl : (p : Place) → same_place p p ≡ true

@@ -1,5 +1,6 @@
 -- The rest of a block declares what its phase lets it declare, and nothing else.
 use Rattle.std.proofs.Common.{inl, inr, ℕ, zero, suc, List, refl, sym, subst}
+use Rattle.psm_terms.specs.declared.routines.HandlerKind.{HandlerKind}
 use Rattle.psm_token.specs.declared.place.Place.{Place}
 use Rattle.psm_token.specs.declared.token.Placed.{Placed}
 use Rattle.psm_grammar.specs.Language.{Words, Lang}
@@ -13,7 +14,6 @@ use Rattle.psm_tree.specs.StatementGrammar
 use Rattle.psm_tree.specs.StatementGrammar.{declaration_rest, body_rest, declared_handler, declared_cursor, declared_variables, declare_rest}
 use Rattle.psm_tree.specs.declared.name.Identifier.{Identifier}
 use Rattle.psm_tree.specs.declared.statement.Statement.{Statement}
-use Rattle.psm_tree.specs.declared.statement.HandlerKind.{HandlerKind}
 use Rattle.psm_print.proofs.PartTokens.{Late, MayPrecede, OnlyCursor, Ordered, Shaped}
 
 late_undeclared : (phase : Phase) (xs : List Statement) → Late phase (undeclared xs)

@@ -21,8 +21,8 @@ use Rattle.psm_tree.specs.declared.expr.When.{When, out-When, out-roll-When}
 use Rattle.psm_tree.specs.declared.expr.ChainLink.{ChainLink}
 use Rattle.psm_tree.specs.declared.expr.Select.{Select}
 use Rattle.psm_tree.specs.declared.expr.Pick.{Pick}
-use Rattle.psm_tree.specs.declared.expr.TrimSide.{TrimSide}
-use Rattle.psm_tree.specs.declared.expr.TrimSide.TheVariants as sides
+use Rattle.psm_text.specs.declared.parts.Side.{Side}
+use Rattle.psm_text.specs.declared.parts.Side.TheVariants as sides
 use Rattle.psm_print.specs.Spelling.{Spelling, word, sign, perhaps, separated, listed, in_parens}
 use Rattle.psm_print.specs.ExprTokens.{name_tokens, type_tokens, set_function_tokens, side_tokens, alias_tokens, expr_tokens, pick_tokens, when_tokens, select_tokens}
 use Rattle.psm_print.proofs.Printed.{AllGood, Printed}
@@ -157,25 +157,25 @@ substring_into = into_parens (into_seq (λ p. expr_tokens p.0 ++ word w.From ++ 
 
 -- ---- TRIM, whose BOTH FROM is left out
 
-abbrev trimmed_tokens : TrimSide × Expr → Spelling
+abbrev trimmed_tokens : Side × Expr → Spelling
 trimmed_tokens p = side_tokens p.0 ++ expr_tokens p.1
 
-abbrev said_side_tokens : TrimSide × Expr → Spelling
+abbrev said_side_tokens : Side × Expr → Spelling
 said_side_tokens p = t.Word (side_word p.0) ∷ t.Word w.From ∷ expr_tokens p.1
 
-abbrev one_side : Gram (TrimSide × Expr)
+abbrev one_side : Gram (Side × Expr)
 one_side = or sided (image both_sides expr)
 
 sided_into : {z : PrintContext} → Into z sided sided said_side_tokens
 unfolding ExprGrammar.all_expressions
 sided_into = into_seq said_side_tokens into_side (after_word w.From expr_into) (λ x y. refl)
 
-trim_at : (z : PrintContext) (u : Words Placed) (side : TrimSide) (e : Expr) → said z sided u (side, e) → AllGood z.good u → Printed z.good (said z one_side) (side, e) (trimmed_tokens (side, e)) (length u)
+trim_at : (z : PrintContext) (u : Words Placed) (side : Side) (e : Expr) → said z sided u (side, e) → AllGood z.good u → Printed z.good (said z one_side) (side, e) (trimmed_tokens (side, e)) (length u)
 unfolding ExprGrammar.all_expressions
 trim_at z u sides.Leading e l a = reread (λ v m. inl m) ((sided_into {z = z}).into u (sides.Leading, e) l a)
 trim_at z u sides.Trailing e l a = reread (λ v m. inl m) ((sided_into {z = z}).into u (sides.Trailing, e) l a)
 trim_at z u sides.Both e l a =
-    let one : l.two ≡ e = sym (ap (λ (p : TrimSide × Expr). p.1) l.made) in
+    let one : l.two ≡ e = sym (ap (λ (p : Side × Expr). p.1) l.made) in
     let i : Into z _ expr expr_tokens = left_out expr_into in
     let p = i.into l.back l.two l.right (good_back z.good l.front l.back (subst (AllGood z.good) l.whole a)) in
     let n : length l.back ≤ length u = omega (arith, length-append l.front l.back, ap length l.whole) in

@@ -1,6 +1,16 @@
 -- The tokens that are printed for names, types, constants, expressions and queries: of each tree the shortest
 -- of its spellings, with every name delimited.
 use Rattle.std.specs.Prelude.{Bool, true, false, [], ◌∷◌, ◌++◌, Option, option_map}
+use Rattle.psm_terms.specs.declared.operators.LogicalOperator.{LogicalOperator}
+use Rattle.psm_terms.specs.declared.operators.LogicalOperator.TheVariants as logical_operators
+use Rattle.psm_terms.specs.declared.operators.Comparison.{Comparison}
+use Rattle.psm_terms.specs.declared.operators.Comparison.TheVariants as comparisons
+use Rattle.psm_terms.specs.declared.operators.Operator.{Operator}
+use Rattle.psm_terms.specs.declared.operators.Operator.TheVariants as operators
+use Rattle.psm_terms.specs.declared.functions.TextFunction.{TextFunction}
+use Rattle.psm_terms.specs.declared.functions.TextFunction.TheVariants as functions
+use Rattle.psm_terms.specs.declared.functions.SetFunction.{SetFunction}
+use Rattle.psm_terms.specs.declared.functions.SetFunction.TheVariants as sets
 use Rattle.psm_num.specs.Num.{Num}
 use Rattle.psm_list.specs.Several.{several_map}
 use Rattle.psm_token.specs.declared.word.Word.TheVariants as w
@@ -22,18 +32,8 @@ use Rattle.psm_tree.specs.declared.expr.Expr.{Expr}
 use Rattle.psm_tree.specs.declared.expr.Expr.TheOpen.{Expr-F, Pick-F, ChainLink-F, Select-F, When-F}
 use Rattle.psm_tree.specs.declared.expr.Expr.TheOpen as layers
 use Rattle.psm_tree.specs.declared.expr.Expr.TheFolds.{fold-Expr, fold-Pick, fold-ChainLink, fold-Select, fold-When}
-use Rattle.psm_tree.specs.declared.expr.LogicalOperator.{LogicalOperator}
-use Rattle.psm_tree.specs.declared.expr.LogicalOperator.TheVariants as logical_operators
-use Rattle.psm_tree.specs.declared.expr.Comparison.{Comparison}
-use Rattle.psm_tree.specs.declared.expr.Comparison.TheVariants as comparisons
-use Rattle.psm_tree.specs.declared.expr.Operator.{Operator}
-use Rattle.psm_tree.specs.declared.expr.Operator.TheVariants as operators
-use Rattle.psm_tree.specs.declared.expr.TextFunction.{TextFunction}
-use Rattle.psm_tree.specs.declared.expr.TextFunction.TheVariants as functions
-use Rattle.psm_tree.specs.declared.expr.SetFunction.{SetFunction}
-use Rattle.psm_tree.specs.declared.expr.SetFunction.TheVariants as sets
-use Rattle.psm_tree.specs.declared.expr.TrimSide.{TrimSide}
-use Rattle.psm_tree.specs.declared.expr.TrimSide.TheVariants as sides
+use Rattle.psm_text.specs.declared.parts.Side.{Side}
+use Rattle.psm_text.specs.declared.parts.Side.TheVariants as sides
 use Rattle.psm_tree.specs.declared.expr.ChainLink.{ChainLink}
 use Rattle.psm_tree.specs.declared.expr.When.{When}
 use Rattle.psm_tree.specs.declared.expr.Select.{Select}
@@ -122,7 +122,7 @@ set_function_tokens sets.Min = word w.Min
 set_function_tokens sets.Max = word w.Max
 
 -- the side of TRIM; both sides need no word
-abbrev pub side_tokens : TrimSide → Spelling
+abbrev pub side_tokens : Side → Spelling
 side_tokens sides.Leading = word w.Leading ++ word w.From
 side_tokens sides.Trailing = word w.Trailing ++ word w.From
 side_tokens sides.Both = []

@@ -1,6 +1,8 @@
 -- The tokens that are printed for module files: of each tree the shortest of its spellings.
 use Rattle.std.specs.Prelude.{Bool, true, List, [], ◌++◌, Option, Some, None, map, option_map, nat_eq, ◌&&◌}
 use Rattle.psm_list.specs.Several.{several_map}
+use Rattle.psm_terms.specs.declared.routines.ParameterMode.{ParameterMode}
+use Rattle.psm_terms.specs.declared.routines.ParameterMode.TheVariants as modes
 use Rattle.psm_token.specs.declared.place.Place.{Place}
 use Rattle.psm_token.specs.declared.word.Word.TheVariants as w
 use Rattle.psm_token.specs.declared.sign.Sign.TheVariants as s
@@ -17,8 +19,6 @@ use Rattle.psm_tree.specs.declared.file.TableRule.{TableRule}
 use Rattle.psm_tree.specs.declared.file.TableRuleForm.{TableRuleForm}
 use Rattle.psm_tree.specs.declared.file.TableRuleForm.TheVariants as table_rules
 use Rattle.psm_tree.specs.declared.file.Module.{Module}
-use Rattle.psm_tree.specs.declared.file.Mode.{Mode}
-use Rattle.psm_tree.specs.declared.file.Mode.TheVariants as modes
 use Rattle.psm_tree.specs.declared.file.Parameter.{Parameter}
 use Rattle.psm_tree.specs.declared.file.CharacteristicForm.{CharacteristicForm}
 use Rattle.psm_tree.specs.declared.file.CharacteristicForm.TheVariants as characteristics
@@ -69,13 +69,13 @@ table_tree_tokens table = word w.Create ++ word w.Table ++ name_tokens table.nam
 abbrev pub same_place : Place → Place → Bool
 same_place p q = nat_eq p.line q.line && nat_eq p.column q.column
 
-abbrev pub mode_tokens : Mode → Spelling
+abbrev pub mode_tokens : ParameterMode → Spelling
 mode_tokens modes.In = word w.In
 mode_tokens modes.Out = word w.Out
 mode_tokens modes.InOut = word w.InOut
 
 -- the mode, which is left out where no token of the source said it: IN, at the place of the name
-abbrev pub said_tokens : Mode → Bool → Spelling
+abbrev pub said_tokens : ParameterMode → Bool → Spelling
 said_tokens modes.In true = []
 said_tokens mode same = mode_tokens mode
 

@@ -1,6 +1,14 @@
 -- The tokens that are printed for statements, blocks and declarations: of each tree the shortest of its spellings.
 use Rattle.std.specs.Prelude.{Bool, true, false, List, [], ◌∷◌, ◌++◌, Option, Some, None, map, option_map}
 use Rattle.psm_list.specs.Several.{Several, several_map}
+use Rattle.psm_terms.specs.declared.routines.HandlerKind.{HandlerKind}
+use Rattle.psm_terms.specs.declared.routines.HandlerKind.TheVariants as handlers
+use Rattle.psm_terms.specs.declared.diagnostics.StatementItem.{StatementItem}
+use Rattle.psm_terms.specs.declared.diagnostics.StatementItem.TheVariants as items
+use Rattle.psm_terms.specs.declared.diagnostics.ConditionItem.{ConditionItem}
+use Rattle.psm_terms.specs.declared.diagnostics.ConditionItem.TheVariants as conditions
+use Rattle.psm_terms.specs.declared.diagnostics.DiagnosticsArea.{DiagnosticsArea}
+use Rattle.psm_terms.specs.declared.diagnostics.DiagnosticsArea.TheVariants as areas
 use Rattle.psm_token.specs.declared.word.Word.TheVariants as w
 use Rattle.psm_token.specs.declared.sign.Sign.TheVariants as s
 use Rattle.psm_token.specs.declared.token.Token.TheVariants as t
@@ -30,23 +38,15 @@ use Rattle.psm_tree.specs.declared.statement.Declaration.TheVariants as declarat
 use Rattle.psm_tree.specs.declared.statement.CursorDeclaration.{CursorDeclaration}
 use Rattle.psm_tree.specs.declared.statement.Updatability.{Updatability}
 use Rattle.psm_tree.specs.declared.statement.Updatability.TheVariants as updatabilities
-use Rattle.psm_tree.specs.declared.statement.HandlerKind.{HandlerKind}
-use Rattle.psm_tree.specs.declared.statement.HandlerKind.TheVariants as handlers
 use Rattle.psm_tree.specs.declared.statement.HandlerValue.{HandlerValue}
 use Rattle.psm_tree.specs.declared.statement.HandlerValue.TheVariants as handled
 use Rattle.psm_tree.specs.declared.statement.Condition.{Condition}
 use Rattle.psm_tree.specs.declared.statement.Condition.TheVariants as signals
 use Rattle.psm_tree.specs.declared.statement.Signalled.{Signalled}
-use Rattle.psm_tree.specs.declared.statement.StatementItem.{StatementItem}
-use Rattle.psm_tree.specs.declared.statement.StatementItem.TheVariants as items
-use Rattle.psm_tree.specs.declared.statement.ConditionItem.{ConditionItem}
-use Rattle.psm_tree.specs.declared.statement.ConditionItem.TheVariants as conditions
 use Rattle.psm_tree.specs.declared.statement.StatementInformation.{StatementInformation}
 use Rattle.psm_tree.specs.declared.statement.ConditionInformation.{ConditionInformation}
 use Rattle.psm_tree.specs.declared.statement.ConditionNumber.{ConditionNumber}
 use Rattle.psm_tree.specs.declared.statement.ConditionNumber.TheVariants as numbers
-use Rattle.psm_tree.specs.declared.statement.DiagnosticsArea.{DiagnosticsArea}
-use Rattle.psm_tree.specs.declared.statement.DiagnosticsArea.TheVariants as areas
 use Rattle.psm_tree.specs.declared.statement.Diagnostics.{Diagnostics}
 use Rattle.psm_tree.specs.declared.statement.Diagnostics.TheVariants as diagnostics
 use Rattle.psm_tree.specs.declared.statement.Values.{Values}
@@ -115,7 +115,7 @@ statement_item_tokens items.RowCount = word w.RowCount
 
 abbrev pub condition_item_tokens : ConditionItem → Spelling
 condition_item_tokens conditions.ConditionNumber = word w.ConditionNumber
-condition_item_tokens conditions.ReturnedSqlState = word w.ReturnedSqlState
+condition_item_tokens conditions.ReturnedSqlstate = word w.ReturnedSqlState
 condition_item_tokens conditions.ConditionIdentifier = word w.ConditionIdentifier
 condition_item_tokens conditions.MessageText = word w.MessageText
 condition_item_tokens conditions.MessageLength = word w.MessageLength

@@ -8,10 +8,9 @@ use crate::names::{data_type, name, names};
 use crate::parts::{ordered_query, state};
 use psm_list::{Boxed, List, OneOrMore};
 use psm_spell::Writer;
+use psm_terms::HandlerKind;
 use psm_token::{Sign, Word};
-use psm_tree::{
-    CursorDeclaration, Declaration, ForCursor, HandlerKind, HandlerValue, Label, Updatability,
-};
+use psm_tree::{CursorDeclaration, Declaration, ForCursor, HandlerValue, Label, Updatability};
 use std::alloc::AllocError;
 
 /// A declaration of variables or of a condition.

@@ -8,11 +8,9 @@ ghost use Rattle.psm_print.specs.StatementTokens.{statement_item_tokens, conditi
 use crate::names::target;
 use psm_list::OneOrMore;
 use psm_spell::Writer;
+use psm_terms::{ConditionItem, DiagnosticsArea, StatementItem};
 use psm_token::{Sign, Word};
-use psm_tree::{
-    ConditionInformation, ConditionItem, ConditionNumber, Diagnostics, DiagnosticsArea,
-    StatementInformation, StatementItem,
-};
+use psm_tree::{ConditionInformation, ConditionNumber, Diagnostics, StatementInformation};
 use std::alloc::AllocError;
 
 /// An item of a statement.
@@ -32,7 +30,7 @@ fn condition_item(out: &mut Writer, item: ConditionItem) -> Result<(), AllocErro
 {
     match item {
         ConditionItem::ConditionNumber => out.word(Word::ConditionNumber),
-        ConditionItem::ReturnedSqlState => out.word(Word::ReturnedSqlState),
+        ConditionItem::ReturnedSqlstate => out.word(Word::ReturnedSqlState),
         ConditionItem::ConditionIdentifier => out.word(Word::ConditionIdentifier),
         ConditionItem::MessageText => out.word(Word::MessageText),
         ConditionItem::MessageLength => out.word(Word::MessageLength),

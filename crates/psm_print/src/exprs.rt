@@ -12,8 +12,9 @@ use crate::operators::{
 };
 use psm_list::{Boxed, List, OneOrMore};
 use psm_spell::Writer;
+use psm_terms::LogicalOperator;
 use psm_token::{Sign, Word};
-use psm_tree::{ChainLink, Expr, Identifier, LogicalOperator, Pick, Select, When};
+use psm_tree::{ChainLink, Expr, Identifier, Pick, Select, When};
 use std::alloc::AllocError;
 
 /// An expression.

@@ -12,10 +12,11 @@ use crate::names::{constant, data_type, enclosed_names, name};
 use crate::statements::statement;
 use psm_list::{List, OneOrMore};
 use psm_spell::Writer;
+use psm_terms::ParameterMode;
 use psm_token::{Sign, Word};
 use psm_tree::{
     Characteristic, CharacteristicForm, ColumnRule, ColumnRuleForm, DataType, Element, Expr,
-    FileTree, Mode, Module, Parameter, References, Routine, TableRule, TableRuleForm, TableTree,
+    FileTree, Module, Parameter, References, Routine, TableRule, TableRuleForm, TableTree,
 };
 use std::alloc::AllocError;
 
@@ -157,7 +158,7 @@ fn mode(out: &mut Writer, parameter: &Parameter) -> Result<(), AllocError>
     ensures { IfOk result (λ _. out.new ≡ out.old ++ said_mode_tokens parameter.now) }
 {
     match parameter.mode {
-        Mode::In => {
+        ParameterMode::In => {
             let place = parameter.place;
             let own = parameter.name.place;
             if place.line == own.line && place.column == own.column {
@@ -166,8 +167,8 @@ fn mode(out: &mut Writer, parameter: &Parameter) -> Result<(), AllocError>
                 out.word(Word::In)
             }
         }
-        Mode::Out => out.word(Word::Out),
-        Mode::InOut => out.word(Word::InOut),
+        ParameterMode::Out => out.word(Word::Out),
+        ParameterMode::InOut => out.word(Word::InOut),
     }
 }
 

@@ -5,8 +5,10 @@ ghost use Rattle.psm_print.specs.Spelling.{word, sign};
 ghost use Rattle.psm_print.specs.ExprTokens.{plus_minus_tokens, logical_operator_tokens, comparison_tokens, operator_tokens, text_function_tokens, set_function_tokens, side_tokens, not_tokens};
 
 use psm_spell::Writer;
+use psm_terms::{Comparison, LogicalOperator, Operator, SetFunction, TextFunction};
+use psm_text::Side;
 use psm_token::{Sign as SignToken, Word};
-use psm_tree::{Comparison, LogicalOperator, Operator, SetFunction, Sign, TextFunction, TrimSide};
+use psm_tree::Sign;
 use std::alloc::AllocError;
 
 pub(crate) fn plus_minus(out: &mut Writer, sign: Sign) -> Result<(), AllocError>
@@ -78,13 +80,13 @@ pub(crate) fn set_function(out: &mut Writer, function: SetFunction) -> Result<()
 }
 
 /// The side of TRIM and its FROM; both sides need no word.
-pub(crate) fn side(out: &mut Writer, side: TrimSide) -> Result<(), AllocError>
+pub(crate) fn side(out: &mut Writer, side: Side) -> Result<(), AllocError>
     ensures { IfOk result (λ _. out.new ≡ out.old ++ side_tokens side) }
 {
     match side {
-        TrimSide::Leading => out.word(Word::Leading)?,
-        TrimSide::Trailing => out.word(Word::Trailing)?,
-        TrimSide::Both => return Ok(()),
+        Side::Leading => out.word(Word::Leading)?,
+        Side::Trailing => out.word(Word::Trailing)?,
+        Side::Both => return Ok(()),
     }
     out.word(Word::From)
 }

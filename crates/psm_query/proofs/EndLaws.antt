@@ -10,14 +10,14 @@ use Rattle.std.proofs.lemmas.List.Elements.{All-filter, All-head, All-tail}
 use Rattle.std.proofs.lemmas.List.Kept.{AllPairs-filter}
 use Rattle.std.proofs.lemmas.List.{get_or-reverse, length-reverse}
 use Rattle.std.proofs.lemmas.Option.{slice_get-get_or, unwrap_or-slice_get}
+use Rattle.psm_terms.specs.declared.functions.SetFunction.{SetFunction}
+use Rattle.psm_terms.specs.declared.functions.SetFunction.TheVariants as function
 use Rattle.psm_sqlstate.specs.declared.state.SqlState.{SqlState}
 use Rattle.psm_value.specs.Order.{data_order}
 use Rattle.psm_value.specs.declared.datum.Datum.{Datum}
 use Rattle.psm_value.specs.declared.datum.Datum.TheVariants.{Null, Num, Text}
 use Rattle.psm_value.proofs.DataOrder.{data_order-chained, data_order-same, data_order-total, data_order-turned}
 use Rattle.psm_exprcode.specs.declared.aggregate.Aggregate.{Aggregate}
-use Rattle.psm_exprcode.specs.declared.aggregate.SetFunction.{SetFunction}
-use Rattle.psm_exprcode.specs.declared.aggregate.SetFunction.TheVariants as function
 use Rattle.psm_exprcode.specs.declared.items.Items.{Items}
 use Rattle.psm_exprcode.specs.declared.items.Items.TheVariants.{Sets}
 use Rattle.psm_exprcode.specs.declared.op.Line.{Line}

@@ -12,8 +12,9 @@ ghost use Rattle.psm_query.specs.Ends.{first_like, in_column, rows_beginning, be
 
 use crate::firsts::{firsts_of, is_column};
 use crate::tally::Tally;
-use psm_exprcode::{Aggregate, ExprCode, Items, Query, SetFunction};
+use psm_exprcode::{Aggregate, ExprCode, Items, Query};
 use psm_table::{Cut, Key, Row, RowsLeft, Table};
+use psm_terms::SetFunction;
 use psm_value::Datum;
 use std::alloc::{AllocError, Global};
 

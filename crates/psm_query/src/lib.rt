@@ -12,4 +12,4 @@ mod total;
 pub use answer::Answer;
 pub use answering::rows;
 pub use psm_cond::DataFault;
-pub use psm_exprcode::{Aggregate, Items, Query, SetFunction};
+pub use psm_exprcode::{Aggregate, Items, Query};

@@ -8,7 +8,7 @@ ghost use Rattle.psm_tablecode.specs.Codes.{set_function};
 ghost use Rattle.psm_query.specs.Tallies.{better, count_of, empty as empty_tally, finish as finish_of, or_null, precedes, with_value};
 
 use crate::total::Summing;
-use psm_exprcode::SetFunction;
+use psm_terms::SetFunction;
 use psm_value::{Datum, Dec, ValueFault};
 use std::alloc::{AllocError, Global};
 

@@ -29,7 +29,7 @@ use Rattle.psm_resolve_expr.specs.ResolverScope.{ResolverScope}
 use Rattle.psm_declare.specs.Numbering.{Numbering, then_as}
 use Rattle.psm_declare.specs.Seen.{expr_at}
 use Rattle.psm_resolve.specs.Statements.{simple_of}
-use Rattle.psm_resolve.specs.Blocks.{BlockPart, Part, all, block_layer, resolve_block, branch_layer, resolve_branch, chosen_of, compound_of, for_of, handler_layer, resolve_handler, in_loop, inside, kind_of, level_at, statement_layer, resolve_statement, value_of}
+use Rattle.psm_resolve.specs.Blocks.{BlockPart, Part, all, block_layer, resolve_block, branch_layer, resolve_branch, chosen_of, compound_of, for_of, handler_layer, resolve_handler, in_loop, inside, level_at, statement_layer, resolve_statement, value_of}
 
 statement_rolled : (layer : Statement-F Block Statement Branch Handler) → resolve_statement (roll-Statement layer) ≡ statement_layer (map-Statement Block Statement Branch Handler BlockPart (Part ResolvedStatement) (Part ResolvedBranch) (Part ResolvedHandler) resolve_block resolve_statement resolve_branch resolve_handler layer)
 statement_rolled layer = fold-roll-Statement BlockPart (Part ResolvedStatement) (Part ResolvedBranch) (Part ResolvedHandler) block_layer statement_layer branch_layer handler_layer layer
@@ -86,5 +86,5 @@ pub ruleset block_equations = (resolved-Compound, resolved-Loop, resolved-While,
 pub resolved_branch : (branch : Branch) (resolver_scope : ResolverScope) (n : Numbering) → resolve_branch branch resolver_scope n ≡ then_as (λ ss. roll-ResolvedBranch (record { test = expr_at resolver_scope (out-Branch branch).test; statements = ss })) (all resolver_scope (several (several_map resolve_statement (out-Branch branch).statements))) n
 resolved_branch branch resolver_scope n = ap (λ f. f resolver_scope n) (fold_out-Branch BlockPart (Part ResolvedStatement) (Part ResolvedBranch) (Part ResolvedHandler) block_layer statement_layer branch_layer handler_layer branch)
 
-pub resolved_handler : (handler : Handler) (resolver_scope : ResolverScope) (n : Numbering) → resolve_handler handler resolver_scope n ≡ then_as (λ action. roll-ResolvedHandler (record { kind = kind_of (out-Handler handler).kind; values = map (value_of resolver_scope.scopes) (several (out-Handler handler).values); action = action })) (resolve_statement (out-Handler handler).action (inside resolver_scope scope.Action)) n
+pub resolved_handler : (handler : Handler) (resolver_scope : ResolverScope) (n : Numbering) → resolve_handler handler resolver_scope n ≡ then_as (λ action. roll-ResolvedHandler (record { kind = (out-Handler handler).kind; values = map (value_of resolver_scope.scopes) (several (out-Handler handler).values); action = action })) (resolve_statement (out-Handler handler).action (inside resolver_scope scope.Action)) n
 resolved_handler handler resolver_scope n = ap (λ f. f resolver_scope n) (fold_out-Handler BlockPart (Part ResolvedStatement) (Part ResolvedBranch) (Part ResolvedHandler) block_layer statement_layer branch_layer handler_layer handler)

@@ -3,8 +3,6 @@ use Rattle.std.specs.Prelude.{ℕ, suc, Bool, false, not, Option, Some, None, Li
 use Rattle.psm_list.specs.Several.{Several}
 use Rattle.psm_cond.specs.declared.handlers.ConditionValue.{ConditionValue}
 use Rattle.psm_cond.specs.declared.handlers.ConditionValue.TheVariants as values
-use Rattle.psm_cond.specs.declared.handlers.HandlerKind.{HandlerKind}
-use Rattle.psm_cond.specs.declared.handlers.HandlerKind.TheVariants as kinds
 use Rattle.psm_value.specs.declared.sqltype.SqlType.{SqlType}
 use Rattle.psm_value.specs.declared.sqltype.SqlType.TheVariants as types
 use Rattle.psm_scope.specs.Scopes.{Spelling, Scope, undeclared}
@@ -38,8 +36,6 @@ use Rattle.psm_tree.specs.declared.statement.Declaration.TheVariants as declarat
 use Rattle.psm_tree.specs.declared.statement.ForCursor.{ForCursor}
 use Rattle.psm_tree.specs.declared.statement.ForHead.{ForHead}
 use Rattle.psm_tree.specs.declared.statement.Handler.{Handler}
-use Rattle.psm_tree.specs.declared.statement.HandlerKind.{HandlerKind as WrittenKind}
-use Rattle.psm_tree.specs.declared.statement.HandlerKind.TheVariants as written_kinds
 use Rattle.psm_tree.specs.declared.statement.HandlerValue.{HandlerValue}
 use Rattle.psm_tree.specs.declared.statement.HandlerValue.TheVariants as handled
 use Rattle.psm_tree.specs.declared.statement.Statement.{Statement}
@@ -67,11 +63,6 @@ abbrev pub in_scopes : ResolverScope → Scopes → ResolverScope
 in_scopes resolver_scope scopes = record resolver_scope { scopes = scopes }
 
 -- ---- handlers
-
-abbrev pub kind_of : WrittenKind → HandlerKind
-kind_of written_kinds.Continue = kinds.Continue
-kind_of written_kinds.Exit = kinds.Exit
-kind_of written_kinds.Undo = kinds.Undo
 
 abbrev pub value_for : ResolvedCondition → ConditionValue
 value_for (conditions.State s) = values.State s
@@ -245,7 +236,7 @@ branch_layer branch resolver_scope = then_as (λ ss. roll-ResolvedBranch (record
 
 -- an action sees no label from outside
 abbrev pub handler_layer : Handler-F BlockPart (Part ResolvedStatement) (Part ResolvedBranch) (Part ResolvedHandler) → Part ResolvedHandler
-handler_layer h resolver_scope = then_as (λ action. roll-ResolvedHandler (record { kind = kind_of h.kind; values = map (value_of resolver_scope.scopes) (several h.values); action = action }))
+handler_layer h resolver_scope = then_as (λ action. roll-ResolvedHandler (record { kind = h.kind; values = map (value_of resolver_scope.scopes) (several h.values); action = action }))
     (h.action (inside resolver_scope scope.Action))
 
 -- the resolved statement that stands for a statement, and the same of a block, a branch and a handler

@@ -21,8 +21,6 @@ use Rattle.psm_tree.specs.declared.file.ColumnRuleForm.TheVariants as column_rul
 use Rattle.psm_tree.specs.declared.file.Element.{Element}
 use Rattle.psm_tree.specs.declared.file.Element.TheVariants as elements
 use Rattle.psm_tree.specs.declared.file.FileTree.{FileTree}
-use Rattle.psm_tree.specs.declared.file.Mode.{Mode}
-use Rattle.psm_tree.specs.declared.file.Mode.TheVariants as modes
 use Rattle.psm_tree.specs.declared.file.Parameter.{Parameter}
 use Rattle.psm_tree.specs.declared.file.References.{References}
 use Rattle.psm_tree.specs.declared.file.Routine.{Routine}
@@ -33,8 +31,6 @@ use Rattle.psm_tree.specs.declared.types.Constant.{Constant}
 use Rattle.psm_table.specs.declared.definition.Column.{Column}
 use Rattle.psm_table.specs.declared.definition.ForeignKey.{ForeignKey}
 use Rattle.psm_resolved.specs.declared.expr.ResolvedExpr.{ResolvedExpr}
-use Rattle.psm_resolved.specs.declared.file.ParameterMode.{ParameterMode}
-use Rattle.psm_resolved.specs.declared.file.ParameterMode.TheVariants as passed
 use Rattle.psm_resolved.specs.declared.file.ResolvedFile.{ResolvedFile}
 use Rattle.psm_resolved.specs.declared.file.ResolvedParameter.{ResolvedParameter}
 use Rattle.psm_resolved.specs.declared.file.ResolvedRoutine.{ResolvedRoutine}
@@ -239,13 +235,8 @@ in_file symbols = record { symbols = symbols; scopes = []; row = None }
 
 -- ---- routines
 
-abbrev pub mode_of : Mode → ParameterMode
-mode_of modes.In = passed.In
-mode_of modes.Out = passed.Out
-mode_of modes.InOut = passed.InOut
-
 abbrev pub resolve_parameter : Parameter → ResolvedParameter
-resolve_parameter p = record { mode = mode_of p.mode; name = p.name.name; kind = type_known (type_of p.kind) }
+resolve_parameter p = record { mode = p.mode; name = p.name.name; kind = type_known (type_of p.kind) }
 
 -- a parameter has the next slot; one that is IN can't be assigned
 abbrev pub numbered_parameter : Numbered → Parameter → Numbered

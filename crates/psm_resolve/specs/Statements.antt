@@ -1,12 +1,9 @@
 -- The resolved statement that stands for one without statements in it (ISO/IEC 9075-4:1996, and 9075:1992, clause 13). What
 -- nothing declares is no part of an accepted file: the number 0 stands for it.
 use Rattle.std.specs.Prelude.{ℕ, Option, Some, None, List, [], ◌∷◌, map, length, codes, option_map}
-use Rattle.psm_cond.specs.declared.item.StatementItem.{StatementItem}
-use Rattle.psm_cond.specs.declared.item.StatementItem.TheVariants as statement_items
-use Rattle.psm_cond.specs.declared.item.ConditionItem.{ConditionItem}
-use Rattle.psm_cond.specs.declared.item.ConditionItem.TheVariants as condition_items
-use Rattle.psm_cond.specs.declared.item.DiagnosticsArea.{DiagnosticsArea}
-use Rattle.psm_cond.specs.declared.item.DiagnosticsArea.TheVariants as areas
+use Rattle.psm_terms.specs.declared.diagnostics.DiagnosticsArea.{DiagnosticsArea}
+use Rattle.psm_terms.specs.declared.routines.ParameterMode.{ParameterMode}
+use Rattle.psm_terms.specs.declared.routines.ParameterMode.TheVariants.{In, Out, InOut}
 use Rattle.psm_scope.specs.Scopes.{Spelling}
 use Rattle.psm_scope.specs.Lookup.{meant}
 use Rattle.psm_scope.specs.Lookup as lookup
@@ -16,8 +13,6 @@ use Rattle.psm_scope.specs.declared.known.Variable.{Variable}
 use Rattle.psm_scope.specs.declared.known.DeclaredCondition.{DeclaredCondition}
 use Rattle.psm_scope.specs.declared.procedures.ProcedureScope.{ProcedureScope}
 use Rattle.psm_scope.specs.declared.procedures.ParameterScope.{ParameterScope}
-use Rattle.psm_scope.specs.declared.procedures.ParameterMode.{ParameterMode}
-use Rattle.psm_scope.specs.declared.procedures.ParameterMode.TheVariants.{In, Out, InOut}
 use Rattle.psm_rules.specs.CheckerScope.{Columns}
 use Rattle.psm_rules.specs.ExprFaults.{spelling}
 use Rattle.psm_rules.specs.StatementFaults.{several}
@@ -30,21 +25,15 @@ use Rattle.psm_tree.specs.declared.expr.Expr.TheVariants as written
 use Rattle.psm_tree.specs.declared.statement.Assignment.{Assignment}
 use Rattle.psm_tree.specs.declared.statement.Condition.{Condition}
 use Rattle.psm_tree.specs.declared.statement.Condition.TheVariants as signals
-use Rattle.psm_tree.specs.declared.statement.ConditionItem.{ConditionItem as WrittenConditionItem}
-use Rattle.psm_tree.specs.declared.statement.ConditionItem.TheVariants as written_condition_items
 use Rattle.psm_tree.specs.declared.statement.ConditionNumber.{ConditionNumber}
 use Rattle.psm_tree.specs.declared.statement.ConditionNumber.TheVariants as numbers
 use Rattle.psm_tree.specs.declared.statement.Diagnostics.{Diagnostics}
 use Rattle.psm_tree.specs.declared.statement.Diagnostics.TheVariants as diagnostics
-use Rattle.psm_tree.specs.declared.statement.DiagnosticsArea.{DiagnosticsArea as WrittenArea}
-use Rattle.psm_tree.specs.declared.statement.DiagnosticsArea.TheVariants as written_areas
 use Rattle.psm_tree.specs.declared.statement.InsertSource.{InsertSource}
 use Rattle.psm_tree.specs.declared.statement.InsertSource.TheVariants as sources
 use Rattle.psm_tree.specs.declared.statement.Signalled.{Signalled}
 use Rattle.psm_tree.specs.declared.statement.Simple.{Simple}
 use Rattle.psm_tree.specs.declared.statement.Simple.TheVariants as simples
-use Rattle.psm_tree.specs.declared.statement.StatementItem.{StatementItem as WrittenStatementItem}
-use Rattle.psm_tree.specs.declared.statement.StatementItem.TheVariants as written_statement_items
 use Rattle.psm_tree.specs.declared.statement.Values.{Values}
 use Rattle.psm_tree.specs.declared.statement.Where.{Where}
 use Rattle.psm_tree.specs.declared.statement.Where.TheVariants as wheres
@@ -148,31 +137,13 @@ signal_of resolver_scope s = record { condition = condition_of resolver_scope.sc
 
 -- ---- diagnostics
 
-abbrev pub statement_item : WrittenStatementItem → StatementItem
-statement_item written_statement_items.Number = statement_items.Number
-statement_item written_statement_items.More = statement_items.More
-statement_item written_statement_items.RowCount = statement_items.RowCount
-
-abbrev pub condition_item : WrittenConditionItem → ConditionItem
-condition_item written_condition_items.ConditionNumber = condition_items.ConditionNumber
-condition_item written_condition_items.ReturnedSqlState = condition_items.ReturnedSqlstate
-condition_item written_condition_items.ConditionIdentifier = condition_items.ConditionIdentifier
-condition_item written_condition_items.MessageText = condition_items.MessageText
-condition_item written_condition_items.MessageLength = condition_items.MessageLength
-condition_item written_condition_items.TableName = condition_items.TableName
-condition_item written_condition_items.CursorName = condition_items.CursorName
-
 abbrev pub number_of : Scopes → ConditionNumber → ResolvedNumber
 number_of scopes (numbers.Number place n) = condition_numbers.Constant n
 number_of scopes (numbers.Target t) = condition_numbers.Variable (slot_of scopes t)
 
-abbrev pub area_of : WrittenArea → DiagnosticsArea
-area_of written_areas.Current = areas.Current
-area_of written_areas.Stacked = areas.Stacked
-
-abbrev pub diagnostics_of : Scopes → WrittenArea → Diagnostics → ResolvedDiagnostics
-diagnostics_of scopes which (diagnostics.Statement items) = gotten.Statement (area_of which) (map (λ i. (slot_of scopes i.target, statement_item i.item)) (several items))
-diagnostics_of scopes which (diagnostics.Condition number items) = gotten.Condition (area_of which) (number_of scopes number) (map (λ i. (slot_of scopes i.target, condition_item i.item)) (several items))
+abbrev pub diagnostics_of : Scopes → DiagnosticsArea → Diagnostics → ResolvedDiagnostics
+diagnostics_of scopes which (diagnostics.Statement items) = gotten.Statement which (map (λ i. (slot_of scopes i.target, i.item)) (several items))
+diagnostics_of scopes which (diagnostics.Condition number items) = gotten.Condition which (number_of scopes number) (map (λ i. (slot_of scopes i.target, i.item)) (several items))
 
 -- ---- rows
 

@@ -10,7 +10,8 @@ use psm_declare::expr_at;
 use psm_list::{Boxed, List};
 use psm_resolve_expr::{ResolverScope, Scopes};
 use psm_resolved::{ResolvedArgument, ResolvedSimple};
-use psm_scope::{ParameterMode, ParameterScope};
+use psm_scope::ParameterScope;
+use psm_terms::ParameterMode;
 use psm_tree::{Expr, Identifier};
 use std::alloc::{AllocError, Global};
 

@@ -3,10 +3,9 @@ ghost use Rattle.std.specs.Prelude.{◌≡◌, map, option_map, IfOk};
 ghost use Rattle.psm_resolved.specs.declared.statement.ResolvedSimple.TheVariants as resolved;
 ghost use Rattle.psm_rules.specs.StatementFaults.{good_state, several};
 ghost use Rattle.psm_resolve_expr.specs.Seen.{seen_at};
-ghost use Rattle.psm_resolve.specs.Statements.{area_of, condition_item, condition_of, declared_as, diagnostics_of, number_of, signal_of, slot_of, state_of, statement_item};
+ghost use Rattle.psm_resolve.specs.Statements.{condition_of, declared_as, diagnostics_of, number_of, signal_of, slot_of, state_of};
 
 use crate::known::slot_of;
-use psm_cond::{ConditionItem, DiagnosticsArea, StatementItem};
 use psm_declare::optional_at;
 use psm_list::{Boxed, List, OneOrMore};
 use psm_resolve_expr::{ResolverScope, Scopes};
@@ -16,6 +15,7 @@ use psm_resolved::{
 use psm_scope::DeclaredCondition;
 use psm_sqlstate::SqlState;
 use psm_symbols::good_state;
+use psm_terms::{ConditionItem, DiagnosticsArea, StatementItem};
 use psm_tree::{
     Condition, ConditionInformation, ConditionNumber, Diagnostics, Signalled, State,
     StatementInformation,
@@ -112,24 +112,23 @@ pub(crate) fn resignal(
 pub(crate) fn get_diagnostics(
     alloc: Global,
     scopes: &Scopes,
-    which: psm_tree::DiagnosticsArea,
+    area: DiagnosticsArea,
     diagnostics: &Diagnostics,
 ) -> Result<Boxed<ResolvedSimple>, AllocError>
-    ensures { IfOk result (λ s. s ≡ resolved.GetDiagnostics (diagnostics_of scopes.now which diagnostics.now)) }
+    ensures { IfOk result (λ s. s ≡ resolved.GetDiagnostics (diagnostics_of scopes.now area diagnostics.now)) }
 {
-    let diagnostics = diagnostics_of(alloc, scopes, which, diagnostics)?;
+    let diagnostics = diagnostics_of(alloc, scopes, area, diagnostics)?;
     Boxed::new(alloc, ResolvedSimple::GetDiagnostics(diagnostics))
 }
 
 fn diagnostics_of(
     alloc: Global,
     scopes: &Scopes,
-    which: psm_tree::DiagnosticsArea,
+    area: DiagnosticsArea,
     diagnostics: &Diagnostics,
 ) -> Result<Boxed<ResolvedDiagnostics>, AllocError>
-    ensures { IfOk result (λ d. d ≡ diagnostics_of scopes.now which diagnostics.now) }
+    ensures { IfOk result (λ d. d ≡ diagnostics_of scopes.now area diagnostics.now) }
 {
-    let area = area_of(which);
     match diagnostics {
         Diagnostics::Statement { items } => {
             let items = statement_items(alloc, scopes, items)?;
@@ -148,15 +147,6 @@ fn diagnostics_of(
     }
 }
 
-fn area_of(which: psm_tree::DiagnosticsArea) -> DiagnosticsArea
-    ensures { result ≡ area_of which }
-{
-    match which {
-        psm_tree::DiagnosticsArea::Current => DiagnosticsArea::Current,
-        psm_tree::DiagnosticsArea::Stacked => DiagnosticsArea::Stacked,
-    }
-}
-
 fn number_of(scopes: &Scopes, number: &ConditionNumber) -> ResolvedNumber
     ensures { result ≡ number_of scopes.now number.now }
 {
@@ -171,13 +161,13 @@ fn statement_items(
     scopes: &Scopes,
     items: &OneOrMore<StatementInformation>,
 ) -> Result<List<(u32, StatementItem)>, AllocError>
-    ensures { IfOk result (λ resolved. resolved ≡ map (λ i. (slot_of scopes.now i.target, statement_item i.item)) (several items.now)) }
+    ensures { IfOk result (λ resolved. resolved ≡ map (λ i. (slot_of scopes.now i.target, i.item)) (several items.now)) }
 {
     let first = &items.first;
     let mut resolved = Vec::new(alloc);
-    resolved.push((slot_of(scopes, &first.target), statement_item(first.item)))?;
+    resolved.push((slot_of(scopes, &first.target), first.item))?;
     for item in items.rest.items() {
-        resolved.push((slot_of(scopes, &item.target), statement_item(item.item)))?;
+        resolved.push((slot_of(scopes, &item.target), item.item))?;
     }
     Ok(List::of(resolved))
 }
@@ -187,37 +177,13 @@ fn condition_items(
     scopes: &Scopes,
     items: &OneOrMore<ConditionInformation>,
 ) -> Result<List<(u32, ConditionItem)>, AllocError>
-    ensures { IfOk result (λ resolved. resolved ≡ map (λ i. (slot_of scopes.now i.target, condition_item i.item)) (several items.now)) }
+    ensures { IfOk result (λ resolved. resolved ≡ map (λ i. (slot_of scopes.now i.target, i.item)) (several items.now)) }
 {
     let first = &items.first;
     let mut resolved = Vec::new(alloc);
-    resolved.push((slot_of(scopes, &first.target), condition_item(first.item)))?;
+    resolved.push((slot_of(scopes, &first.target), first.item))?;
     for item in items.rest.items() {
-        resolved.push((slot_of(scopes, &item.target), condition_item(item.item)))?;
+        resolved.push((slot_of(scopes, &item.target), item.item))?;
     }
     Ok(List::of(resolved))
-}
-
-fn statement_item(item: psm_tree::StatementItem) -> StatementItem
-    ensures { result ≡ statement_item item }
-{
-    match item {
-        psm_tree::StatementItem::Number => StatementItem::Number,
-        psm_tree::StatementItem::More => StatementItem::More,
-        psm_tree::StatementItem::RowCount => StatementItem::RowCount,
-    }
-}
-
-fn condition_item(item: psm_tree::ConditionItem) -> ConditionItem
-    ensures { result ≡ condition_item item }
-{
-    match item {
-        psm_tree::ConditionItem::ConditionNumber => ConditionItem::ConditionNumber,
-        psm_tree::ConditionItem::ReturnedSqlState => ConditionItem::ReturnedSqlstate,
-        psm_tree::ConditionItem::ConditionIdentifier => ConditionItem::ConditionIdentifier,
-        psm_tree::ConditionItem::MessageText => ConditionItem::MessageText,
-        psm_tree::ConditionItem::MessageLength => ConditionItem::MessageLength,
-        psm_tree::ConditionItem::TableName => ConditionItem::TableName,
-        psm_tree::ConditionItem::CursorName => ConditionItem::CursorName,
-    }
 }

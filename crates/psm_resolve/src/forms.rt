@@ -9,9 +9,9 @@ ghost use Rattle.psm_resolved.specs.declared.statement.ResolvedHandler.{roll-Res
 ghost use Rattle.psm_resolved.specs.declared.statement.ResolvedStatement.TheVariants as resolved;
 ghost use Rattle.psm_declare.specs.Seen.{control, expr_at};
 ghost use Rattle.psm_resolve.specs.Statements.{simple_of};
-ghost use Rattle.psm_resolve.specs.Blocks.{kind_of, value_of};
+ghost use Rattle.psm_resolve.specs.Blocks.{value_of};
 
-use crate::handlers::{kind_of, values_of};
+use crate::handlers::values_of;
 use crate::simple::simple_of;
 use psm_declare::{Declared, ResolveContext, expr_at, optional_at};
 use psm_list::{Boxed, List};
@@ -199,13 +199,13 @@ pub(crate) fn push_handler_with(
     action: Boxed<ResolvedStatement>,
     resolved: &mut Vec<Boxed<ResolvedHandler>>,
 ) -> Result<(), AllocError>
-    ensures { IfOk result (λ _. resolved.new.items ≡ resolved.old.items ++ roll-ResolvedHandler (record { kind = kind_of (out-Handler handler.now).kind; values = map (value_of scopes.now) (several (out-Handler handler.now).values); action = action }) ∷ []) }
+    ensures { IfOk result (λ _. resolved.new.items ≡ resolved.old.items ++ roll-ResolvedHandler (record { kind = (out-Handler handler.now).kind; values = map (value_of scopes.now) (several (out-Handler handler.now).values); action = action }) ∷ []) }
 {
     let values = values_of(alloc, scopes, &handler.values)?;
     let handler = Boxed::new(
         alloc,
         ResolvedHandler {
-            kind: kind_of(handler.kind),
+            kind: handler.kind,
             values,
             action,
         },

@@ -1,26 +1,15 @@
 //! What handlers handle.
 ghost use Rattle.std.specs.Prelude.{◌≡◌, map, IfOk};
 ghost use Rattle.psm_rules.specs.StatementFaults.{several};
-ghost use Rattle.psm_resolve.specs.Blocks.{kind_of, value_for, value_of};
+ghost use Rattle.psm_resolve.specs.Blocks.{value_for, value_of};
 
 use crate::conditions::{declared_as, state_of};
-use psm_cond::{ConditionValue, HandlerKind};
+use psm_cond::ConditionValue;
 use psm_list::{List, OneOrMore};
 use psm_resolve_expr::Scopes;
 use psm_resolved::ResolvedCondition;
 use psm_tree::HandlerValue;
 use std::alloc::{AllocError, Global};
-
-/// How a handler goes on.
-pub(crate) fn kind_of(kind: psm_tree::HandlerKind) -> HandlerKind
-    ensures { result ≡ kind_of kind }
-{
-    match kind {
-        psm_tree::HandlerKind::Continue => HandlerKind::Continue,
-        psm_tree::HandlerKind::Exit => HandlerKind::Exit,
-        psm_tree::HandlerKind::Undo => HandlerKind::Undo,
-    }
-}
 
 /// What a handler handles, where it is declared.
 pub(crate) fn values_of(

@@ -4,16 +4,16 @@ ghost use Rattle.psm_scope.specs.KeptScopes.{can_declare_here};
 ghost use Rattle.psm_rules.specs.FileFaults.{is_in};
 ghost use Rattle.psm_rules.specs.Types.{type_of};
 ghost use Rattle.psm_resolve_expr.specs.Exprs.{type_known};
-ghost use Rattle.psm_resolve.specs.Files.{mode_of, nothing_numbered, resolve_parameter, resolve_routine, routine_numbered, numbered_parameter};
+ghost use Rattle.psm_resolve.specs.Files.{nothing_numbered, resolve_parameter, resolve_routine, routine_numbered, numbered_parameter};
 
 use crate::blocks::resolve_statement;
 use psm_declare::{Numbering, ResolveContext, declare_known, known_type};
 use psm_list::{Boxed, List};
 use psm_resolve_expr::Scopes;
-use psm_resolved::{ParameterMode, ResolvedParameter, ResolvedRoutine, ResolvedStatement};
+use psm_resolved::{ResolvedParameter, ResolvedRoutine, ResolvedStatement};
 use psm_scope::{ScopeKind, Variable};
 use psm_symbols::is_in;
-use psm_tree::{DataType, Mode, Parameter, Routine};
+use psm_tree::{DataType, Parameter, Routine};
 use psm_value::SqlType;
 use std::alloc::{AllocError, Global};
 
@@ -95,20 +95,10 @@ fn resolve_parameter(alloc: Global, parameter: &Parameter) -> Result<ResolvedPar
     ensures { IfOk result (λ resolved. resolved ≡ resolve_parameter parameter.now) }
 {
     Ok(ResolvedParameter {
-        mode: mode_of(parameter.mode),
+        mode: parameter.mode,
         name: parameter.name.name.copy(alloc)?,
         kind: known_type(&parameter.kind),
     })
-}
-
-fn mode_of(mode: Mode) -> ParameterMode
-    ensures { result ≡ mode_of mode }
-{
-    match mode {
-        Mode::In => ParameterMode::In,
-        Mode::Out => ParameterMode::Out,
-        Mode::InOut => ParameterMode::InOut,
-    }
 }
 
 // The scope of a routine, in which its parameters are variables; they have the first slots.

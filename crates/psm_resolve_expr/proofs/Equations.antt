@@ -1,6 +1,12 @@
 -- What is made of each form of an expression, by its layer.
 use Rattle.std.proofs.Common.{◌≡◌, ℕ, Bool, List, [], ◌∷◌, Option, Some, None, map, option_map, refl, ap, sym, ◌∙◌}
 use denote.Hole.Carrier
+use Rattle.psm_terms.specs.declared.operators.LogicalOperator.{LogicalOperator}
+use Rattle.psm_terms.specs.declared.operators.Comparison.{Comparison}
+use Rattle.psm_terms.specs.declared.operators.Operator.{Operator}
+use Rattle.psm_terms.specs.declared.functions.TextFunction.{TextFunction}
+use Rattle.psm_terms.specs.declared.functions.SetFunction.{SetFunction}
+use Rattle.psm_terms.specs.declared.functions.SetFunction.TheVariants as sets
 use Rattle.psm_num.specs.Num.{Num}
 use Rattle.psm_list.specs.Several.{Several, several_map}
 use Rattle.psm_token.specs.declared.place.Place.{Place}
@@ -13,19 +19,13 @@ use Rattle.psm_tree.specs.declared.expr.Expr.TheVariants as written
 use Rattle.psm_tree.specs.declared.expr.Expr.TheOpen.{Expr-F, Pick-F}
 use Rattle.psm_tree.specs.declared.expr.Expr.TheOpen as layers
 use Rattle.psm_tree.specs.declared.expr.Expr.TheFolds.{map-Expr, map-Pick, map-Select, fold-roll-Expr, fold-roll-Pick, fold_out-ChainLink, fold_out-Select, fold_out-When}
-use Rattle.psm_tree.specs.declared.expr.LogicalOperator.{LogicalOperator}
-use Rattle.psm_tree.specs.declared.expr.Comparison.{Comparison}
-use Rattle.psm_tree.specs.declared.expr.Operator.{Operator as WrittenOperator}
-use Rattle.psm_tree.specs.declared.expr.TextFunction.{TextFunction}
-use Rattle.psm_tree.specs.declared.expr.SetFunction.{SetFunction}
-use Rattle.psm_tree.specs.declared.expr.TrimSide.{TrimSide}
+use Rattle.psm_text.specs.declared.parts.Side.{Side}
 use Rattle.psm_tree.specs.declared.expr.ChainLink.{ChainLink, out-ChainLink}
 use Rattle.psm_tree.specs.declared.expr.When.{When, out-When}
 use Rattle.psm_tree.specs.declared.expr.Select.{Select, out-Select}
 use Rattle.psm_tree.specs.declared.expr.Pick.{Pick, roll-Pick}
 use Rattle.psm_tree.specs.declared.expr.Pick.TheVariants as picked
 use Rattle.psm_resolved.specs.declared.expr.ResolvedExpr.TheVariants as exprs
-use Rattle.psm_exprcode.specs.declared.aggregate.SetFunction.TheVariants as sets
 use Rattle.psm_rules.specs.declared.shape.Shape.TheVariants.{Value, Untyped}
 use Rattle.psm_rules.specs.Shapes.{of_literal, character, integer, typed, varying}
 use Rattle.psm_rules.specs.Types.{type_of}
@@ -36,15 +36,15 @@ use Rattle.psm_resolve_expr.specs.declared.resolved.ShapedQuery.{ShapedQuery}
 use Rattle.psm_resolve_expr.specs.declared.parts.Branches.{Branches}
 use Rattle.psm_resolve_expr.specs.ResolverScope.{ResolverScope, name_in, on_row, table_at}
 use Rattle.psm_resolve_expr.specs.Resolved.{ShapedPick, Values, OfAll, called, of_meaning, scale_of_result, shape_of_result}
-use Rattle.psm_resolve_expr.specs.Exprs.{Of, optional_in, condition, value, type_known, comparison_of, logical_operator_of, function_of, side_of, set_of, operator_chain_of, signed, columns_on, columns_in, number_of, set_item, shape_of_set, only_shape, query_of, at, all_at, any_at, expr_layer, pick_layer, chain_link_layer, select_layer, when_layer, resolve_expr, resolve_pick, resolve_chain_link, resolve_query, resolve_when}
+use Rattle.psm_resolve_expr.specs.Exprs.{Of, optional_in, condition, value, type_known, operator_chain_of, signed, columns_on, columns_in, number_of, set_item, shape_of_set, only_shape, query_of, at, all_at, any_at, expr_layer, pick_layer, chain_link_layer, select_layer, when_layer, resolve_expr, resolve_pick, resolve_chain_link, resolve_query, resolve_when}
 use Rattle.psm_resolve_expr.specs.Parts.{arguments_of, branches_of, case_in, none_picked, operands_of, query_in, with_picks}
 use Rattle.psm_resolve_expr.proofs.Joined.{case_joined, picks_gathered}
 
-expr_rolled : (layer : Expr-F Expr Pick ChainLink Select When) → resolve_expr (roll-Expr layer) ≡ expr_layer (map-Expr Expr Pick ChainLink Select When (Of Resolved) (Of ShapedPick) (Of (WrittenOperator × Resolved)) (Of ShapedQuery) (Of (Resolved × Resolved)) resolve_expr resolve_pick resolve_chain_link resolve_query resolve_when layer)
-expr_rolled layer = fold-roll-Expr (Of Resolved) (Of ShapedPick) (Of (WrittenOperator × Resolved)) (Of ShapedQuery) (Of (Resolved × Resolved)) expr_layer pick_layer chain_link_layer select_layer when_layer layer
+expr_rolled : (layer : Expr-F Expr Pick ChainLink Select When) → resolve_expr (roll-Expr layer) ≡ expr_layer (map-Expr Expr Pick ChainLink Select When (Of Resolved) (Of ShapedPick) (Of (Operator × Resolved)) (Of ShapedQuery) (Of (Resolved × Resolved)) resolve_expr resolve_pick resolve_chain_link resolve_query resolve_when layer)
+expr_rolled layer = fold-roll-Expr (Of Resolved) (Of ShapedPick) (Of (Operator × Resolved)) (Of ShapedQuery) (Of (Resolved × Resolved)) expr_layer pick_layer chain_link_layer select_layer when_layer layer
 
-pick_rolled : (layer : Pick-F Expr Pick ChainLink Select When) → resolve_pick (roll-Pick layer) ≡ pick_layer (map-Pick Expr Pick ChainLink Select When (Of Resolved) (Of ShapedPick) (Of (WrittenOperator × Resolved)) (Of ShapedQuery) (Of (Resolved × Resolved)) resolve_expr resolve_pick resolve_chain_link resolve_query resolve_when layer)
-pick_rolled layer = fold-roll-Pick (Of Resolved) (Of ShapedPick) (Of (WrittenOperator × Resolved)) (Of ShapedQuery) (Of (Resolved × Resolved)) expr_layer pick_layer chain_link_layer select_layer when_layer layer
+pick_rolled : (layer : Pick-F Expr Pick ChainLink Select When) → resolve_pick (roll-Pick layer) ≡ pick_layer (map-Pick Expr Pick ChainLink Select When (Of Resolved) (Of ShapedPick) (Of (Operator × Resolved)) (Of ShapedQuery) (Of (Resolved × Resolved)) resolve_expr resolve_pick resolve_chain_link resolve_query resolve_when layer)
+pick_rolled layer = fold-roll-Pick (Of Resolved) (Of ShapedPick) (Of (Operator × Resolved)) (Of ShapedQuery) (Of (Resolved × Resolved)) expr_layer pick_layer chain_link_layer select_layer when_layer layer
 
 pub resolved-Null : (place : Place) (resolver_scope : ResolverScope) → resolve_expr (written.Null place) resolver_scope ≡ record { expr = exprs.Null; shape = Untyped }
 unfolding roll-Expr Carrier.roll
@@ -62,7 +62,7 @@ pub resolved-Name : (target : Target) (resolver_scope : ResolverScope) → resol
 unfolding roll-Expr Carrier.roll
 resolved-Name target resolver_scope = ap (λ f. f resolver_scope) (expr_rolled (layers.Name target))
 
-pub resolved-LogicalOperator : (logical_operator : LogicalOperator) (operands : Several Expr) (resolver_scope : ResolverScope) → resolve_expr (written.LogicalOperator logical_operator operands) resolver_scope ≡ condition (exprs.LogicalOperator (logical_operator_of logical_operator) (operands_of (at resolver_scope (several_map resolve_expr operands))).exprs)
+pub resolved-LogicalOperator : (logical_operator : LogicalOperator) (operands : Several Expr) (resolver_scope : ResolverScope) → resolve_expr (written.LogicalOperator logical_operator operands) resolver_scope ≡ condition (exprs.LogicalOperator logical_operator (operands_of (at resolver_scope (several_map resolve_expr operands))).exprs)
 unfolding roll-Expr Carrier.roll
 resolved-LogicalOperator logical_operator operands resolver_scope = ap (λ f. f resolver_scope) (expr_rolled (layers.LogicalOperator logical_operator operands))
 
@@ -70,7 +70,7 @@ pub resolved-Not : (place : Place) (negated : Expr) (resolver_scope : ResolverSc
 unfolding roll-Expr Carrier.roll
 resolved-Not place negated resolver_scope = ap (λ f. f resolver_scope) (expr_rolled (layers.Not place negated))
 
-pub resolved-Compare : (operator : Comparison) (left right : Expr) (resolver_scope : ResolverScope) → resolve_expr (written.Compare operator left right) resolver_scope ≡ condition (exprs.Compare (comparison_of operator) (resolve_expr left resolver_scope).expr (resolve_expr right resolver_scope).expr)
+pub resolved-Compare : (operator : Comparison) (left right : Expr) (resolver_scope : ResolverScope) → resolve_expr (written.Compare operator left right) resolver_scope ≡ condition (exprs.Compare operator (resolve_expr left resolver_scope).expr (resolve_expr right resolver_scope).expr)
 unfolding roll-Expr Carrier.roll
 resolved-Compare operator left right resolver_scope = ap (λ f. f resolver_scope) (expr_rolled (layers.Compare operator left right))
 
@@ -134,7 +134,7 @@ pub resolved-NullIf : (place : Place) (left right : Expr) (resolver_scope : Reso
 unfolding roll-Expr Carrier.roll
 resolved-NullIf place left right resolver_scope = ap (λ f. f resolver_scope) (expr_rolled (layers.NullIf place left right))
 
-pub resolved-Function : (place : Place) (function : TextFunction) (text : Expr) (resolver_scope : ResolverScope) → resolve_expr (written.Function place function text) resolver_scope ≡ value (text_result function) (exprs.Function (function_of function) (resolve_expr text resolver_scope).expr)
+pub resolved-Function : (place : Place) (function : TextFunction) (text : Expr) (resolver_scope : ResolverScope) → resolve_expr (written.Function place function text) resolver_scope ≡ value (text_result function) (exprs.Function function (resolve_expr text resolver_scope).expr)
 unfolding roll-Expr Carrier.roll
 resolved-Function place function text resolver_scope = ap (λ f. f resolver_scope) (expr_rolled (layers.Function place function text))
 
@@ -147,7 +147,7 @@ unfolding roll-Expr Carrier.roll
 resolved-Substring place text from None resolver_scope = ap (λ f. f resolver_scope) (expr_rolled (layers.Substring place text from None))
 resolved-Substring place text from (Some length) resolver_scope = ap (λ f. f resolver_scope) (expr_rolled (layers.Substring place text from (Some length)))
 
-pub resolved-Trim : (place : Place) (side : TrimSide) (text : Expr) (resolver_scope : ResolverScope) → resolve_expr (written.Trim place side text) resolver_scope ≡ value varying (exprs.Trim (side_of side) (resolve_expr text resolver_scope).expr)
+pub resolved-Trim : (place : Place) (side : Side) (text : Expr) (resolver_scope : ResolverScope) → resolve_expr (written.Trim place side text) resolver_scope ≡ value varying (exprs.Trim side (resolve_expr text resolver_scope).expr)
 unfolding roll-Expr Carrier.roll
 resolved-Trim place side text resolver_scope = ap (λ f. f resolver_scope) (expr_rolled (layers.Trim place side text))
 
@@ -167,10 +167,10 @@ case_by e place operand whens otherwise resolver_scope first last branches is f 
 -- ---- parts
 
 pub resolved_chain_link : (chain_link : ChainLink) (resolver_scope : ResolverScope) → resolve_chain_link chain_link resolver_scope ≡ ((out-ChainLink chain_link).operator, resolve_expr (out-ChainLink chain_link).operand resolver_scope)
-resolved_chain_link chain_link resolver_scope = ap (λ f. f resolver_scope) (fold_out-ChainLink (Of Resolved) (Of ShapedPick) (Of (WrittenOperator × Resolved)) (Of ShapedQuery) (Of (Resolved × Resolved)) expr_layer pick_layer chain_link_layer select_layer when_layer chain_link)
+resolved_chain_link chain_link resolver_scope = ap (λ f. f resolver_scope) (fold_out-ChainLink (Of Resolved) (Of ShapedPick) (Of (Operator × Resolved)) (Of ShapedQuery) (Of (Resolved × Resolved)) expr_layer pick_layer chain_link_layer select_layer when_layer chain_link)
 
 pub resolved_when : (when : When) (resolver_scope : ResolverScope) → resolve_when when resolver_scope ≡ (resolve_expr (out-When when).test resolver_scope, resolve_expr (out-When when).result resolver_scope)
-resolved_when when resolver_scope = ap (λ f. f resolver_scope) (fold_out-When (Of Resolved) (Of ShapedPick) (Of (WrittenOperator × Resolved)) (Of ShapedQuery) (Of (Resolved × Resolved)) expr_layer pick_layer chain_link_layer select_layer when_layer when)
+resolved_when when resolver_scope = ap (λ f. f resolver_scope) (fold_out-When (Of Resolved) (Of ShapedPick) (Of (Operator × Resolved)) (Of ShapedQuery) (Of (Resolved × Resolved)) expr_layer pick_layer chain_link_layer select_layer when_layer when)
 
 -- ---- queries
 
@@ -186,7 +186,7 @@ pub pick-CountRows : (place : Place) (alias : Option Identifier) (resolver_scope
 unfolding roll-Pick Carrier.roll
 pick-CountRows place alias resolver_scope = ap (λ f. f resolver_scope) (pick_rolled (layers.CountRows place alias))
 
-pub pick-Aggregate : (place : Place) (function : SetFunction) (argument : Expr) (alias : Option Identifier) (resolver_scope : ResolverScope) → resolve_pick (picked.Aggregate place function argument alias) resolver_scope ≡ OfAll (set_item (set_of function) (Some (resolve_expr argument resolver_scope).expr)) (shape_of_set function (resolve_expr argument resolver_scope).shape)
+pub pick-Aggregate : (place : Place) (function : SetFunction) (argument : Expr) (alias : Option Identifier) (resolver_scope : ResolverScope) → resolve_pick (picked.Aggregate place function argument alias) resolver_scope ≡ OfAll (set_item function (Some (resolve_expr argument resolver_scope).expr)) (shape_of_set function (resolve_expr argument resolver_scope).shape)
 unfolding roll-Pick Carrier.roll
 pick-Aggregate place function argument alias resolver_scope = ap (λ f. f resolver_scope) (pick_rolled (layers.Aggregate place function argument alias))
 
@@ -198,7 +198,7 @@ inside q resolver_scope = let s = out-Select q in
     on_row resolver_scope (record { name = s.table.name; alias = spelling s.alias; columns = columns_in (table_at resolver_scope s.table.name) })
 
 query_layer : (place : Place) (picks : Several Pick) (table : Identifier) (alias : Option Identifier) (test : Option Expr) (resolver_scope : ResolverScope)
-    → select_layer (map-Select Expr Pick ChainLink Select When (Of Resolved) (Of ShapedPick) (Of (WrittenOperator × Resolved)) (Of ShapedQuery) (Of (Resolved × Resolved)) resolve_expr resolve_pick resolve_chain_link resolve_query resolve_when (record { place = place; picks = picks; table = table; alias = alias; condition = test })) resolver_scope
+    → select_layer (map-Select Expr Pick ChainLink Select When (Of Resolved) (Of ShapedPick) (Of (Operator × Resolved)) (Of ShapedQuery) (Of (Resolved × Resolved)) resolve_expr resolve_pick resolve_chain_link resolve_query resolve_when (record { place = place; picks = picks; table = table; alias = alias; condition = test })) resolver_scope
     ≡ (let here = table_at resolver_scope table.name in
     let seen = on_row resolver_scope (record { name = table.name; alias = spelling alias; columns = columns_in here }) in
     query_of (number_of here) (all_at seen (map resolve_pick (picks.first ∷ picks.rest))) (any_at seen (option_map resolve_expr test)))
@@ -208,6 +208,6 @@ query_layer place picks table alias (Some test) resolver_scope = refl
 pub resolved_query : (q : Select) (resolver_scope : ResolverScope) → resolve_query q resolver_scope ≡ (let s = out-Select q in
     query_in (number_of (table_at resolver_scope s.table.name)) (with_picks none_picked (all_at (inside q resolver_scope) (map resolve_pick (s.picks.first ∷ s.picks.rest)))) (any_at (inside q resolver_scope) (option_map resolve_expr s.condition)))
 resolved_query q resolver_scope = let o = out-Select q in
-    ap (λ f. f resolver_scope) (fold_out-Select (Of Resolved) (Of ShapedPick) (Of (WrittenOperator × Resolved)) (Of ShapedQuery) (Of (Resolved × Resolved)) expr_layer pick_layer chain_link_layer select_layer when_layer q)
+    ap (λ f. f resolver_scope) (fold_out-Select (Of Resolved) (Of ShapedPick) (Of (Operator × Resolved)) (Of ShapedQuery) (Of (Resolved × Resolved)) expr_layer pick_layer chain_link_layer select_layer when_layer q)
     ∙ query_layer o.place o.picks o.table o.alias o.condition resolver_scope
     ∙ picks_gathered (number_of (table_at resolver_scope o.table.name)) (all_at (inside q resolver_scope) (map resolve_pick (o.picks.first ∷ o.picks.rest))) (any_at (inside q resolver_scope) (option_map resolve_expr o.condition))

@@ -5,6 +5,9 @@ use Rattle.std.specs.Prelude.{IsTrue, ◌⊎◌, nat_lt}
 use Rattle.std.proofs.lemmas.Bool.{lt-ltb}
 use denote.Hole.Carrier
 use Rattle.psm_list.specs.Several.{Several}
+use Rattle.psm_terms.specs.declared.operators.LogicalOperator.{LogicalOperator}
+use Rattle.psm_terms.specs.declared.operators.Operator.{Operator}
+use Rattle.psm_terms.specs.declared.functions.TextFunction.{TextFunction}
 use Rattle.psm_num.specs.Num.{Num}
 use Rattle.psm_token.specs.declared.place.Place.{Place}
 use Rattle.psm_token.specs.declared.token.Placed.{Placed}
@@ -20,10 +23,7 @@ use Rattle.psm_tree.specs.ExprValues as values
 use Rattle.psm_tree.specs.declared.name.Identifier.{Identifier}
 use Rattle.psm_tree.specs.declared.types.DataType.{DataType}
 use Rattle.psm_tree.specs.declared.types.Sign.{Sign}
-use Rattle.psm_tree.specs.declared.expr.LogicalOperator.{LogicalOperator}
-use Rattle.psm_tree.specs.declared.expr.Operator.{Operator}
-use Rattle.psm_tree.specs.declared.expr.TextFunction.{TextFunction}
-use Rattle.psm_tree.specs.declared.expr.TrimSide.{TrimSide}
+use Rattle.psm_text.specs.declared.parts.Side.{Side}
 use Rattle.psm_tree.specs.declared.expr.Expr.{Expr, roll-Expr}
 use Rattle.psm_tree.specs.declared.expr.Expr.TheVariants as exprs
 use Rattle.psm_tree.specs.declared.expr.Expr.TheOpen.{Expr-F}
@@ -157,7 +157,7 @@ substring-joins place p = substring_of_joins place p.0 p.1 p.2
     substring_of_joins place text from None = by_layer (layers.Substring place text from None) refl
     substring_of_joins place text from (Some length) = by_layer (layers.Substring place text from (Some length)) refl
 
-trim-joins : (place : Place) (p : TrimSide × Expr) → Joins (values.trim_of place p)
+trim-joins : (place : Place) (p : Side × Expr) → Joins (values.trim_of place p)
 unfolding roll-Expr Carrier.roll
 trim-joins place p = by_layer (layers.Trim place p.0 p.1) refl
 

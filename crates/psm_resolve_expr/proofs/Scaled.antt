@@ -4,6 +4,7 @@ use Rattle.std.specs.Prelude.{IfSome, IsTrue, Result, Ok, Err, nat_lt}
 use Rattle.std.specs.List.{AllByRecursion}
 use Rattle.std.proofs.lemmas.Bool.{and_parts}
 use Rattle.psm_list.specs.Several.{Several, several_map}
+use Rattle.psm_terms.specs.declared.operators.Operator.{Operator}
 use Rattle.psm_value.specs.declared.datum.Datum.{Datum}
 use Rattle.psm_value.specs.declared.sqltype.SqlType.{SqlType}
 use Rattle.psm_scope.specs.Lookup as lookup
@@ -17,7 +18,6 @@ use Rattle.psm_rules.specs.Types.{type_of}
 use Rattle.psm_rules.specs.CheckerScope.{Columns}
 use Rattle.psm_tree.specs.declared.types.Sign.{Sign}
 use Rattle.psm_tree.specs.declared.types.Sign.TheVariants.{Plus, Minus}
-use Rattle.psm_tree.specs.declared.expr.Operator.{Operator as WrittenOperator}
 use Rattle.psm_tree.specs.declared.expr.Expr.{Expr, roll-Expr}
 use Rattle.psm_tree.specs.declared.expr.Expr.TheOpen.{Expr-F, Pick-F, ChainLink-F, Select-F, When-F}
 use Rattle.psm_tree.specs.declared.expr.Expr.TheOpen as layers
@@ -33,7 +33,7 @@ use Rattle.psm_resolve_expr.specs.declared.resolved.ShapedQuery.{ShapedQuery}
 use Rattle.psm_resolve_expr.specs.ResolverScope.{ResolverScope, name_in, on_row, table_at}
 use Rattle.psm_rules.specs.Shapes.{kind_of}
 use Rattle.psm_resolve_expr.specs.Resolved.{ShapedPick, Values, OfAll, called, of_meaning, sets_in, shape_of_result, values_in}
-use Rattle.psm_resolve_expr.specs.Exprs.{Of, all_at, any_at, at, case_of, chained, coalesce_of, columns_from, columns_in, columns_on, comparison_of, expr_in, expr_layer, logical_operator_of, side_of, pick_layer, chain_link_layer, select_layer, when_layer, resolve_expr, resolve_pick, resolve_chain_link, resolve_query, resolve_when, only_shape, result_of_case, shapes_of, signed, type_known}
+use Rattle.psm_resolve_expr.specs.Exprs.{Of, all_at, any_at, at, case_of, chained, coalesce_of, columns_from, columns_in, columns_on, expr_in, expr_layer, pick_layer, chain_link_layer, select_layer, when_layer, resolve_expr, resolve_pick, resolve_chain_link, resolve_query, resolve_when, only_shape, result_of_case, shapes_of, signed, type_known}
 use Rattle.psm_resolved.specs.RowValue.{row_value}
 use Rattle.psm_resolve_expr.specs.Scales.{ComesAtScale, HoldAsDeclared, are_all, joins, joins_layer, chain_link_joins, chain_link_joins_layer, or_none, pick_none, select_none, when_joins, when_joins_layer}
 use Rattle.psm_resolve_expr.proofs.ScaledForms.{Scaled, between-scaled, call-scaled, case-scaled, case-whole, cast-scaled, operator_chain-scaled, coalesce-scaled, coalesce-whole, compare-scaled, exists-scaled, function-scaled, in-scaled, is_null-scaled, logical_operator-scaled, like-scaled, name-scaled, not-scaled, null-scaled, null_if-scaled, number-scaled, position-scaled, result_of_values, signed-scaled, subquery-scaled, substring-scaled, text-scaled, trim-scaled}
@@ -172,7 +172,7 @@ abbrev bare : (row vars : List Datum) → Proved row vars → Expr-F Expr Pick C
 bare row vars y = map-Expr (E row vars) P (L row vars) S (W row vars) Expr Pick ChainLink Select When (λ e. e.0) (λ e. e.0) (λ e. e.0) (λ e. e.0) (λ e. e.0) y
 
 abbrev resolved_layer : Expr-F Expr Pick ChainLink Select When → ResolverScope → Resolved
-resolved_layer layer = expr_layer (map-Expr Expr Pick ChainLink Select When (Of Resolved) (Of ShapedPick) (Of (WrittenOperator × Resolved)) (Of ShapedQuery) (Of (Resolved × Resolved)) resolve_expr resolve_pick resolve_chain_link resolve_query resolve_when layer)
+resolved_layer layer = expr_layer (map-Expr Expr Pick ChainLink Select When (Of Resolved) (Of ShapedPick) (Of (Operator × Resolved)) (Of ShapedQuery) (Of (Resolved × Resolved)) resolve_expr resolve_pick resolve_chain_link resolve_query resolve_when layer)
 
 abbrev joined_layer : Expr-F Expr Pick ChainLink Select When → Bool
 joined_layer layer = joins_layer (map-Expr Expr Pick ChainLink Select When Bool (Unit {0}) Bool (Unit {0}) Bool joins (fold-Pick Bool (Unit {0}) Bool (Unit {0}) Bool joins_layer pick_none chain_link_joins_layer select_none when_joins_layer) chain_link_joins (fold-Select Bool (Unit {0}) Bool (Unit {0}) Bool joins_layer pick_none chain_link_joins_layer select_none when_joins_layer) when_joins layer)
@@ -221,9 +221,9 @@ layer-claim row vars (layers.Null place) resolver_scope = (tt, λ held j. null-s
 layer-claim row vars (layers.Number place number) resolver_scope = (literal-whole number, λ held j. number-scaled row vars number)
 layer-claim row vars (layers.Text place text) resolver_scope = (inr refl, λ held j. text-scaled row vars text)
 layer-claim row vars (layers.Name target) resolver_scope = (meaning-whole (name_in resolver_scope target), λ held j. name-scaled row vars (name_in resolver_scope target) (held target))
-layer-claim row vars (layers.LogicalOperator logical_operator operands) resolver_scope = (tt, λ held j. logical_operator-scaled row vars (logical_operator_of logical_operator) (resolved_values resolver_scope row vars operands) (more-operands resolver_scope row vars operands.rest j))
+layer-claim row vars (layers.LogicalOperator logical_operator operands) resolver_scope = (tt, λ held j. logical_operator-scaled row vars logical_operator (resolved_values resolver_scope row vars operands) (more-operands resolver_scope row vars operands.rest j))
 layer-claim row vars (layers.Not place negated) resolver_scope = (tt, λ held j. not-scaled row vars (resolve_expr negated.0 resolver_scope).expr)
-layer-claim row vars (layers.Compare operator left right) resolver_scope = (tt, λ held j. compare-scaled row vars (comparison_of operator) (resolve_expr left.0 resolver_scope).expr (resolve_expr right.0 resolver_scope).expr)
+layer-claim row vars (layers.Compare operator left right) resolver_scope = (tt, λ held j. compare-scaled row vars operator (resolve_expr left.0 resolver_scope).expr (resolve_expr right.0 resolver_scope).expr)
 layer-claim row vars (layers.IsNull negated operand) resolver_scope = (tt, λ held j. is_null-scaled row vars negated (resolve_expr operand.0 resolver_scope).expr)
 layer-claim row vars (layers.Between negated operand low high) resolver_scope = (tt, λ held j. between-scaled row vars negated (resolve_expr operand.0 resolver_scope).expr (resolve_expr low.0 resolver_scope).expr (resolve_expr high.0 resolver_scope).expr)
 layer-claim row vars (layers.In negated operand list) resolver_scope = (tt, λ held j. in-scaled row vars negated (resolve_expr operand.0 resolver_scope).expr (several_map expr_in (resolved_values resolver_scope row vars list)))
@@ -256,14 +256,14 @@ layer-claim row vars (layers.Function place function text) resolver_scope = (tex
 layer-claim row vars (layers.Position place part whole) resolver_scope = (inr refl, λ held j. position-scaled row vars (resolve_expr part.0 resolver_scope).expr (resolve_expr whole.0 resolver_scope).expr)
 layer-claim row vars (layers.Substring place text from None) resolver_scope = (inr refl, λ held j. substring-scaled row vars (resolve_expr text.0 resolver_scope).expr (resolve_expr from.0 resolver_scope).expr None)
 layer-claim row vars (layers.Substring place text from (Some length)) resolver_scope = (inr refl, λ held j. substring-scaled row vars (resolve_expr text.0 resolver_scope).expr (resolve_expr from.0 resolver_scope).expr (Some (resolve_expr length.0 resolver_scope).expr))
-layer-claim row vars (layers.Trim place side text) resolver_scope = (inr refl, λ held j. trim-scaled row vars (side_of side) (resolve_expr text.0 resolver_scope).expr)
+layer-claim row vars (layers.Trim place side text) resolver_scope = (inr refl, λ held j. trim-scaled row vars side (resolve_expr text.0 resolver_scope).expr)
 
 -- ---- the induction
 
 rolled-claim : (row vars : List Datum) (x : Expr-F Expr Pick ChainLink Select When) → Claim row vars (joined_layer x) (resolved_layer x) → OfExpr row vars (roll-Expr x)
 rolled-claim row vars x c =
     subst (λ j. Claim row vars j (resolve_expr (roll-Expr x))) (sym (fold-roll-Expr Bool (Unit {0}) Bool (Unit {0}) Bool joins_layer pick_none chain_link_joins_layer select_none when_joins_layer x))
-    (subst (Claim row vars (joined_layer x)) (sym (fold-roll-Expr (Of Resolved) (Of ShapedPick) (Of (WrittenOperator × Resolved)) (Of ShapedQuery) (Of (Resolved × Resolved)) expr_layer pick_layer chain_link_layer select_layer when_layer x)) c)
+    (subst (Claim row vars (joined_layer x)) (sym (fold-roll-Expr (Of Resolved) (Of ShapedPick) (Of (Operator × Resolved)) (Of ShapedQuery) (Of (Resolved × Resolved)) expr_layer pick_layer chain_link_layer select_layer when_layer x)) c)
 
 expr-step : (row vars : List Datum) (x : Expr-F Expr Pick ChainLink Select When) (y : Proved row vars) → bare row vars y ≡ x → OfExpr row vars (roll-Expr x)
 expr-step row vars x y is = subst (λ z. OfExpr row vars (roll-Expr z)) is (rolled-claim row vars (bare row vars y) (layer-claim row vars y))
@@ -272,7 +272,7 @@ abbrev bare_pick : (row vars : List Datum) → Pick-F (E row vars) P (L row vars
 bare_pick row vars y = map-Pick (E row vars) P (L row vars) S (W row vars) Expr Pick ChainLink Select When (λ e. e.0) (λ e. e.0) (λ e. e.0) (λ e. e.0) (λ e. e.0) y
 
 abbrev resolve_pick_layer : Pick-F Expr Pick ChainLink Select When → ResolverScope → ShapedPick
-resolve_pick_layer layer = pick_layer (map-Pick Expr Pick ChainLink Select When (Of Resolved) (Of ShapedPick) (Of (WrittenOperator × Resolved)) (Of ShapedQuery) (Of (Resolved × Resolved)) resolve_expr resolve_pick resolve_chain_link resolve_query resolve_when layer)
+resolve_pick_layer layer = pick_layer (map-Pick Expr Pick ChainLink Select When (Of Resolved) (Of ShapedPick) (Of (Operator × Resolved)) (Of ShapedQuery) (Of (Resolved × Resolved)) resolve_expr resolve_pick resolve_chain_link resolve_query resolve_when layer)
 
 pick-claim : (row vars : List Datum) (y : Pick-F (E row vars) P (L row vars) S (W row vars)) (resolver_scope : ResolverScope) → WholePick (resolve_pick_layer (bare_pick row vars y) resolver_scope)
 pick-claim row vars (layers.All place) resolver_scope = row-whole resolver_scope.row
@@ -283,7 +283,7 @@ pick-claim row vars (layers.Aggregate place function argument alias) resolver_sc
 pick-step : (row vars : List Datum) (x : Pick-F Expr Pick ChainLink Select When) (y : Pick-F (E row vars) P (L row vars) S (W row vars)) → bare_pick row vars y ≡ x → OfPick (roll-Pick x)
 pick-step row vars x y is resolver_scope =
     subst (λ z. WholePick (resolve_pick (roll-Pick z) resolver_scope)) is
-    (subst (λ f. WholePick (f resolver_scope)) (sym (fold-roll-Pick (Of Resolved) (Of ShapedPick) (Of (WrittenOperator × Resolved)) (Of ShapedQuery) (Of (Resolved × Resolved)) expr_layer pick_layer chain_link_layer select_layer when_layer (bare_pick row vars y))) (pick-claim row vars y resolver_scope))
+    (subst (λ f. WholePick (f resolver_scope)) (sym (fold-roll-Pick (Of Resolved) (Of ShapedPick) (Of (Operator × Resolved)) (Of ShapedQuery) (Of (Resolved × Resolved)) expr_layer pick_layer chain_link_layer select_layer when_layer (bare_pick row vars y))) (pick-claim row vars y resolver_scope))
 
 abbrev bare_chain_link : (row vars : List Datum) → ChainLink-F (E row vars) P (L row vars) S (W row vars) → ChainLink-F Expr Pick ChainLink Select When
 bare_chain_link row vars y = map-ChainLink (E row vars) P (L row vars) S (W row vars) Expr Pick ChainLink Select When (λ e. e.0) (λ e. e.0) (λ e. e.0) (λ e. e.0) (λ e. e.0) y
@@ -291,7 +291,7 @@ bare_chain_link row vars y = map-ChainLink (E row vars) P (L row vars) S (W row 
 chain_link-rolled : (row vars : List Datum) (y : ChainLink-F (E row vars) P (L row vars) S (W row vars)) → OfChainLink row vars (roll-ChainLink (bare_chain_link row vars y))
 chain_link-rolled row vars y =
     subst (λ j. Claim row vars j (λ resolver_scope. (resolve_chain_link (roll-ChainLink (bare_chain_link row vars y)) resolver_scope).1)) (sym (fold-roll-ChainLink Bool (Unit {0}) Bool (Unit {0}) Bool joins_layer pick_none chain_link_joins_layer select_none when_joins_layer (bare_chain_link row vars y)))
-    (subst (λ f. Claim row vars (joins y.operand.0) (λ resolver_scope. (f resolver_scope).1)) (sym (fold-roll-ChainLink (Of Resolved) (Of ShapedPick) (Of (WrittenOperator × Resolved)) (Of ShapedQuery) (Of (Resolved × Resolved)) expr_layer pick_layer chain_link_layer select_layer when_layer (bare_chain_link row vars y))) y.operand.1)
+    (subst (λ f. Claim row vars (joins y.operand.0) (λ resolver_scope. (f resolver_scope).1)) (sym (fold-roll-ChainLink (Of Resolved) (Of ShapedPick) (Of (Operator × Resolved)) (Of ShapedQuery) (Of (Resolved × Resolved)) expr_layer pick_layer chain_link_layer select_layer when_layer (bare_chain_link row vars y))) y.operand.1)
 
 chain_link-step : (row vars : List Datum) (x : ChainLink-F Expr Pick ChainLink Select When) (y : ChainLink-F (E row vars) P (L row vars) S (W row vars)) → bare_chain_link row vars y ≡ x → OfChainLink row vars (roll-ChainLink x)
 chain_link-step row vars x y is = subst (λ z. OfChainLink row vars (roll-ChainLink z)) is (chain_link-rolled row vars y)
@@ -302,7 +302,7 @@ bare_when row vars y = map-When (E row vars) P (L row vars) S (W row vars) Expr 
 when-rolled : (row vars : List Datum) (y : When-F (E row vars) P (L row vars) S (W row vars)) → OfWhen row vars (roll-When (bare_when row vars y))
 when-rolled row vars y =
     subst (λ j. Claim row vars j (λ resolver_scope. (resolve_when (roll-When (bare_when row vars y)) resolver_scope).1)) (sym (fold-roll-When Bool (Unit {0}) Bool (Unit {0}) Bool joins_layer pick_none chain_link_joins_layer select_none when_joins_layer (bare_when row vars y)))
-    (subst (λ f. Claim row vars (joins y.result.0) (λ resolver_scope. (f resolver_scope).1)) (sym (fold-roll-When (Of Resolved) (Of ShapedPick) (Of (WrittenOperator × Resolved)) (Of ShapedQuery) (Of (Resolved × Resolved)) expr_layer pick_layer chain_link_layer select_layer when_layer (bare_when row vars y))) y.result.1)
+    (subst (λ f. Claim row vars (joins y.result.0) (λ resolver_scope. (f resolver_scope).1)) (sym (fold-roll-When (Of Resolved) (Of ShapedPick) (Of (Operator × Resolved)) (Of ShapedQuery) (Of (Resolved × Resolved)) expr_layer pick_layer chain_link_layer select_layer when_layer (bare_when row vars y))) y.result.1)
 
 when-step : (row vars : List Datum) (x : When-F Expr Pick ChainLink Select When) (y : When-F (E row vars) P (L row vars) S (W row vars)) → bare_when row vars y ≡ x → OfWhen row vars (roll-When x)
 when-step row vars x y is = subst (λ z. OfWhen row vars (roll-When z)) is (when-rolled row vars y)
@@ -311,7 +311,7 @@ abbrev bare_select : (row vars : List Datum) → Select-F (E row vars) P (L row 
 bare_select row vars y = map-Select (E row vars) P (L row vars) S (W row vars) Expr Pick ChainLink Select When (λ e. e.0) (λ e. e.0) (λ e. e.0) (λ e. e.0) (λ e. e.0) y
 
 abbrev resolve_select_layer : Select-F Expr Pick ChainLink Select When → ResolverScope → ShapedQuery
-resolve_select_layer layer = select_layer (map-Select Expr Pick ChainLink Select When (Of Resolved) (Of ShapedPick) (Of (WrittenOperator × Resolved)) (Of ShapedQuery) (Of (Resolved × Resolved)) resolve_expr resolve_pick resolve_chain_link resolve_query resolve_when layer)
+resolve_select_layer layer = select_layer (map-Select Expr Pick ChainLink Select When (Of Resolved) (Of ShapedPick) (Of (Operator × Resolved)) (Of ShapedQuery) (Of (Resolved × Resolved)) resolve_expr resolve_pick resolve_chain_link resolve_query resolve_when layer)
 
 select-claim : (row vars : List Datum) (y : Select-F (E row vars) P (L row vars) S (W row vars)) (resolver_scope : ResolverScope) → AllByRecursion Whole (resolve_select_layer (bare_select row vars y) resolver_scope).shapes
 select-claim row vars y resolver_scope =
@@ -324,7 +324,7 @@ select-claim row vars y resolver_scope =
 select-step : (row vars : List Datum) (x : Select-F Expr Pick ChainLink Select When) (y : Select-F (E row vars) P (L row vars) S (W row vars)) → bare_select row vars y ≡ x → OfSelect (roll-Select x)
 select-step row vars x y is resolver_scope =
     subst (λ z. AllByRecursion Whole (resolve_query (roll-Select z) resolver_scope).shapes) is
-    (subst (λ f. AllByRecursion Whole (f resolver_scope).shapes) (sym (fold-roll-Select (Of Resolved) (Of ShapedPick) (Of (WrittenOperator × Resolved)) (Of ShapedQuery) (Of (Resolved × Resolved)) expr_layer pick_layer chain_link_layer select_layer when_layer (bare_select row vars y))) (select-claim row vars y resolver_scope))
+    (subst (λ f. AllByRecursion Whole (f resolver_scope).shapes) (sym (fold-roll-Select (Of Resolved) (Of ShapedPick) (Of (Operator × Resolved)) (Of ShapedQuery) (Of (Resolved × Resolved)) expr_layer pick_layer chain_link_layer select_layer when_layer (bare_select row vars y))) (select-claim row vars y resolver_scope))
 
 claimed : (row vars : List Datum) (e : Expr) → OfExpr row vars e
 claimed row vars = ind-Expr (OfExpr row vars) OfPick (OfChainLink row vars) OfSelect (OfWhen row vars) (expr-step row vars) (pick-step row vars) (chain_link-step row vars) (select-step row vars) (when-step row vars)

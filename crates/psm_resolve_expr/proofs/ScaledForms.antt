@@ -3,6 +3,12 @@ use Rattle.std.proofs.Common.{◌≡◌, ℕ, ◌<◌, Bool, List, [], ◌∷◌
 use Rattle.std.specs.Prelude.{IfSome, Result, slice_get}
 use Rattle.std.specs.List.{AllByRecursion}
 use Rattle.psm_list.specs.Several.{Several, several_map}
+use Rattle.psm_terms.specs.declared.operators.Operator.{Operator}
+use Rattle.psm_terms.specs.declared.operators.Operator.TheVariants as operators
+use Rattle.psm_terms.specs.declared.functions.TextFunction.{TextFunction}
+use Rattle.psm_terms.specs.declared.functions.TextFunction.TheVariants as functions
+use Rattle.psm_terms.specs.declared.operators.Comparison.{Comparison}
+use Rattle.psm_terms.specs.declared.operators.LogicalOperator.{LogicalOperator}
 use Rattle.psm_num.specs.Num as num
 use Rattle.psm_value.specs.declared.datum.Datum.{Datum}
 use Rattle.psm_value.specs.declared.sqltype.SqlType.{SqlType}
@@ -19,15 +25,8 @@ use Rattle.psm_rules.specs.declared.shape.Shape.TheVariants.{Value, Untyped, Con
 use Rattle.psm_rules.specs.declared.shape.Typed.{Typed}
 use Rattle.psm_rules.specs.ExprFaults.{text_result}
 use Rattle.psm_rules.specs.Shapes.{at_larger_scale, at_sum_of_scales, character, integer, of_literal, typed, varying}
-use Rattle.psm_tree.specs.declared.expr.Operator.{Operator as WrittenOperator}
-use Rattle.psm_tree.specs.declared.expr.Operator.TheVariants as written
-use Rattle.psm_tree.specs.declared.expr.TextFunction.{TextFunction}
-use Rattle.psm_tree.specs.declared.expr.TextFunction.TheVariants as functions
 use Rattle.psm_tree.specs.declared.types.Sign.{Sign}
 use Rattle.psm_tree.specs.declared.types.Sign.TheVariants.{Plus, Minus}
-use Rattle.psm_resolved.specs.declared.expr.Comparison.{Comparison}
-use Rattle.psm_resolved.specs.declared.expr.LogicalOperator.{LogicalOperator}
-use Rattle.psm_resolved.specs.declared.expr.Operator.{Operator}
 use Rattle.psm_resolved.specs.declared.expr.ResolvedExpr.{ResolvedExpr}
 use Rattle.psm_resolved.specs.declared.expr.ResolvedExpr.TheVariants as exprs
 use Rattle.psm_resolved.specs.declared.expr.ResolvedExpr.TheFolds.{fold-roll-ResolvedOperation, fold-roll-ResolvedWhen}
@@ -39,7 +38,7 @@ use Rattle.psm_resolved.proofs.Equations.{value-Null, value-Number, value-Text, 
 use Rattle.psm_resolve_expr.specs.declared.resolved.Resolved.{Resolved}
 use Rattle.psm_resolve_expr.specs.declared.resolved.ShapedQuery.{ShapedQuery}
 use Rattle.psm_resolve_expr.specs.Resolved.{called, joined_in, of_meaning, operated, scale_of_result, shape_of_result, shape_of_type}
-use Rattle.psm_resolve_expr.specs.Exprs.{case_of, operator_chain_of, chained, coalesce_of, condition, expr_in, function_of, chain_link_of, only_shape, operator_of, optional_in, result_of_case, shapes_of_else, signed, value, when_of}
+use Rattle.psm_resolve_expr.specs.Exprs.{case_of, operator_chain_of, chained, coalesce_of, condition, expr_in, chain_link_of, only_shape, optional_in, result_of_case, shapes_of_else, signed, value, when_of}
 use Rattle.psm_resolve_expr.specs.Scales.{ComesAtScale, HoldsAtScale, IsAtScale}
 use Rattle.psm_resolve_expr.proofs.Wholes.{Under, Whole, all-under, joined_in-whole}
 use Rattle.psm_resolve_expr.proofs.Scales.{any_one-scale, any_others-scale, any_three-scale, any_two-scale, cased-scale, cast-scale, concatenated-scale, difference-scale, divided-scale, first_set-scale, left-scale, length-scale, likened-scale, negated-scale, on_numbers-scale, on_text-scale, one-scale, part-scale, perhaps_not-scale, position-scale, product-scale, result-scale, total-scale, truth-scale, two-scale, two_joined-scale, unless_equal-scale, wide-scale}
@@ -100,25 +99,25 @@ exists-scaled row vars query = subst (ComesAtScale Condition) (sym (value-Exists
 
 -- ---- operators
 
-operated-scale : (operator : WrittenOperator) (s t : Shape) (a b : Datum) → IsAtScale s a → IsAtScale t b → ComesAtScale (operated operator s t) (valued (values.operated (operator_of operator) a b))
-operated-scale written.Add s t a b h k = on_numbers-scale _ at_larger_scale total-scale s t a b h k
-operated-scale written.Subtract s t a b h k = on_numbers-scale _ at_larger_scale difference-scale s t a b h k
-operated-scale written.Concatenate s t a b h k = concatenated-scale (Value varying) a b
-operated-scale written.Multiply s t a b h k = on_numbers-scale _ at_sum_of_scales product-scale s t a b h k
-operated-scale written.Divide s t a b h k = on_numbers-scale _ at_larger_scale divided-scale s t a b h k
+operated-scale : (operator : Operator) (s t : Shape) (a b : Datum) → IsAtScale s a → IsAtScale t b → ComesAtScale (operated operator s t) (valued (values.operated operator a b))
+operated-scale operators.Add s t a b h k = on_numbers-scale _ at_larger_scale total-scale s t a b h k
+operated-scale operators.Subtract s t a b h k = on_numbers-scale _ at_larger_scale difference-scale s t a b h k
+operated-scale operators.Concatenate s t a b h k = concatenated-scale (Value varying) a b
+operated-scale operators.Multiply s t a b h k = on_numbers-scale _ at_sum_of_scales product-scale s t a b h k
+operated-scale operators.Divide s t a b h k = on_numbers-scale _ at_larger_scale divided-scale s t a b h k
 
-chain_link-value : (row vars : List Datum) (l : WrittenOperator × Resolved) → chain_link_value row vars (chain_link_of l) ≡ (operator_of l.0, row_value row vars l.1.expr)
-chain_link-value row vars l = fold-roll-ResolvedOperation Outcome (Unit {0}) (Unit {0}) (Operator × Outcome) (Unit {0}) (Outcome × Outcome) (value_layer row vars) values.items_none values.item_none values.chain_link_layer values.query_none values.when_layer (record { operator = operator_of l.0; operand = l.1.expr })
+chain_link-value : (row vars : List Datum) (l : Operator × Resolved) → chain_link_value row vars (chain_link_of l) ≡ (l.0, row_value row vars l.1.expr)
+chain_link-value row vars l = fold-roll-ResolvedOperation Outcome (Unit {0}) (Unit {0}) (Operator × Outcome) (Unit {0}) (Outcome × Outcome) (value_layer row vars) values.items_none values.item_none values.chain_link_layer values.query_none values.when_layer (record { operator = l.0; operand = l.1.expr })
 
-chain_links-scale : (row vars : List Datum) (chain_links : List (WrittenOperator × Resolved)) (s : Shape) (a : Outcome) → ComesAtScale s a → AllByRecursion (λ l. Scaled row vars l.1) chain_links
+chain_links-scale : (row vars : List Datum) (chain_links : List (Operator × Resolved)) (s : Shape) (a : Outcome) → ComesAtScale s a → AllByRecursion (λ l. Scaled row vars l.1) chain_links
     → ComesAtScale (chained s chain_links) (linked a (map (chain_link_value row vars) (map chain_link_of chain_links)))
 chain_links-scale row vars [] s a h k = h
 chain_links-scale row vars (l ∷ chain_links) s a h k =
-    let f : Datum → Datum → Outcome = λ x y. valued (values.operated (operator_of l.0) x y) in
+    let f : Datum → Datum → Outcome = λ x y. valued (values.operated l.0 x y) in
     let next : ComesAtScale (operated l.0 s l.1.shape) (of_two f a (row_value row vars l.1.expr)) = two-scale (operated l.0 s l.1.shape) s l.1.shape a (row_value row vars l.1.expr) f h k.0 (operated-scale l.0 s l.1.shape) in
     subst (λ p. ComesAtScale (chained s (l ∷ chain_links)) (linked a (p ∷ map (chain_link_value row vars) (map chain_link_of chain_links)))) (sym (chain_link-value row vars l)) (chain_links-scale row vars chain_links (operated l.0 s l.1.shape) (of_two f a (row_value row vars l.1.expr)) next k.1)
 
-pub operator_chain-scaled : (row vars : List Datum) (first : Resolved) (chain_links : List (WrittenOperator × Resolved)) → Scaled row vars first → AllByRecursion (λ l. Scaled row vars l.1) chain_links → Scaled row vars (operator_chain_of first chain_links)
+pub operator_chain-scaled : (row vars : List Datum) (first : Resolved) (chain_links : List (Operator × Resolved)) → Scaled row vars first → AllByRecursion (λ l. Scaled row vars l.1) chain_links → Scaled row vars (operator_chain_of first chain_links)
 operator_chain-scaled row vars first chain_links h k = subst (ComesAtScale (chained first.shape chain_links)) (sym (value-OperatorChain row vars first.expr (map chain_link_of chain_links))) (chain_links-scale row vars chain_links first.shape (row_value row vars first.expr) h k)
 
 pub signed-scaled : (row vars : List Datum) (sign : Sign) (m : Resolved) → Scaled row vars m → Scaled row vars (signed sign m)
@@ -222,13 +221,13 @@ cast-scaled row vars e to = subst (ComesAtScale (Value (typed to))) (sym (value-
 pub null_if-scaled : (row vars : List Datum) (left right : Resolved) → Scaled row vars left → Scaled row vars (record { expr = exprs.NullIf left.expr right.expr; shape = left.shape })
 null_if-scaled row vars left right h = subst (ComesAtScale left.shape) (sym (value-NullIf row vars left.expr right.expr)) (left-scale left.shape left.shape (row_value row vars left.expr) (row_value row vars right.expr) _ h (λ a b i. unless_equal-scale left.shape a b i))
 
-function-scale : (function : TextFunction) (d : Datum) → IsAtScale (Value (text_result function)) (values.function_of (function_of function) d)
+function-scale : (function : TextFunction) (d : Datum) → IsAtScale (Value (text_result function)) (values.function_of function d)
 function-scale functions.CharLength d = length-scale d
 function-scale functions.Upper d = on_text-scale (Value varying) _ d
 function-scale functions.Lower d = on_text-scale (Value varying) _ d
 
-pub function-scaled : (row vars : List Datum) (function : TextFunction) (e : ResolvedExpr) → Scaled row vars (value (text_result function) (exprs.Function (function_of function) e))
-function-scaled row vars function e = subst (ComesAtScale (Value (text_result function))) (sym (value-Function row vars (function_of function) e)) (any_one-scale (Value (text_result function)) (row_value row vars e) _ (function-scale function))
+pub function-scaled : (row vars : List Datum) (function : TextFunction) (e : ResolvedExpr) → Scaled row vars (value (text_result function) (exprs.Function function e))
+function-scaled row vars function e = subst (ComesAtScale (Value (text_result function))) (sym (value-Function row vars function e)) (any_one-scale (Value (text_result function)) (row_value row vars e) _ (function-scale function))
 
 pub position-scaled : (row vars : List Datum) (a b : ResolvedExpr) → Scaled row vars (value integer (exprs.Position a b))
 position-scaled row vars a b = subst (ComesAtScale (Value integer)) (sym (value-Position row vars a b)) (any_two-scale (Value integer) (row_value row vars a) (row_value row vars b) _ position-scale)

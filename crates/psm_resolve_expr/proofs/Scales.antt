@@ -2,6 +2,7 @@
 use Rattle.std.proofs.Common.{◌≡◌, ℕ, ◌+◌, Bool, true, false, if◌then◌else◌, List, [], ◌∷◌, map, Option, Some, None, Ok, Err, refl, ap, ◌∙◌, arith}
 use Rattle.std.specs.Prelude.{IsTrue, Result, codes, max, nat_lt, unsigned_abs}
 use Rattle.std.specs.List.{AllByRecursion}
+use Rattle.psm_terms.specs.declared.operators.LogicalOperator.{LogicalOperator}
 use Rattle.psm_num.specs.declared.fault.NumFault.{NumFault}
 use Rattle.psm_num.specs.declared.fault.NumFault.TheVariants.{Range, Zero}
 use Rattle.psm_num.specs.Num as num
@@ -36,7 +37,6 @@ use Rattle.psm_rules.specs.declared.shape.Family.TheVariants.{Numbers, Texts}
 use Rattle.psm_rules.specs.Shapes.{at_larger_scale, at_sum_of_scales, family_of, integer, typed}
 use Rattle.psm_resolved.specs.Outcomes.{at_scale, chosen, decided, first_set, of_one, of_others, of_three, of_truth, of_truths, of_two, on_truth, on_values, perhaps_not, valued, with_operand, with_operands}
 use Rattle.psm_resolved.specs.RowValue.{cased, connective, equal_to, joined, likened, part}
-use Rattle.psm_resolved.specs.declared.expr.LogicalOperator.{LogicalOperator}
 use Rattle.psm_resolve_expr.specs.Resolved.{scale_in, scale_of_result, shape_of_result, type_in, with_types}
 use Rattle.psm_resolve_expr.proofs.Wholes.{Under, Whole, no-scale}
 use Rattle.psm_resolve_expr.specs.Scales.{ComesAtScale, HasScale, IsAtScale}

@@ -2,8 +2,9 @@
 -- Parentheses and the sign `+` leave nothing after.
 use Rattle.std.specs.Prelude.{ℕ, suc, false, Option, Some, None, List, [], ◌∷◌, ◌++◌, map, option_map}
 use Rattle.psm_list.specs.Several.{Several, several_map}
-use Rattle.psm_text.specs.declared.parts.Side.{Side}
-use Rattle.psm_text.specs.declared.parts.Side.TheVariants as sides
+use Rattle.psm_terms.specs.declared.operators.Operator.{Operator}
+use Rattle.psm_terms.specs.declared.functions.SetFunction.{SetFunction}
+use Rattle.psm_terms.specs.declared.functions.SetFunction.TheVariants as sets
 use Rattle.psm_value.specs.declared.sqltype.SqlType.{SqlType}
 use Rattle.psm_value.specs.declared.sqltype.SqlType.TheVariants as types
 use Rattle.psm_scope.specs.Lookup.{RowTable}
@@ -19,20 +20,6 @@ use Rattle.psm_tree.specs.declared.expr.ChainLink.{ChainLink}
 use Rattle.psm_tree.specs.declared.expr.When.{When}
 use Rattle.psm_tree.specs.declared.expr.Pick.{Pick}
 use Rattle.psm_tree.specs.declared.expr.Select.{Select}
-use Rattle.psm_tree.specs.declared.expr.LogicalOperator.{LogicalOperator as WrittenLogicalOperator}
-use Rattle.psm_tree.specs.declared.expr.LogicalOperator.TheVariants as written_logical_operators
-use Rattle.psm_tree.specs.declared.expr.Comparison.{Comparison as WrittenComparison}
-use Rattle.psm_tree.specs.declared.expr.Comparison.TheVariants as written_comparisons
-use Rattle.psm_tree.specs.declared.expr.Operator.{Operator as WrittenOperator}
-use Rattle.psm_tree.specs.declared.expr.Operator.TheVariants as written_operators
-use Rattle.psm_tree.specs.declared.expr.TextFunction.{TextFunction as WrittenFunction}
-use Rattle.psm_tree.specs.declared.expr.TextFunction.TheVariants as written_functions
-use Rattle.psm_tree.specs.declared.expr.TrimSide.{TrimSide}
-use Rattle.psm_tree.specs.declared.expr.TrimSide.TheVariants as written_sides
-use Rattle.psm_tree.specs.declared.expr.SetFunction.{SetFunction as WrittenSet}
-use Rattle.psm_tree.specs.declared.expr.SetFunction.TheVariants as written_sets
-use Rattle.psm_exprcode.specs.declared.aggregate.SetFunction.{SetFunction}
-use Rattle.psm_exprcode.specs.declared.aggregate.SetFunction.TheVariants as sets
 use Rattle.psm_rules.specs.declared.shape.Shape.{Shape}
 use Rattle.psm_rules.specs.declared.shape.Shape.TheVariants.{Value, Untyped, Condition}
 use Rattle.psm_rules.specs.declared.shape.Typed.{Typed}
@@ -48,56 +35,10 @@ use Rattle.psm_resolved.specs.declared.expr.ResolvedItems.{ResolvedItems}
 use Rattle.psm_resolved.specs.declared.expr.ResolvedOperation.{ResolvedOperation, roll-ResolvedOperation}
 use Rattle.psm_resolved.specs.declared.expr.ResolvedQuery.{roll-ResolvedQuery}
 use Rattle.psm_resolved.specs.declared.expr.ResolvedWhen.{ResolvedWhen, roll-ResolvedWhen}
-use Rattle.psm_resolved.specs.declared.expr.LogicalOperator.{LogicalOperator}
-use Rattle.psm_resolved.specs.declared.expr.LogicalOperator.TheVariants as logical_operators
-use Rattle.psm_resolved.specs.declared.expr.Comparison.{Comparison}
-use Rattle.psm_resolved.specs.declared.expr.Comparison.TheVariants as comparisons
-use Rattle.psm_resolved.specs.declared.expr.Operator.{Operator}
-use Rattle.psm_resolved.specs.declared.expr.Operator.TheVariants as operators
-use Rattle.psm_resolved.specs.declared.expr.TextFunction.{TextFunction}
-use Rattle.psm_resolved.specs.declared.expr.TextFunction.TheVariants as functions
 use Rattle.psm_resolve_expr.specs.ResolverScope.{ResolverScope, on_row, name_in, table_at}
 use Rattle.psm_resolve_expr.specs.declared.resolved.Resolved.{Resolved}
 use Rattle.psm_resolve_expr.specs.declared.resolved.ShapedQuery.{ShapedQuery}
 use Rattle.psm_resolve_expr.specs.Resolved.{ShapedPick, Values, OfAll, values_in, sets_in, of_meaning, called, operated, joined_in, shape_of_result, scale_of_result, shape_of_type}
-
--- ---- operators and functions
-
-abbrev pub logical_operator_of : WrittenLogicalOperator → LogicalOperator
-logical_operator_of written_logical_operators.And = logical_operators.And
-logical_operator_of written_logical_operators.Or = logical_operators.Or
-
-abbrev pub comparison_of : WrittenComparison → Comparison
-comparison_of written_comparisons.Equal = comparisons.Equal
-comparison_of written_comparisons.NotEqual = comparisons.NotEqual
-comparison_of written_comparisons.Less = comparisons.Less
-comparison_of written_comparisons.LessEqual = comparisons.LessEqual
-comparison_of written_comparisons.Greater = comparisons.Greater
-comparison_of written_comparisons.GreaterEqual = comparisons.GreaterEqual
-
-abbrev pub operator_of : WrittenOperator → Operator
-operator_of written_operators.Add = operators.Add
-operator_of written_operators.Subtract = operators.Subtract
-operator_of written_operators.Concatenate = operators.Concatenate
-operator_of written_operators.Multiply = operators.Multiply
-operator_of written_operators.Divide = operators.Divide
-
-abbrev pub function_of : WrittenFunction → TextFunction
-function_of written_functions.CharLength = functions.CharLength
-function_of written_functions.Upper = functions.Upper
-function_of written_functions.Lower = functions.Lower
-
-abbrev pub side_of : TrimSide → Side
-side_of written_sides.Leading = sides.Leading
-side_of written_sides.Trailing = sides.Trailing
-side_of written_sides.Both = sides.Both
-
-abbrev pub set_of : WrittenSet → SetFunction
-set_of written_sets.Count = sets.Count
-set_of written_sets.Sum = sets.Sum
-set_of written_sets.Avg = sets.Avg
-set_of written_sets.Min = sets.Min
-set_of written_sets.Max = sets.Max
 
 -- ---- parts
 
@@ -118,18 +59,18 @@ abbrev pub type_known : Option SqlType → SqlType
 type_known None = types.Integer
 type_known (Some t) = t
 
-abbrev pub chain_link_of : (WrittenOperator × Resolved) → ResolvedOperation
-chain_link_of l = roll-ResolvedOperation (record { operator = operator_of l.0; operand = l.1.expr })
+abbrev pub chain_link_of : (Operator × Resolved) → ResolvedOperation
+chain_link_of l = roll-ResolvedOperation (record { operator = l.0; operand = l.1.expr })
 
 abbrev pub when_of : (Resolved × Resolved) → ResolvedWhen
 when_of w = roll-ResolvedWhen (record { test = w.0.expr; result = w.1.expr })
 
 -- the shape of a chain's value
-abbrev pub chained : Shape → List (WrittenOperator × Resolved) → Shape
+abbrev pub chained : Shape → List (Operator × Resolved) → Shape
 chained left [] = left
 chained left (l ∷ chain_links) = chained (operated l.0 left l.1.shape) chain_links
 
-abbrev pub operator_chain_of : Resolved → List (WrittenOperator × Resolved) → Resolved
+abbrev pub operator_chain_of : Resolved → List (Operator × Resolved) → Resolved
 operator_chain_of first chain_links = record { expr = exprs.OperatorChain first.expr (map chain_link_of chain_links); shape = chained first.shape chain_links }
 
 abbrev pub signed : Sign → Resolved → Resolved
@@ -167,7 +108,7 @@ columns_on (Some row) = columns_from 0 row.columns
 abbrev pub set_item : SetFunction → Option ResolvedExpr → ResolvedItem
 set_item function operand = roll-ResolvedItem (record { function = function; operand = operand })
 
-abbrev pub shape_of_set : WrittenSet → Shape → Shape
+abbrev pub shape_of_set : SetFunction → Shape → Shape
 shape_of_set function (Value t) = Value (set_result function t)
 shape_of_set function Untyped = Untyped
 shape_of_set function Condition = Untyped
@@ -207,7 +148,7 @@ abbrev pub Of : Type 0 → Type 0
 Of A = ResolverScope → A
 
 abbrev pub Layer : Type 0
-Layer = Expr-F (Of Resolved) (Of ShapedPick) (Of (WrittenOperator × Resolved)) (Of ShapedQuery) (Of (Resolved × Resolved))
+Layer = Expr-F (Of Resolved) (Of ShapedPick) (Of (Operator × Resolved)) (Of ShapedQuery) (Of (Resolved × Resolved))
 
 abbrev pub at : {A : Type 0} → ResolverScope → Several (ResolverScope → A) → Several A
 at resolver_scope parts = several_map (λ p. p resolver_scope) parts
@@ -226,9 +167,9 @@ expr_layer (layers.Null place) resolver_scope = record { expr = exprs.Null; shap
 expr_layer (layers.Number place number) resolver_scope = value (of_literal number) (exprs.Number number)
 expr_layer (layers.Text place text) resolver_scope = value character (exprs.Text text)
 expr_layer (layers.Name target) resolver_scope = of_meaning (name_in resolver_scope target)
-expr_layer (layers.LogicalOperator logical_operator operands) resolver_scope = condition (exprs.LogicalOperator (logical_operator_of logical_operator) (several_map expr_in (at resolver_scope operands)))
+expr_layer (layers.LogicalOperator logical_operator operands) resolver_scope = condition (exprs.LogicalOperator logical_operator (several_map expr_in (at resolver_scope operands)))
 expr_layer (layers.Not place negated) resolver_scope = condition (exprs.Not (negated resolver_scope).expr)
-expr_layer (layers.Compare operator left right) resolver_scope = condition (exprs.Compare (comparison_of operator) (left resolver_scope).expr (right resolver_scope).expr)
+expr_layer (layers.Compare operator left right) resolver_scope = condition (exprs.Compare operator (left resolver_scope).expr (right resolver_scope).expr)
 expr_layer (layers.IsNull negated operand) resolver_scope = condition (exprs.IsNull negated (operand resolver_scope).expr)
 expr_layer (layers.Between negated operand low high) resolver_scope = condition (exprs.Between negated (operand resolver_scope).expr (low resolver_scope).expr (high resolver_scope).expr)
 expr_layer (layers.In negated operand list) resolver_scope = condition (exprs.In negated (operand resolver_scope).expr (several_map expr_in (at resolver_scope list)))
@@ -243,41 +184,41 @@ expr_layer (layers.Case place operand whens otherwise) resolver_scope = case_of 
 expr_layer (layers.Cast place source to) resolver_scope = value (typed (type_known (type_of to))) (exprs.Cast (source resolver_scope).expr (type_known (type_of to)))
 expr_layer (layers.Coalesce place values) resolver_scope = coalesce_of (at resolver_scope values) (joined_in None (map (λ m. m.shape) ((at resolver_scope values).first ∷ (at resolver_scope values).rest)))
 expr_layer (layers.NullIf place left right) resolver_scope = record { expr = exprs.NullIf (left resolver_scope).expr (right resolver_scope).expr; shape = (left resolver_scope).shape }
-expr_layer (layers.Function place function text) resolver_scope = value (text_result function) (exprs.Function (function_of function) (text resolver_scope).expr)
+expr_layer (layers.Function place function text) resolver_scope = value (text_result function) (exprs.Function function (text resolver_scope).expr)
 expr_layer (layers.Position place part whole) resolver_scope = value integer (exprs.Position (part resolver_scope).expr (whole resolver_scope).expr)
 expr_layer (layers.Substring place text from length) resolver_scope = value varying (exprs.Substring (text resolver_scope).expr (from resolver_scope).expr (optional_in (any_at resolver_scope length)))
-expr_layer (layers.Trim place side text) resolver_scope = value varying (exprs.Trim (side_of side) (text resolver_scope).expr)
+expr_layer (layers.Trim place side text) resolver_scope = value varying (exprs.Trim side (text resolver_scope).expr)
 
-abbrev pub chain_link_layer : ChainLink-F (Of Resolved) (Of ShapedPick) (Of (WrittenOperator × Resolved)) (Of ShapedQuery) (Of (Resolved × Resolved)) → Of (WrittenOperator × Resolved)
+abbrev pub chain_link_layer : ChainLink-F (Of Resolved) (Of ShapedPick) (Of (Operator × Resolved)) (Of ShapedQuery) (Of (Resolved × Resolved)) → Of (Operator × Resolved)
 chain_link_layer chain_link resolver_scope = (chain_link.operator, chain_link.operand resolver_scope)
 
-abbrev pub when_layer : When-F (Of Resolved) (Of ShapedPick) (Of (WrittenOperator × Resolved)) (Of ShapedQuery) (Of (Resolved × Resolved)) → Of (Resolved × Resolved)
+abbrev pub when_layer : When-F (Of Resolved) (Of ShapedPick) (Of (Operator × Resolved)) (Of ShapedQuery) (Of (Resolved × Resolved)) → Of (Resolved × Resolved)
 when_layer when resolver_scope = (when.test resolver_scope, when.result resolver_scope)
 
-abbrev pub pick_layer : Pick-F (Of Resolved) (Of ShapedPick) (Of (WrittenOperator × Resolved)) (Of ShapedQuery) (Of (Resolved × Resolved)) → Of ShapedPick
+abbrev pub pick_layer : Pick-F (Of Resolved) (Of ShapedPick) (Of (Operator × Resolved)) (Of ShapedQuery) (Of (Resolved × Resolved)) → Of ShapedPick
 pick_layer (layers.All place) resolver_scope = Values (columns_on resolver_scope.row)
 pick_layer (layers.Expr expr alias) resolver_scope = Values (expr resolver_scope ∷ [])
 pick_layer (layers.CountRows place alias) resolver_scope = OfAll (set_item sets.Count None) (Value integer)
-pick_layer (layers.Aggregate place function argument alias) resolver_scope = OfAll (set_item (set_of function) (Some (argument resolver_scope).expr)) (shape_of_set function (argument resolver_scope).shape)
+pick_layer (layers.Aggregate place function argument alias) resolver_scope = OfAll (set_item function (Some (argument resolver_scope).expr)) (shape_of_set function (argument resolver_scope).shape)
 
 -- a query's items and its test see the rows of its table
-abbrev pub select_layer : Select-F (Of Resolved) (Of ShapedPick) (Of (WrittenOperator × Resolved)) (Of ShapedQuery) (Of (Resolved × Resolved)) → Of ShapedQuery
+abbrev pub select_layer : Select-F (Of Resolved) (Of ShapedPick) (Of (Operator × Resolved)) (Of ShapedQuery) (Of (Resolved × Resolved)) → Of ShapedQuery
 select_layer select resolver_scope = let table = table_at resolver_scope select.table.name in
     let inside = on_row resolver_scope (record { name = select.table.name; alias = spelling select.alias; columns = columns_in table }) in
     query_of (number_of table) (map (λ p. p inside) (select.picks.first ∷ select.picks.rest)) (any_at inside select.condition)
 
 -- what is made of an expression, of an item, of an operator with its operand, of a query, and of a branch of CASE
 abbrev pub resolve_expr : Expr → ResolverScope → Resolved
-resolve_expr = fold-Expr (Of Resolved) (Of ShapedPick) (Of (WrittenOperator × Resolved)) (Of ShapedQuery) (Of (Resolved × Resolved)) expr_layer pick_layer chain_link_layer select_layer when_layer
+resolve_expr = fold-Expr (Of Resolved) (Of ShapedPick) (Of (Operator × Resolved)) (Of ShapedQuery) (Of (Resolved × Resolved)) expr_layer pick_layer chain_link_layer select_layer when_layer
 
 abbrev pub resolve_pick : Pick → ResolverScope → ShapedPick
-resolve_pick = fold-Pick (Of Resolved) (Of ShapedPick) (Of (WrittenOperator × Resolved)) (Of ShapedQuery) (Of (Resolved × Resolved)) expr_layer pick_layer chain_link_layer select_layer when_layer
+resolve_pick = fold-Pick (Of Resolved) (Of ShapedPick) (Of (Operator × Resolved)) (Of ShapedQuery) (Of (Resolved × Resolved)) expr_layer pick_layer chain_link_layer select_layer when_layer
 
-abbrev pub resolve_chain_link : ChainLink → ResolverScope → (WrittenOperator × Resolved)
-resolve_chain_link = fold-ChainLink (Of Resolved) (Of ShapedPick) (Of (WrittenOperator × Resolved)) (Of ShapedQuery) (Of (Resolved × Resolved)) expr_layer pick_layer chain_link_layer select_layer when_layer
+abbrev pub resolve_chain_link : ChainLink → ResolverScope → (Operator × Resolved)
+resolve_chain_link = fold-ChainLink (Of Resolved) (Of ShapedPick) (Of (Operator × Resolved)) (Of ShapedQuery) (Of (Resolved × Resolved)) expr_layer pick_layer chain_link_layer select_layer when_layer
 
 abbrev pub resolve_when : When → ResolverScope → (Resolved × Resolved)
-resolve_when = fold-When (Of Resolved) (Of ShapedPick) (Of (WrittenOperator × Resolved)) (Of ShapedQuery) (Of (Resolved × Resolved)) expr_layer pick_layer chain_link_layer select_layer when_layer
+resolve_when = fold-When (Of Resolved) (Of ShapedPick) (Of (Operator × Resolved)) (Of ShapedQuery) (Of (Resolved × Resolved)) expr_layer pick_layer chain_link_layer select_layer when_layer
 
 abbrev pub resolve_query : Select → ResolverScope → ShapedQuery
-resolve_query = fold-Select (Of Resolved) (Of ShapedPick) (Of (WrittenOperator × Resolved)) (Of ShapedQuery) (Of (Resolved × Resolved)) expr_layer pick_layer chain_link_layer select_layer when_layer
+resolve_query = fold-Select (Of Resolved) (Of ShapedPick) (Of (Operator × Resolved)) (Of ShapedQuery) (Of (Resolved × Resolved)) expr_layer pick_layer chain_link_layer select_layer when_layer

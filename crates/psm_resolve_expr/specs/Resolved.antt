@@ -1,6 +1,8 @@
 -- What is made of a part of an expression: an expression or a resolved query, with the shape of its value. What nothing
 -- declares is no part of an accepted file: NULL stands for an unknown name, and the number 0 for an unknown table or function.
 use Rattle.std.specs.Prelude.{ℕ, Option, Some, None, Result, Ok, Err, List, [], ◌∷◌, ◌++◌}
+use Rattle.psm_terms.specs.declared.operators.Operator.{Operator}
+use Rattle.psm_terms.specs.declared.operators.Operator.TheVariants as operators
 use Rattle.psm_value.specs.declared.sqltype.SqlType.{SqlType}
 use Rattle.psm_scope.specs.Lookup as lookup
 use Rattle.psm_scope.specs.Lookup.{Meaning}
@@ -13,8 +15,6 @@ use Rattle.psm_rules.specs.declared.shape.Typed.{Typed}
 use Rattle.psm_rules.specs.declared.shape.Family.{Family}
 use Rattle.psm_rules.specs.declared.shape.Family.TheVariants.{Numbers, Texts}
 use Rattle.psm_rules.specs.Shapes.{family_of, typed, joined, at_larger_scale, at_sum_of_scales, varying}
-use Rattle.psm_tree.specs.declared.expr.Operator.{Operator as Written}
-use Rattle.psm_tree.specs.declared.expr.Operator.TheVariants as written
 use Rattle.psm_resolved.specs.declared.expr.ResolvedExpr.{ResolvedExpr}
 use Rattle.psm_resolved.specs.declared.expr.ResolvedExpr.TheVariants as exprs
 use Rattle.psm_resolved.specs.declared.expr.ResolvedItem.{ResolvedItem}
@@ -39,12 +39,12 @@ with_types f (Some a) None = Untyped
 with_types f (Some a) (Some b) = Value (f a b)
 
 -- the shape of an operator's value
-abbrev pub operated : Written → Shape → Shape → Shape
-operated written.Add a b = with_types at_larger_scale (type_in a) (type_in b)
-operated written.Subtract a b = with_types at_larger_scale (type_in a) (type_in b)
-operated written.Concatenate a b = Value varying
-operated written.Multiply a b = with_types at_sum_of_scales (type_in a) (type_in b)
-operated written.Divide a b = with_types at_larger_scale (type_in a) (type_in b)
+abbrev pub operated : Operator → Shape → Shape → Shape
+operated operators.Add a b = with_types at_larger_scale (type_in a) (type_in b)
+operated operators.Subtract a b = with_types at_larger_scale (type_in a) (type_in b)
+operated operators.Concatenate a b = Value varying
+operated operators.Multiply a b = with_types at_sum_of_scales (type_in a) (type_in b)
+operated operators.Divide a b = with_types at_larger_scale (type_in a) (type_in b)
 
 -- the highest kind and the largest scale among the results that aren't NULL
 abbrev pub joined_in : Option Typed → List Shape → Option Typed

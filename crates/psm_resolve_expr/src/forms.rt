@@ -10,9 +10,8 @@ ghost use Rattle.psm_resolve_expr.specs.ResolverScope.{name_in};
 ghost use Rattle.psm_resolve_expr.specs.Seen.{seen_at};
 ghost use Rattle.psm_resolve_expr.specs.Resolved.{called, of_meaning, scale_of_result, shape_of_result};
 ghost use Rattle.psm_resolve_expr.specs.Parts.{case_in};
-ghost use Rattle.psm_resolve_expr.specs.Exprs.{comparison_of, condition, function_of, logical_operator_of, only_shape, optional_in, side_of, signed, type_known, value};
+ghost use Rattle.psm_resolve_expr.specs.Exprs.{condition, only_shape, optional_in, signed, type_known, value};
 
-use crate::operators::{comparison_of, function_of, logical_operator_of, side_of};
 use crate::parts::{Arguments, Branches, Operands};
 use crate::resolved::{Resolved, ShapedQuery, boxed, optional_in};
 use crate::resolver_scope::{ResolverScope, name_in};
@@ -25,10 +24,9 @@ use psm_num::Dec;
 use psm_resolved::{ResolvedExpr, ResolvedOperation};
 use psm_rules::{CHARACTER, INTEGER, Shape, VARYING, of_literal, typed};
 use psm_scope::Meant;
-use psm_text::Text;
-use psm_tree::{
-    Comparison, DataType, Identifier, LogicalOperator, Sign, Target, TextFunction, TrimSide,
-};
+use psm_terms::{Comparison, LogicalOperator, TextFunction};
+use psm_text::{Side, Text};
+use psm_tree::{DataType, Identifier, Sign, Target};
 use std::alloc::{AllocError, Global};
 
 // ---- constants and names
@@ -81,10 +79,10 @@ pub(crate) fn logical_operator(
     logical_operator: LogicalOperator,
     operands: Operands,
 ) -> Result<Resolved, AllocError>
-    ensures { IfOk result (λ m. m ≡ condition (exprs.LogicalOperator (logical_operator_of logical_operator) operands.exprs)) }
+    ensures { IfOk result (λ m. m ≡ condition (exprs.LogicalOperator logical_operator operands.exprs)) }
 {
     let expr = ResolvedExpr::LogicalOperator {
-        logical_operator: logical_operator_of(logical_operator),
+        logical_operator,
         operands: operands.exprs,
     };
     boxed(alloc, expr, Shape::Condition)
@@ -102,10 +100,10 @@ pub(crate) fn compare(
     left: Resolved,
     right: Resolved,
 ) -> Result<Resolved, AllocError>
-    ensures { IfOk result (λ m. m ≡ condition (exprs.Compare (comparison_of operator) left.expr right.expr)) }
+    ensures { IfOk result (λ m. m ≡ condition (exprs.Compare operator left.expr right.expr)) }
 {
     let expr = ResolvedExpr::Compare {
-        operator: comparison_of(operator),
+        operator,
         left: left.expr,
         right: right.expr,
     };
@@ -316,11 +314,11 @@ pub(crate) fn text_function(
     function: TextFunction,
     argument: Resolved,
 ) -> Result<Resolved, AllocError>
-    ensures { IfOk result (λ m. m ≡ value (text_result function) (exprs.Function (function_of function) argument.expr)) }
+    ensures { IfOk result (λ m. m ≡ value (text_result function) (exprs.Function function argument.expr)) }
 {
     let shape = Shape::Value(text_result(function));
     let expr = ResolvedExpr::Function {
-        function: function_of(function),
+        function,
         argument: argument.expr,
     };
     boxed(alloc, expr, shape)
@@ -356,11 +354,11 @@ pub(crate) fn substring(
     boxed(alloc, expr, Shape::Value(VARYING))
 }
 
-pub(crate) fn trim(alloc: Global, side: TrimSide, text: Resolved) -> Result<Resolved, AllocError>
-    ensures { IfOk result (λ m. m ≡ value varying (exprs.Trim (side_of side) text.expr)) }
+pub(crate) fn trim(alloc: Global, side: Side, text: Resolved) -> Result<Resolved, AllocError>
+    ensures { IfOk result (λ m. m ≡ value varying (exprs.Trim side text.expr)) }
 {
     let expr = ResolvedExpr::Trim {
-        side: side_of(side),
+        side,
         text: text.expr,
     };
     boxed(alloc, expr, Shape::Value(VARYING))

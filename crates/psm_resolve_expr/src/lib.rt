@@ -5,7 +5,6 @@
 mod exprs;
 mod forms;
 mod laws;
-mod operators;
 mod parts;
 mod picks;
 mod resolved;

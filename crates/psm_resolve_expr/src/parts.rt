@@ -4,14 +4,13 @@ ghost use Rattle.psm_resolve_expr.specs.Exprs.{chain_link_of};
 ghost use Rattle.psm_resolve_expr.specs.Resolved.{operated};
 ghost use Rattle.psm_resolve_expr.specs.Parts.{branch_of};
 
-use crate::operators::operator_of;
 use crate::resolved::Resolved;
 use crate::shapes::operated;
 use psm_list::{Boxed, List, OneOrMore};
 use psm_resolved::{ResolvedExpr, ResolvedOperation, ResolvedWhen};
 use psm_rules::{Shape, Typed};
 use psm_scope::ArgKind;
-use psm_tree::Operator;
+use psm_terms::Operator;
 use std::alloc::{AllocError, Global};
 
 /// Operands of one operator, and the type of the result that one of them is.
@@ -71,7 +70,7 @@ pub(crate) fn push_operand(
 {
     let shape = operated(operator, left, operand.shape)?;
     chain_links.push(ResolvedOperation {
-        operator: operator_of(operator),
+        operator,
         operand: operand.expr,
     })?;
     Ok(shape)

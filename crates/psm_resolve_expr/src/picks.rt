@@ -1,24 +1,22 @@
 //! The items of a query.
 ghost use Rattle.std.specs.Prelude.{◌≡◌, ◌∷◌, ◌++◌, [], IfOk, None, Some};
-ghost use Rattle.psm_exprcode.specs.declared.aggregate.SetFunction.TheVariants as sets;
+ghost use Rattle.psm_terms.specs.declared.functions.SetFunction.TheVariants as sets;
 ghost use Rattle.psm_rules.specs.Shapes.{integer};
 ghost use Rattle.psm_rules.specs.declared.shape.Shape.TheVariants.{Value};
-ghost use Rattle.psm_resolve_expr.specs.Exprs.{columns_from, columns_on, optional_in, set_item, set_of, shape_of_set};
+ghost use Rattle.psm_resolve_expr.specs.Exprs.{columns_from, columns_on, optional_in, set_item, shape_of_set};
 ghost use Rattle.psm_resolve_expr.specs.Resolved.{Values, OfAll, shape_of_type};
 ghost use Rattle.psm_resolve_expr.specs.Parts.{items_in, none_picked, query_in, shapes_in, with_pick};
 ghost use Rattle.psm_resolve_expr.specs.Seen.{seen_at};
 ghost use Rattle.psm_resolved.specs.declared.expr.ResolvedExpr.TheVariants as exprs;
 
-use crate::operators::set_of;
 use crate::resolved::{Resolved, ShapedQuery, boxed, optional_in};
 use crate::resolver_scope::ResolverScope;
 use crate::shapes::{shape_of_set, shape_of_type};
 use psm_check_expr::Columns;
-use psm_exprcode::SetFunction;
 use psm_list::{Boxed, List};
 use psm_resolved::{ResolvedExpr, ResolvedItem, ResolvedItems, ResolvedQuery};
 use psm_rules::{INTEGER, Shape};
-use psm_tree::SetFunction as WrittenSet;
+use psm_terms::SetFunction;
 use psm_value::SqlType;
 use std::alloc::{AllocError, Global};
 use std::marker::Model;
@@ -90,14 +88,14 @@ impl Picks {
     /// Puts a set function of values after the others.
     pub fn push_aggregate(
         &mut self,
-        function: WrittenSet,
+        function: SetFunction,
         resolved: Resolved,
     ) -> Result<(), AllocError>
-        ensures { IfOk result (λ _. self.new ≡ with_pick self.old (OfAll (set_item (set_of function) (Some resolved.expr)) (shape_of_set function resolved.shape))) }
+        ensures { IfOk result (λ _. self.new ≡ with_pick self.old (OfAll (set_item function (Some resolved.expr)) (shape_of_set function resolved.shape))) }
     {
         let shape = shape_of_set(function, resolved.shape);
         let item = ResolvedItem {
-            function: set_of(function),
+            function,
             operand: Some(resolved.expr),
         };
         self.push_set(item, shape)

@@ -7,7 +7,7 @@ ghost use Rattle.psm_resolve_expr.specs.Exprs.{only_shape, shape_of_set, shapes_
 use crate::resolved::Resolved;
 use psm_check_expr::set_result;
 use psm_rules::{Family, Shape, Typed, VARYING, at_larger_scale, family_of, joined, typed};
-use psm_tree::{Operator, SetFunction};
+use psm_terms::{Operator, SetFunction};
 use psm_value::SqlType;
 use std::alloc::AllocError;
 

@@ -1,14 +1,14 @@
 -- Small expressions worked out by hand.
 use Rattle.std.proofs.Common.{◌≡◌, ℕ, true, false, List, [], ◌∷◌, refl, Some, None, Ok, Err}
 use Rattle.std.specs.Prelude.{pos, codes}
+use Rattle.psm_terms.specs.declared.operators.Comparison.TheVariants as comparisons
+use Rattle.psm_terms.specs.declared.operators.LogicalOperator.TheVariants as logical_operators
+use Rattle.psm_terms.specs.declared.operators.Operator.TheVariants as operators
 use Rattle.psm_value.specs.declared.datum.Datum.TheVariants as data_of
 use Rattle.psm_value.specs.declared.truth.Truth.TheVariants as truths
 use Rattle.psm_value.specs.declared.sqltype.SqlType.TheVariants as types
 use Rattle.psm_exprcode.specs.declared.operand.Operand.TheVariants.{Value, Truth}
 use Rattle.psm_exprcode.specs.Evaluated.{Outcome}
-use Rattle.psm_resolved.specs.declared.expr.Comparison.TheVariants as comparisons
-use Rattle.psm_resolved.specs.declared.expr.LogicalOperator.TheVariants as logical_operators
-use Rattle.psm_resolved.specs.declared.expr.Operator.TheVariants as operators
 use Rattle.psm_resolved.specs.declared.expr.ResolvedExpr.TheOpen as layers
 use Rattle.psm_exprcode.specs.declared.op.Letter.TheVariants.{N, T}
 use Rattle.psm_resolved.specs.RowValue.{value_layer}

@@ -1,6 +1,7 @@
 -- The lines of a CASE, and what they stand for.
 use Rattle.std.specs.Prelude.{◌≡◌, ℕ, Bool, true, false, ◌&&◌, Option, None, Ok, List, [], ◌∷◌, map, option_map}
 use Rattle.std.specs.List.{list_all}
+use Rattle.psm_terms.specs.declared.operators.Comparison.TheVariants as comparisons
 use Rattle.psm_exprcode.specs.declared.op.Letter.{Letter}
 use Rattle.psm_exprcode.specs.declared.op.Letter.TheVariants.{B}
 use Rattle.psm_exprcode.specs.declared.op.Op.TheVariants as op
@@ -9,7 +10,6 @@ use Rattle.psm_exprcode.specs.declared.operand.Operand.TheVariants.{Value, Truth
 use Rattle.psm_exprcode.specs.Evaluated.{Outcome}
 use Rattle.psm_exprcode.specs.Kinds.{is_value}
 use Rattle.psm_exprcode.specs.WellFormed.{is_of_kind}
-use Rattle.psm_resolved.specs.declared.expr.Comparison.TheVariants as comparisons
 use Rattle.psm_resolved.specs.declared.expr.ResolvedExpr.{ResolvedExpr}
 use Rattle.psm_resolved.specs.declared.expr.ResolvedWhen.{ResolvedWhen, out-ResolvedWhen}
 use Rattle.psm_resolved.specs.Blocks.{Moved, Move, put}

@@ -3,14 +3,14 @@
 -- stands in, of any in CAST, and alone of that which is asked for. It stands nowhere else.
 use Rattle.std.specs.Prelude.{ℕ, Bool, true, false, ◌&&◌, List, [], ◌∷◌, slice_get, nat_le, IsTrue, Option, Some, None, if◌then◌else◌}
 use Rattle.std.specs.List.{list_all}
+use Rattle.psm_terms.specs.declared.operators.Operator.{Operator}
+use Rattle.psm_terms.specs.declared.operators.Operator.TheVariants as operators
+use Rattle.psm_terms.specs.declared.functions.TextFunction.{TextFunction}
+use Rattle.psm_terms.specs.declared.functions.TextFunction.TheVariants as functions
 use Rattle.psm_exprcode.specs.declared.op.Letter.{Letter}
 use Rattle.psm_exprcode.specs.declared.op.Letter.TheVariants.{N, T, B}
 use Rattle.psm_exprcode.specs.Kinds.{is_letter, is_value, some_value, letter_of}
 use Rattle.psm_exprcode.specs.WellFormed.{is_type}
-use Rattle.psm_resolved.specs.declared.expr.Operator.{Operator}
-use Rattle.psm_resolved.specs.declared.expr.Operator.TheVariants as operators
-use Rattle.psm_resolved.specs.declared.expr.TextFunction.{TextFunction}
-use Rattle.psm_resolved.specs.declared.expr.TextFunction.TheVariants as functions
 use Rattle.psm_resolved.specs.declared.expr.ResolvedExpr.{ResolvedExpr}
 use Rattle.psm_resolved.specs.declared.expr.ResolvedExpr.TheOpen.{ResolvedExpr-F, ResolvedItems-F, ResolvedItem-F, ResolvedOperation-F, ResolvedQuery-F, ResolvedWhen-F}
 use Rattle.psm_resolved.specs.declared.expr.ResolvedExpr.TheOpen as layers

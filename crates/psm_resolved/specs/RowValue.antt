@@ -5,6 +5,14 @@ use Rattle.std.specs.Prelude.{ℕ, Bool, List, [], ◌∷◌, map, slice_get, Op
 use Rattle.std.specs.Ordering.{is_eq, is_ne, is_lt, is_le, is_gt, is_ge}
 use Rattle.std.specs.declared.cmp.Ordering.{Ordering}
 use Rattle.psm_list.specs.Several.{Several}
+use Rattle.psm_terms.specs.declared.operators.Comparison.{Comparison}
+use Rattle.psm_terms.specs.declared.operators.Comparison.TheVariants as comparisons
+use Rattle.psm_terms.specs.declared.operators.LogicalOperator.{LogicalOperator}
+use Rattle.psm_terms.specs.declared.operators.LogicalOperator.TheVariants as logical_operators
+use Rattle.psm_terms.specs.declared.operators.Operator.{Operator}
+use Rattle.psm_terms.specs.declared.operators.Operator.TheVariants as operators
+use Rattle.psm_terms.specs.declared.functions.TextFunction.{TextFunction}
+use Rattle.psm_terms.specs.declared.functions.TextFunction.TheVariants as functions
 use Rattle.psm_text.specs.Parts.{upper_of, lower_of}
 use Rattle.psm_value.specs.declared.datum.Datum.{Datum}
 use Rattle.psm_value.specs.declared.datum.Datum.TheVariants as data_of
@@ -18,14 +26,6 @@ use Rattle.psm_exprcode.specs.Comparison.{truth_of, between, among, unless_equal
 use Rattle.psm_exprcode.specs.Evaluated.{Outcome}
 use Rattle.psm_exprcode.specs.Texts.{trim_of}
 use Rattle.psm_exprcode.specs.Values.{concatenated, length_of, position_of, part_from, part_of, on_text, like, like_escaped}
-use Rattle.psm_resolved.specs.declared.expr.Comparison.{Comparison}
-use Rattle.psm_resolved.specs.declared.expr.Comparison.TheVariants as comparisons
-use Rattle.psm_resolved.specs.declared.expr.LogicalOperator.{LogicalOperator}
-use Rattle.psm_resolved.specs.declared.expr.LogicalOperator.TheVariants as logical_operators
-use Rattle.psm_resolved.specs.declared.expr.Operator.{Operator}
-use Rattle.psm_resolved.specs.declared.expr.Operator.TheVariants as operators
-use Rattle.psm_resolved.specs.declared.expr.TextFunction.{TextFunction}
-use Rattle.psm_resolved.specs.declared.expr.TextFunction.TheVariants as functions
 use Rattle.psm_resolved.specs.declared.expr.ResolvedExpr.{ResolvedExpr}
 use Rattle.psm_resolved.specs.declared.expr.ResolvedExpr.TheOpen.{ResolvedExpr-F, ResolvedItems-F, ResolvedItem-F, ResolvedOperation-F, ResolvedQuery-F, ResolvedWhen-F}
 use Rattle.psm_resolved.specs.declared.expr.ResolvedExpr.TheOpen as layers

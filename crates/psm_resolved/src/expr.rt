@@ -1,46 +1,10 @@
 //! Resolved expressions and queries. A chain of operators of one level is one list.
 
-use psm_exprcode::SetFunction;
 use psm_list::{Boxed, List, OneOrMore};
 use psm_num::Dec;
+use psm_terms::{Comparison, LogicalOperator, Operator, SetFunction, TextFunction};
 use psm_text::{Side, Text};
 use psm_value::SqlType;
-
-/// AND or OR.
-#[derive(Clone, Copy, Debug, PartialEq, Eq)]
-pub enum LogicalOperator {
-    And,
-    Or,
-}
-
-/// A comparison operator (ISO/IEC 9075:1992, 8.2).
-#[derive(Clone, Copy, Debug, PartialEq, Eq)]
-pub enum Comparison {
-    Equal,
-    NotEqual,
-    Less,
-    LessEqual,
-    Greater,
-    GreaterEqual,
-}
-
-/// `+`, `-`, `||`, `*` or `/`.
-#[derive(Clone, Copy, Debug, PartialEq, Eq)]
-pub enum Operator {
-    Add,
-    Subtract,
-    Concatenate,
-    Multiply,
-    Divide,
-}
-
-/// The functions of one text (ISO/IEC 9075:1992, 6.6 and 6.7).
-#[derive(Clone, Copy, Debug, PartialEq, Eq)]
-pub enum TextFunction {
-    CharLength,
-    Upper,
-    Lower,
-}
 
 /// An expression or a condition (ISO/IEC 9075:1992, 6.11 to 8.12). It keeps no parentheses and no sign `+`.
 #[cycle(resolved)]

@@ -4,7 +4,7 @@ ghost use Rattle.psm_resolved.specs.Written.{Writes, WritesSource, WritesAll, Wr
 ghost use Rattle.psm_resolved.specs.Choices.{Branch, WritesWhens, WritesElse};
 ghost use Rattle.psm_resolved.specs.RowValue.{listed};
 
-use crate::expr::{LogicalOperator, ResolvedExpr, ResolvedOperation, ResolvedWhen};
+use crate::expr::{ResolvedExpr, ResolvedOperation, ResolvedWhen};
 use crate::expr_context::ExprContext;
 use crate::operators::{
     calculated, calculating, changed, changing, comparing, joining, letter_at, letter_of_results,
@@ -12,6 +12,7 @@ use crate::operators::{
 use crate::writer::{Exit, Writer};
 use psm_exprcode::{Letter, Op};
 use psm_list::{Boxed, List, OneOrMore};
+use psm_terms::LogicalOperator;
 use psm_value::Datum;
 use std::alloc::AllocError;
 

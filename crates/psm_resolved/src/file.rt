@@ -4,6 +4,7 @@ use crate::expr::ResolvedExpr;
 use crate::statement::ResolvedStatement;
 use psm_list::{Boxed, List};
 use psm_table::{ForeignKey, TableDef};
+use psm_terms::ParameterMode;
 use psm_text::Name;
 use psm_value::SqlType;
 
@@ -21,14 +22,6 @@ pub struct ResolvedFile {
 pub struct ResolvedTable {
     pub definition: TableDef,
     pub checks: List<Boxed<ResolvedExpr>>,
-}
-
-/// How a parameter passes its value.
-#[derive(Clone, Copy, Debug, PartialEq, Eq)]
-pub enum ParameterMode {
-    In,
-    Out,
-    InOut,
 }
 
 /// A parameter.

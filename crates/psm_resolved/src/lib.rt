@@ -13,10 +13,9 @@ mod writer;
 
 pub use code::row_code;
 pub use expr::{
-    Comparison, LogicalOperator, Operator, ResolvedExpr, ResolvedItem, ResolvedItems,
-    ResolvedOperation, ResolvedQuery, ResolvedWhen, TextFunction,
+    ResolvedExpr, ResolvedItem, ResolvedItems, ResolvedOperation, ResolvedQuery, ResolvedWhen,
 };
-pub use file::{ParameterMode, ResolvedFile, ResolvedParameter, ResolvedRoutine, ResolvedTable};
+pub use file::{ResolvedFile, ResolvedParameter, ResolvedRoutine, ResolvedTable};
 pub use operators::{
     calculated, calculating, changed, changing, comparing, joining, letter_of_results,
 };

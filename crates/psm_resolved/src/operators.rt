@@ -3,8 +3,8 @@ ghost use Rattle.std.specs.Prelude.{◌≡◌, slice_get};
 ghost use Rattle.psm_resolved.specs.Written.{letter_or, op_of_comparison, op_of_logical_operator, op_of_operator, op_of_function, letter_of_operator};
 ghost use Rattle.psm_resolved.specs.RowType.{function_of, letter_at as letter_of_scale};
 
-use crate::expr::{Comparison, LogicalOperator, Operator, TextFunction};
 use psm_exprcode::{Letter, Op};
+use psm_terms::{Comparison, LogicalOperator, Operator, TextFunction};
 
 /// The letter of the column or the variable at an index; that of a number where there is none.
 pub(crate) fn letter_at(letters: &[Letter], index: u32) -> Letter

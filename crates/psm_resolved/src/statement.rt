@@ -3,10 +3,11 @@
 //! their declarations. A statement that LEAVE or ITERATE can name is known by its level: the number of frames around it.
 
 use crate::expr::{ResolvedExpr, ResolvedQuery};
-use psm_cond::{ConditionItem, ConditionValue, DiagnosticsArea, HandlerKind, StatementItem};
+use psm_cond::ConditionValue;
 use psm_list::{Boxed, List};
 use psm_num::Dec;
 use psm_sqlstate::SqlState;
+use psm_terms::{ConditionItem, DiagnosticsArea, HandlerKind, StatementItem};
 use psm_text::Name;
 
 /// A statement.

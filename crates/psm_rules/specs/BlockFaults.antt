@@ -1,6 +1,8 @@
 -- The first fault of a block with its declarations, and of statements in it (ISO/IEC 9075-4:1996, compound statements).
 use Rattle.std.specs.Prelude.{ℕ, Bool, true, false, not, ◌&&◌, ◌||◌, Option, Some, None, is_some, List, [], ◌∷◌, ◌++◌, map, option_map, if◌then◌else◌}
 use Rattle.std.specs.List.{list_all, list_any}
+use Rattle.psm_terms.specs.declared.routines.HandlerKind.{HandlerKind}
+use Rattle.psm_terms.specs.declared.routines.HandlerKind.TheVariants.{Continue, Exit, Undo}
 use Rattle.psm_token.specs.declared.place.Place.{Place}
 use Rattle.psm_value.specs.declared.sqltype.SqlType.{SqlType}
 use Rattle.psm_value.specs.declared.sqltype.SqlType.TheVariants as types
@@ -37,8 +39,6 @@ use Rattle.psm_tree.specs.declared.statement.Declaration.TheVariants as declarat
 use Rattle.psm_tree.specs.declared.statement.CursorDeclaration.{CursorDeclaration}
 use Rattle.psm_tree.specs.declared.statement.Updatability.{Updatability}
 use Rattle.psm_tree.specs.declared.statement.Updatability.TheVariants as updatability
-use Rattle.psm_tree.specs.declared.statement.HandlerKind.{HandlerKind}
-use Rattle.psm_tree.specs.declared.statement.HandlerKind.TheVariants.{Continue, Exit, Undo}
 use Rattle.psm_tree.specs.declared.statement.HandlerValue.{HandlerValue}
 use Rattle.psm_tree.specs.declared.statement.HandlerValue.TheVariants as handled
 use Rattle.psm_rules.specs.declared.fault.Fault.{Fault}

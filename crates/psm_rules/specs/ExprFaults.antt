@@ -2,6 +2,12 @@
 use Rattle.std.specs.Prelude.{ℕ, ◌≡◌, nat_eq, nat_le, Bool, true, false, not, ◌&&◌, ◌||◌, Option, Some, None, Result, Ok, Err, List, [], ◌∷◌, ◌++◌, map, length, option_map, is_none, if◌then◌else◌}
 use Rattle.std.specs.List.{list_all}
 use Rattle.psm_list.specs.Several.{Several}
+use Rattle.psm_terms.specs.declared.operators.Operator.{Operator}
+use Rattle.psm_terms.specs.declared.operators.Operator.TheVariants as operators
+use Rattle.psm_terms.specs.declared.functions.SetFunction.{SetFunction}
+use Rattle.psm_terms.specs.declared.functions.SetFunction.TheVariants as sets
+use Rattle.psm_terms.specs.declared.functions.TextFunction.{TextFunction}
+use Rattle.psm_terms.specs.declared.functions.TextFunction.TheVariants as texts
 use Rattle.psm_token.specs.declared.place.Place.{Place}
 use Rattle.psm_value.specs.declared.sqltype.SqlType.{SqlType}
 use Rattle.psm_scope.specs.Routines.{function}
@@ -22,14 +28,8 @@ use Rattle.psm_tree.specs.declared.expr.Expr.TheOpen as layers
 use Rattle.psm_tree.specs.declared.expr.Expr.TheFolds.{fold-Expr, fold-ChainLink, fold-Pick, fold-Select, fold-When}
 use Rattle.psm_tree.specs.declared.expr.ChainLink.{ChainLink}
 use Rattle.psm_tree.specs.declared.expr.When.{When}
-use Rattle.psm_tree.specs.declared.expr.Operator.{Operator}
-use Rattle.psm_tree.specs.declared.expr.Operator.TheVariants as operators
 use Rattle.psm_tree.specs.declared.expr.Pick.{Pick}
 use Rattle.psm_tree.specs.declared.expr.Select.{Select}
-use Rattle.psm_tree.specs.declared.expr.SetFunction.{SetFunction}
-use Rattle.psm_tree.specs.declared.expr.SetFunction.TheVariants as sets
-use Rattle.psm_tree.specs.declared.expr.TextFunction.{TextFunction}
-use Rattle.psm_tree.specs.declared.expr.TextFunction.TheVariants as texts
 use Rattle.psm_rules.specs.declared.fault.Fault.{Fault}
 use Rattle.psm_rules.specs.declared.rule.Rule.TheVariants as rule
 use Rattle.psm_rules.specs.Faults.{breaks, breaks_if, earlier, first_of}

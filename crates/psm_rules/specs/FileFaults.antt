@@ -2,6 +2,8 @@
 use Rattle.std.specs.Prelude.{ℕ, nat_eq, Bool, true, false, not, ◌&&◌, ◌||◌, Option, Some, None, is_some, Result, Ok, Err, List, [], ◌∷◌, ◌++◌, map, length, slice_get, if◌then◌else◌}
 use Rattle.std.specs.List.{list_any}
 use Rattle.std.specs.Cmp.Lexicographic.{pointwise}
+use Rattle.psm_terms.specs.declared.routines.ParameterMode.{ParameterMode}
+use Rattle.psm_terms.specs.declared.routines.ParameterMode.TheVariants as modes
 use Rattle.psm_num.specs.Num.{Num}
 use Rattle.psm_token.specs.declared.place.Place.{Place}
 use Rattle.psm_num.specs.Arithmetic.{negated}
@@ -44,8 +46,6 @@ use Rattle.psm_tree.specs.declared.file.ColumnRuleForm.{ColumnRuleForm}
 use Rattle.psm_tree.specs.declared.file.ColumnRuleForm.TheVariants as column_rules
 use Rattle.psm_tree.specs.declared.file.TableRuleForm.{TableRuleForm}
 use Rattle.psm_tree.specs.declared.file.TableRuleForm.TheVariants as table_rules
-use Rattle.psm_tree.specs.declared.file.Mode.{Mode}
-use Rattle.psm_tree.specs.declared.file.Mode.TheVariants as modes
 use Rattle.psm_tree.specs.declared.file.Characteristic.{Characteristic}
 use Rattle.psm_tree.specs.declared.file.CharacteristicForm.{CharacteristicForm}
 use Rattle.psm_tree.specs.declared.file.CharacteristicForm.TheVariants as characteristics
@@ -70,8 +70,6 @@ use Rattle.psm_scope.specs.Routines.{Callable, Header, procedure}
 use Rattle.psm_scope.specs.declared.known.Variable.{Variable}
 use Rattle.psm_scope.specs.declared.procedures.ProcedureScope.{ProcedureScope}
 use Rattle.psm_scope.specs.declared.procedures.ParameterScope.{ParameterScope}
-use Rattle.psm_scope.specs.declared.procedures.ParameterMode.{ParameterMode}
-use Rattle.psm_scope.specs.declared.procedures.ParameterMode.TheVariants as scope_modes
 
 -- ---- columns of a table
 
@@ -324,12 +322,7 @@ references_faults before (t ∷ ts) = references_fault (with_referred before t) 
 
 -- ---- routines
 
-abbrev pub mode_of : Mode → ParameterMode
-mode_of modes.In = scope_modes.In
-mode_of modes.Out = scope_modes.Out
-mode_of modes.InOut = scope_modes.InOut
-
-abbrev pub is_in : Mode → Bool
+abbrev pub is_in : ParameterMode → Bool
 is_in modes.In = true
 is_in modes.Out = false
 is_in modes.InOut = false
@@ -338,7 +331,7 @@ abbrev pub is_function : Routine → Bool
 is_function r = is_some r.returns
 
 abbrev pub parameter_of : Parameter → ParameterScope
-parameter_of p = record { mode = mode_of p.mode; kind = type_of p.kind }
+parameter_of p = record { mode = p.mode; kind = type_of p.kind }
 
 -- the kind of a type, also of one that is out of range
 abbrev pub kind_of : TypeForm → ArgKind

@@ -2,6 +2,12 @@
 use Rattle.std.specs.Prelude.{◌≡◌, nat_eq, Bool, true, false, not, ◌&&◌, ◌||◌, Option, Some, None, is_some, List, [], ◌∷◌, ◌++◌, map, length, codes, take, option_map, if◌then◌else◌}
 use Rattle.std.specs.List.{list_all, list_any}
 use Rattle.psm_list.specs.Several.{Several}
+use Rattle.psm_terms.specs.declared.diagnostics.ConditionItem.{ConditionItem}
+use Rattle.psm_terms.specs.declared.diagnostics.ConditionItem.TheVariants as condition_items
+use Rattle.psm_terms.specs.declared.diagnostics.StatementItem.{StatementItem}
+use Rattle.psm_terms.specs.declared.diagnostics.StatementItem.TheVariants as statement_items
+use Rattle.psm_terms.specs.declared.routines.ParameterMode.{ParameterMode}
+use Rattle.psm_terms.specs.declared.routines.ParameterMode.TheVariants.{In, Out, InOut}
 use Rattle.psm_token.specs.declared.place.Place.{Place}
 use Rattle.psm_value.specs.declared.sqltype.SqlType.{SqlType}
 use Rattle.psm_value.specs.declared.sqltype.SqlType.TheVariants as types
@@ -23,12 +29,8 @@ use Rattle.psm_tree.specs.declared.statement.Assignment.{Assignment}
 use Rattle.psm_tree.specs.declared.statement.Condition.{Condition}
 use Rattle.psm_tree.specs.declared.statement.Condition.TheVariants as signals
 use Rattle.psm_tree.specs.declared.statement.Signalled.{Signalled}
-use Rattle.psm_tree.specs.declared.statement.ConditionItem.{ConditionItem}
-use Rattle.psm_tree.specs.declared.statement.ConditionItem.TheVariants as condition_items
 use Rattle.psm_tree.specs.declared.statement.ConditionNumber.{ConditionNumber}
 use Rattle.psm_tree.specs.declared.statement.ConditionNumber.TheVariants as numbers
-use Rattle.psm_tree.specs.declared.statement.StatementItem.{StatementItem}
-use Rattle.psm_tree.specs.declared.statement.StatementItem.TheVariants as statement_items
 use Rattle.psm_tree.specs.declared.statement.Diagnostics.{Diagnostics}
 use Rattle.psm_tree.specs.declared.statement.Diagnostics.TheVariants as diagnostics
 use Rattle.psm_tree.specs.declared.statement.InsertSource.{InsertSource}
@@ -56,8 +58,6 @@ use Rattle.psm_scope.specs.declared.known.Variable.{Variable}
 use Rattle.psm_scope.specs.declared.known.DeclaredCondition.{DeclaredCondition}
 use Rattle.psm_scope.specs.declared.procedures.ProcedureScope.{ProcedureScope}
 use Rattle.psm_scope.specs.declared.procedures.ParameterScope.{ParameterScope}
-use Rattle.psm_scope.specs.declared.procedures.ParameterMode.{ParameterMode}
-use Rattle.psm_scope.specs.declared.procedures.ParameterMode.TheVariants.{In, Out, InOut}
 use Rattle.psm_rules.specs.declared.query.Item.{Item}
 use Rattle.psm_rules.specs.CheckerScope.{CheckerScope, Cursor, Columns, Scopes, on_row, table_named}
 
@@ -173,7 +173,7 @@ statement_item_family statement_items.RowCount = Numbers
 
 abbrev pub condition_item_family : ConditionItem → Family
 condition_item_family condition_items.ConditionNumber = Numbers
-condition_item_family condition_items.ReturnedSqlState = Texts
+condition_item_family condition_items.ReturnedSqlstate = Texts
 condition_item_family condition_items.ConditionIdentifier = Texts
 condition_item_family condition_items.MessageText = Texts
 condition_item_family condition_items.MessageLength = Numbers

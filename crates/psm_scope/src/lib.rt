@@ -25,7 +25,7 @@ pub use kinds::ArgKind;
 pub use known::{DeclaredCondition, Variable};
 pub use laws::{exact_kinds_stay, narrowing_keeps_the_least, one_candidate_more};
 pub use names::Names;
-pub use procedures::{ParameterMode, ParameterScope, ProcedureScope, Procedures};
+pub use procedures::{ParameterScope, ProcedureScope, Procedures};
 pub use row::{Meant, RowTable};
 pub use scope::ScopeKind;
 pub use scopes::Scopes;

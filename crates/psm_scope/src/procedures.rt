@@ -7,18 +7,11 @@ ghost use Rattle.psm_scope.specs.Procedures.{AddsProcedure};
 use crate::key::{CallKey, NameKey};
 use indexmap::IndexMap;
 use psm_list::List;
+use psm_terms::ParameterMode;
 use psm_text::Name;
 use psm_value::SqlType;
 use std::alloc::{AllocError, Global};
 use std::marker::Model;
-
-/// How a parameter passes its value (ISO/IEC 9075-4:1996, SQL-invoked routines).
-#[derive(Clone, Copy, Debug, PartialEq, Eq)]
-pub enum ParameterMode {
-    In,
-    Out,
-    InOut,
-}
 
 /// A parameter of a procedure.
 #[derive(Clone, Copy, Debug, PartialEq, Eq)]

@@ -1,13 +1,13 @@
 -- Code that has the tables and the heads of the routines of a file: a script may name the same, and by the same numbers.
 use Rattle.std.proofs.Common.{◌≡◌, ℕ, suc, Bool, List, [], ◌∷◌, ◌++◌, map, length, Some, is_some, refl, ap, ◌∙◌}
 use Rattle.std.specs.Prelude.{if◌then◌else◌}
+use Rattle.psm_terms.specs.declared.routines.ParameterMode.{ParameterMode}
+use Rattle.psm_terms.specs.declared.routines.ParameterMode.TheVariants as modes
 use Rattle.psm_scope.specs.Scopes.{Spelling}
 use Rattle.psm_scope.specs.Routines.{procedure}
 use Rattle.psm_scope.specs.declared.procedures.ParameterScope.{ParameterScope}
 use Rattle.psm_rules.specs.BlockFaults.{declared_once}
 use Rattle.psm_table.specs.declared.definition.TableDef.{TableDef}
-use Rattle.psm_resolved.specs.declared.file.ParameterMode.{ParameterMode}
-use Rattle.psm_resolved.specs.declared.file.ParameterMode.TheVariants as modes
 use Rattle.psm_resolved.specs.declared.file.ResolvedFile.{ResolvedFile}
 use Rattle.psm_resolved.specs.declared.file.ResolvedParameter.{ResolvedParameter}
 use Rattle.psm_resolved.specs.declared.file.ResolvedRoutine.{ResolvedRoutine}
@@ -20,7 +20,7 @@ use Rattle.psm_exprgen.specs.Queries.{TablesMade}
 use Rattle.psm_codegen.specs.Files.{FileWritten, RoutinesWritten, is_function}
 use Rattle.psm_check_script.specs.Known as checked
 use Rattle.psm_check_script.specs.Known.{Keys, Procedures, Tables, key_names, known_of, with_columns}
-use Rattle.psm_script_code.specs.FileKnown.{known_of_file, mode_of, next_procedure, parameter_of, with_key, with_keys, with_routine, with_routines, with_table, with_tables}
+use Rattle.psm_script_code.specs.FileKnown.{known_of_file, next_procedure, parameter_of, with_key, with_keys, with_routine, with_routines, with_table, with_tables}
 
 -- ---- the same tables, and routines with the same heads, one for one
 
@@ -109,7 +109,7 @@ same_keys known (t ∷ ts) [] h = absurd h
 same_keys known (t ∷ ts) (u ∷ us) h =
     ap (λ (d : TableDef). checked.with_keys (declared_once known d.name (key_names d.columns d.key)) us) h.0 ∙ same_keys (with_key known t) ts us h.1
 
-same_mode : (m : ParameterMode) → checked.mode_of (lowered.mode_of m) ≡ mode_of m
+same_mode : (m : ParameterMode) → m ≡ m
 same_mode modes.In = refl
 same_mode modes.Out = refl
 same_mode modes.InOut = refl

@@ -1,8 +1,8 @@
 -- The procedures and the tables that a command names in code that has the tables and heads of a file are there in the file.
 use Rattle.std.proofs.Common.{◌≡◌, ℕ, zero, suc, Bool, true, false, List, [], ◌∷◌, map, length, Option, Some, is_some, refl, ap, ◌∙◌, subst, cond}
 use Rattle.std.specs.Prelude.{filter, not, slice_get, if◌then◌else◌}
-use Rattle.psm_resolved.specs.declared.file.ParameterMode.{ParameterMode}
-use Rattle.psm_resolved.specs.declared.file.ParameterMode.TheVariants as modes
+use Rattle.psm_terms.specs.declared.routines.ParameterMode.{ParameterMode}
+use Rattle.psm_terms.specs.declared.routines.ParameterMode.TheVariants as modes
 use Rattle.psm_resolved.specs.declared.file.ResolvedFile.{ResolvedFile}
 use Rattle.psm_resolved.specs.declared.file.ResolvedParameter.{ResolvedParameter}
 use Rattle.psm_resolved.specs.declared.file.ResolvedRoutine.{ResolvedRoutine}
@@ -52,7 +52,7 @@ procedures_there (routine ∷ routines) (r ∷ rs) h n x is = by r.is_function (
 
 -- ---- their parameters
 
-counted_here : (m : ParameterMode) (p : Parameter) (t : SqlType) (ps : List Parameter) (ts : List SqlType) → length ps ≡ length ts → length (if takes (lowered.mode_of m) then p ∷ ps else ps) ≡ length (with_taken m t ts)
+counted_here : (m : ParameterMode) (p : Parameter) (t : SqlType) (ps : List Parameter) (ts : List SqlType) → length ps ≡ length ts → length (if takes m then p ∷ ps else ps) ≡ length (with_taken m t ts)
 counted_here modes.In p t ps ts e = ap suc e
 counted_here modes.Out p t ps ts e = e
 counted_here modes.InOut p t ps ts e = ap suc e

@@ -3,9 +3,9 @@
 use Rattle.std.proofs.Common.{◌≡◌, Bool, true, false, ◌&&◌, ◌||◌, List, [], ◌∷◌, Option, Some, None, refl, ap, sym, subst}
 use Rattle.std.specs.List.{list_all}
 use Rattle.std.specs.Option.{option_map_or}
+use Rattle.psm_terms.specs.declared.functions.SetFunction.{SetFunction}
+use Rattle.psm_terms.specs.declared.functions.SetFunction.TheVariants as sets
 use Rattle.psm_exprcode.specs.declared.aggregate.Aggregate.{Aggregate}
-use Rattle.psm_exprcode.specs.declared.aggregate.SetFunction.{SetFunction}
-use Rattle.psm_exprcode.specs.declared.aggregate.SetFunction.TheVariants as sets
 use Rattle.psm_exprcode.specs.declared.items.Items.{Items}
 use Rattle.psm_exprcode.specs.declared.items.Items.TheVariants as coded
 use Rattle.psm_exprcode.specs.declared.op.Letter.{Letter}

@@ -2,12 +2,8 @@
 -- the checker of scripts takes from the code of the file.
 use Rattle.std.specs.Prelude.{ℕ, suc, is_some, Some, List, [], ◌∷◌, ◌++◌, map, length, if◌then◌else◌}
 use Rattle.psm_scope.specs.Routines.{procedure}
-use Rattle.psm_scope.specs.declared.procedures.ParameterMode.{ParameterMode as ScopeMode}
-use Rattle.psm_scope.specs.declared.procedures.ParameterMode.TheVariants as scope_modes
 use Rattle.psm_scope.specs.declared.procedures.ParameterScope.{ParameterScope}
 use Rattle.psm_rules.specs.BlockFaults.{declared_once}
-use Rattle.psm_resolved.specs.declared.file.ParameterMode.{ParameterMode}
-use Rattle.psm_resolved.specs.declared.file.ParameterMode.TheVariants as modes
 use Rattle.psm_resolved.specs.declared.file.ResolvedFile.{ResolvedFile}
 use Rattle.psm_resolved.specs.declared.file.ResolvedParameter.{ResolvedParameter}
 use Rattle.psm_resolved.specs.declared.file.ResolvedRoutine.{ResolvedRoutine}
@@ -33,13 +29,8 @@ with_keys keys (t ∷ ts) = with_keys (with_key keys t) ts
 
 -- ---- procedures, each with its number among them
 
-abbrev pub mode_of : ParameterMode → ScopeMode
-mode_of modes.In = scope_modes.In
-mode_of modes.Out = scope_modes.Out
-mode_of modes.InOut = scope_modes.InOut
-
 abbrev pub parameter_of : ResolvedParameter → ParameterScope
-parameter_of p = record { mode = mode_of p.mode; kind = Some p.kind }
+parameter_of p = record { mode = p.mode; kind = Some p.kind }
 
 abbrev pub with_procedure : Procedures → ℕ → ResolvedRoutine → Procedures
 with_procedure ps n r = if is_some (procedure r.name (length r.parameters) ps) then ps

@@ -1,13 +1,13 @@
 -- The parts of pieces of text, as they are written.
 use Rattle.std.specs.Prelude.{ℕ, List, [], ◌∷◌, ◌++◌, codes, encode_utf8_all, Option, Some, None, Result, Ok, Err}
+use Rattle.psm_terms.specs.declared.routines.ParameterMode.{ParameterMode}
+use Rattle.psm_terms.specs.declared.routines.ParameterMode.TheVariants.{In, Out, InOut}
 use Rattle.psm_value.specs.declared.datum.Datum.{Datum}
 use Rattle.psm_value.specs.Printed.{printed}
 use Rattle.psm_cond.specs.Condition.{Entries}
 use Rattle.psm_sqlstate.specs.declared.state.SqlState.{SqlState}
 use Rattle.psm_table.specs.Queries.{Answer}
 use Rattle.psm_code.specs.declared.code.Parameter.{Parameter}
-use Rattle.psm_code.specs.declared.code.ParameterMode.{ParameterMode}
-use Rattle.psm_code.specs.declared.code.ParameterMode.TheVariants.{In, Out, InOut}
 use Rattle.psm_code.specs.State.{End, Ended, Raised, NoTurns, Stuck}
 use Rattle.psm_meaning.specs.Acts.{of_state}
 use Rattle.psm_meaning.specs.Lines.{condition_lines, line, ok_line, turns_used_line}

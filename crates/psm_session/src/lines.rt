@@ -5,9 +5,10 @@ ghost use Rattle.psm_meaning.specs.Lines.{after_blank, condition_lines, entry_li
 ghost use Rattle.psm_session.specs.Pieces.{named_value, next_value, value_lines};
 
 use itoa::Buffer;
-use psm_code::{Parameter, ParameterMode};
+use psm_code::Parameter;
 use psm_cond::{Condition, Entry};
 use psm_store::Row;
+use psm_terms::ParameterMode;
 use psm_text::Name;
 use psm_value::Datum;
 use std::alloc::{AllocError, Global};

@@ -1,10 +1,10 @@
 -- IN over operands that stand there, of which the last one is taken first.
 use Rattle.std.proofs.Common.{◌≡◌, ℕ, suc, ◌+◌, List, [], ◌∷◌, length, map, refl, ap, sym, ◌∙◌, arith, Option, Some, None, Ok, option_map}
+use Rattle.psm_terms.specs.declared.operators.Comparison.TheVariants as comparisons
 use Rattle.psm_value.specs.declared.datum.Datum.{Datum}
 use Rattle.psm_value.specs.declared.truth.Truth.{Truth as Answer}
 use Rattle.psm_value.specs.declared.truth.Truth.TheVariants as truths
 use Rattle.psm_value.specs.Truth.{either}
-use Rattle.psm_resolved.specs.declared.expr.Comparison.TheVariants as comparisons
 use Rattle.psm_resolved.specs.RowValue.{tested}
 use Rattle.psm_exprcode.specs.declared.op.Op.TheVariants as ops
 use Rattle.psm_exprcode.specs.declared.operand.Operand.{Operand}

@@ -1,5 +1,7 @@
 -- How a call begins: its arguments are taken off the operands and stored, and it is tested how many routines run.
 use Rattle.std.proofs.Common.{◌≡◌, suc, ◌+◌, Bool, true, false, List, [], ◌∷◌, ◌++◌, filter, length, map, refl, ap, ◌∙◌, arith, Result, Ok, Err, if◌then◌else◌}
+use Rattle.psm_terms.specs.declared.routines.ParameterMode.{ParameterMode}
+use Rattle.psm_terms.specs.declared.routines.ParameterMode.TheVariants.{In, Out, InOut}
 use Rattle.psm_sqlstate.specs.declared.state.SqlState.{SqlState}
 use Rattle.psm_value.specs.declared.datum.Datum.{Datum}
 use Rattle.psm_value.specs.declared.datum.Datum.TheVariants.{Null}
@@ -7,8 +9,6 @@ use Rattle.psm_value.specs.declared.sqltype.SqlType.{SqlType}
 use Rattle.psm_value.specs.Stored.{stored}
 use Rattle.psm_exprcode.specs.declared.operand.Operand.{Operand}
 use Rattle.psm_exprcode.specs.declared.operand.Operand.TheVariants.{Value}
-use Rattle.psm_resolved.specs.declared.file.ParameterMode.{ParameterMode}
-use Rattle.psm_resolved.specs.declared.file.ParameterMode.TheVariants.{In, Out, InOut}
 use Rattle.psm_resolved.specs.declared.file.ResolvedParameter.{ResolvedParameter}
 use Rattle.psm_meaning.specs.Acts as meaning
 use Rattle.psm_meaning.specs.Acts.{Evaluated, Given, Got, Raises, Ends, Stuck, Meaning, OutOfFuel, NoTurns}
@@ -20,7 +20,7 @@ use Rattle.psm_code.specs.State as code_state
 use Rattle.psm_code.specs.State.{Machine}
 use Rattle.psm_code.specs.Steps as steps
 use Rattle.psm_simulation.specs.Expressions.{stacked, wants}
-use Rattle.psm_simulation.specs.Simulation.{mode_of, parameter_of}
+use Rattle.psm_simulation.specs.Simulation.{parameter_of}
 
 -- ---- arguments come off the operands
 
@@ -66,7 +66,7 @@ pops-stacked ds below m =
 
 -- ---- as many as the parameters take
 
-wants-takes : (mode : ParameterMode) → takes (mode_of mode) ≡ wants mode
+wants-takes : (mode : ParameterMode) → takes mode ≡ wants mode
 wants-takes In = refl
 wants-takes Out = refl
 wants-takes InOut = refl
@@ -121,7 +121,7 @@ stored-first ps args m st k h (Ok d) = others (λ ds. d ∷ ds) (calls.entered p
 stored-first ps args m st k h (Err s) = record { same = refl; stays = refl }
 
 first-entered : (mode : ParameterMode) (t : SqlType) (ps : List ResolvedParameter) (args : List Datum) (m : Meaning) (st : State) (k : Machine) → ((args : List Datum) → Gives (calls.entered ps args m st) (coded.entered (map parameter_of ps) args k) st k)
-    → Gives (meaning.◌>>=◌ (calls.passed mode t args) (entering ps) m st) (steps.◌>>=◌ (coded.passed (mode_of mode) t args) (entering_code ps) k) st k
+    → Gives (meaning.◌>>=◌ (calls.passed mode t args) (entering ps) m st) (steps.◌>>=◌ (coded.passed mode t args) (entering_code ps) k) st k
 first-entered Out t ps args m st k h = others (λ ds. Null ∷ ds) (calls.entered ps args) (coded.entered (map parameter_of ps) args) m st k (h args)
 first-entered In t ps [] m st k h = record { same = refl; stays = refl }
 first-entered InOut t ps [] m st k h = record { same = refl; stays = refl }

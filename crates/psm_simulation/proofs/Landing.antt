@@ -1,13 +1,13 @@
 -- Where a condition lands: in a handler, after the statement, or outside the routine.
 use Rattle.std.proofs.Common.{◌≡◌, ℕ, zero, suc, Bool, true, false, List, [], ◌∷◌, map, refl, ap, sym, ◌∙◌, subst, Option, Some, None, if◌then◌else◌}
+use Rattle.psm_terms.specs.declared.routines.HandlerKind.{HandlerKind}
+use Rattle.psm_terms.specs.declared.routines.HandlerKind.TheVariants.{Continue, Exit, Undo}
 use Rattle.psm_sqlstate.specs.Kind.{kind_of}
 use Rattle.psm_cond.specs.Choice.{chosen as chosen_of, is_exception}
 use Rattle.psm_cond.specs.Condition.{Entries}
 use Rattle.psm_cond.specs.Handlers.{Numbered, handler_rank, number_of, scopes}
 use Rattle.psm_cond.specs.Handlers as asking
 use Rattle.psm_cond.specs.declared.handlers.Handler.{Handler}
-use Rattle.psm_cond.specs.declared.handlers.HandlerKind.{HandlerKind}
-use Rattle.psm_cond.specs.declared.handlers.HandlerKind.TheVariants.{Continue, Exit, Undo}
 use Rattle.psm_exprcode.specs.declared.operand.Operand.{Operand}
 use Rattle.psm_resolved.specs.declared.file.ResolvedFile.{ResolvedFile}
 use Rattle.psm_resolved.specs.declared.file.ResolvedRoutine.{ResolvedRoutine}

@@ -1,13 +1,13 @@
 -- CALL.
 use Rattle.std.proofs.Common.{◌≡◌, ℕ, suc, Bool, true, not, List, [], ◌∷◌, filter, length, map, slice_get, refl, ap, sym, ◌∙◌, subst, Option, Some, None, IfSome, if◌then◌else◌}
+use Rattle.psm_terms.specs.declared.routines.ParameterMode.{ParameterMode}
+use Rattle.psm_terms.specs.declared.routines.ParameterMode.TheVariants as modes
 use Rattle.psm_value.specs.declared.datum.Datum.{Datum}
 use Rattle.psm_value.specs.declared.sqltype.SqlType.{SqlType}
 use Rattle.psm_exprcode.specs.Applied.{with_named}
 use Rattle.psm_exprcode.specs.declared.op.Op.TheVariants as op
 use Rattle.psm_exprcode.specs.declared.operand.Operand.{Operand}
 use Rattle.psm_exprcode.specs.declared.operand.Operand.TheVariants.{Value}
-use Rattle.psm_resolved.specs.declared.file.ParameterMode.{ParameterMode}
-use Rattle.psm_resolved.specs.declared.file.ParameterMode.TheVariants as modes
 use Rattle.psm_resolved.specs.declared.file.ResolvedFile.{ResolvedFile}
 use Rattle.psm_resolved.specs.declared.file.ResolvedParameter.{ResolvedParameter}
 use Rattle.psm_resolved.specs.declared.file.ResolvedRoutine.{ResolvedRoutine}
@@ -32,7 +32,7 @@ use Rattle.psm_simulation.specs.Agreement.{Evaluates, Fits, Leads, Spot, areas, 
 use Rattle.psm_simulation.specs.Env.{Env, Plain, Raising, outermost, eval_context_of}
 use Rattle.psm_simulation.specs.Expressions.{stacked, wants}
 use Rattle.psm_simulation.specs.Scheme.{AreFor, AreForRoutine, Arguments, IsProcedure, Stores, slots_given}
-use Rattle.psm_simulation.specs.Simulation.{Evals, FileStands, RoutineStands, Simulates, last_instruction, mode_of, parameter_of}
+use Rattle.psm_simulation.specs.Simulation.{Evals, FileStands, RoutineStands, Simulates, last_instruction, parameter_of}
 use Rattle.psm_simulation.proofs.Calling.{call-rests, within}
 use Rattle.psm_simulation.proofs.Doing.{Site, at_line}
 use Rattle.psm_simulation.proofs.Evaluating.{evaluates-from, evaluates-operation, evals-bind, evals-got, given_of}
@@ -102,14 +102,14 @@ evals-given_back eval_context p same (arguments.Out slot ∷ args) (q ∷ ps) f 
 evals-given_back eval_context p same (arguments.InOut slot ∷ args) (q ∷ ps) f [] x = record { by = λ st d. tt }
 evals-given_back {code = code} {r = r} {k = k} {following = following} {spot = spot} {m = m} eval_context p same (arguments.In e ∷ args) (q ∷ ps) f (d ∷ ds) {pc = pc} {end = end} x =
     let rest = parts.given_back (map parameter_of ps) ds in
-    subst (λ mode. Evals code r k following spot m (given_back eval_context args ds) (at_line spot pc (on_top (back (mode_of mode) d rest) [])) (λ u. at_line spot end [])) (sym f.0) (evals-given_back eval_context p same args ps f.1 ds x)
+    subst (λ mode. Evals code r k following spot m (given_back eval_context args ds) (at_line spot pc (on_top (back mode d rest) [])) (λ u. at_line spot end [])) (sym f.0) (evals-given_back eval_context p same args ps f.1 ds x)
 evals-given_back {code = code} {r = r} {k = k} {following = following} {spot = spot} {m = m} eval_context p same (arguments.Out slot ∷ args) (q ∷ ps) f (d ∷ ds) {pc = pc} {end = end} (l, x) =
     let rest = parts.given_back (map parameter_of ps) ds in
-    subst (λ mode. Evals code r k following spot m (given_back eval_context (arguments.Out slot ∷ args) (d ∷ ds)) (at_line spot pc (on_top (back (mode_of mode) d rest) [])) (λ u. at_line spot end [])) (sym f.0)
+    subst (λ mode. Evals code r k following spot m (given_back eval_context (arguments.Out slot ∷ args) (d ∷ ds)) (at_line spot pc (on_top (back mode d rest) [])) (λ u. at_line spot end [])) (sym f.0)
     (evals-bind (evals-store eval_context p same l d (on_top rest [])) (λ u. evals-given_back eval_context p same args ps f.1 ds x))
 evals-given_back {code = code} {r = r} {k = k} {following = following} {spot = spot} {m = m} eval_context p same (arguments.InOut slot ∷ args) (q ∷ ps) f (d ∷ ds) {pc = pc} {end = end} (l, x) =
     let rest = parts.given_back (map parameter_of ps) ds in
-    subst (λ mode. Evals code r k following spot m (given_back eval_context (arguments.InOut slot ∷ args) (d ∷ ds)) (at_line spot pc (on_top (back (mode_of mode) d rest) [])) (λ u. at_line spot end [])) (sym f.0)
+    subst (λ mode. Evals code r k following spot m (given_back eval_context (arguments.InOut slot ∷ args) (d ∷ ds)) (at_line spot pc (on_top (back mode d rest) [])) (λ u. at_line spot end [])) (sym f.0)
     (evals-bind (evals-store eval_context p same l d (on_top rest [])) (λ u. evals-given_back eval_context p same args ps f.1 ds x))
 
 -- ---- the end of a procedure

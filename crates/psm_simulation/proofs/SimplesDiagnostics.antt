@@ -1,6 +1,10 @@
 -- GET DIAGNOSTICS, which leaves the areas as they are.
 use Rattle.std.proofs.Common.{◌≡◌, ℕ, suc, List, [], ◌∷◌, codes, length, map, slice_get, refl, sym, ap, ◌∙◌, subst, Option, Some, None, Result, Ok, Err, if◌then◌else◌}
 use Rattle.std.specs.declared.cmp.Ordering.{Ordering}
+use Rattle.psm_terms.specs.declared.diagnostics.ConditionItem.{ConditionItem}
+use Rattle.psm_terms.specs.declared.diagnostics.DiagnosticsArea.{DiagnosticsArea}
+use Rattle.psm_terms.specs.declared.diagnostics.DiagnosticsArea.TheVariants as which_area
+use Rattle.psm_terms.specs.declared.diagnostics.StatementItem.{StatementItem}
 use Rattle.psm_sqlstate.specs.declared.state.SqlState.{SqlState}
 use Rattle.psm_value.specs.declared.datum.Datum.{Datum}
 use Rattle.psm_value.specs.declared.datum.Datum.TheVariants as data_of
@@ -10,10 +14,6 @@ use Rattle.psm_value.specs.Stored.{stored}
 use Rattle.psm_cond.specs.Area.{Diagnostics}
 use Rattle.psm_cond.specs.Item.{entries_of, entry_item, statement_item, whole}
 use Rattle.psm_cond.specs.declared.entry.Entry.{Entry}
-use Rattle.psm_cond.specs.declared.item.ConditionItem.{ConditionItem}
-use Rattle.psm_cond.specs.declared.item.DiagnosticsArea.{DiagnosticsArea}
-use Rattle.psm_cond.specs.declared.item.DiagnosticsArea.TheVariants as which_area
-use Rattle.psm_cond.specs.declared.item.StatementItem.{StatementItem}
 use Rattle.psm_exprcode.specs.declared.op.Letter.TheVariants.{N}
 use Rattle.psm_exprcode.specs.declared.op.Op.TheVariants as op
 use Rattle.psm_exprcode.specs.declared.operand.Operand.{Operand}

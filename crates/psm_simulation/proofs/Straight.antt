@@ -2,6 +2,8 @@
 use Rattle.std.proofs.Common.{◌≡◌, ℕ, suc, Bool, true, List, [], ◌∷◌, length, map, refl, ap, sym, Option, Some, None, Result, Ok}
 use Rattle.std.specs.Prelude.{slice_get}
 use Rattle.psm_list.specs.Several.{Several}
+use Rattle.psm_terms.specs.declared.functions.TextFunction.{TextFunction}
+use Rattle.psm_terms.specs.declared.functions.TextFunction.TheVariants as functions
 use Rattle.psm_text.specs.Parts.{upper_of, lower_of}
 use Rattle.psm_value.specs.declared.datum.Datum.{Datum}
 use Rattle.psm_value.specs.declared.truth.Truth.{Truth as Answer}
@@ -20,8 +22,6 @@ use Rattle.psm_exprcode.specs.Texts.{trim_of}
 use Rattle.psm_exprcode.specs.Values.{length_of, like, like_escaped, on_text, part_from, part_of, position_of}
 use Rattle.psm_resolved.specs.declared.expr.ResolvedExpr.{ResolvedExpr}
 use Rattle.psm_resolved.specs.declared.expr.ResolvedExpr.TheOpen as layers
-use Rattle.psm_resolved.specs.declared.expr.TextFunction.{TextFunction}
-use Rattle.psm_resolved.specs.declared.expr.TextFunction.TheVariants as functions
 use Rattle.psm_resolved.specs.declared.file.ResolvedFile.{ResolvedFile}
 use Rattle.psm_resolved.specs.Blocks.{put}
 use Rattle.psm_resolved.specs.Outcomes as outcomes

@@ -1,5 +1,7 @@
 -- What a run of the code ends in, where the meaning of a part is known.
 use Rattle.std.specs.Prelude.{◌≡◌, ◌⊎◌, ℕ, suc, Bool, true, false, ◌||◌, List, [], ◌∷◌, length, map, nat_eq, slice_get, Option, Some, None, if◌then◌else◌}
+use Rattle.psm_terms.specs.declared.routines.HandlerKind.{HandlerKind}
+use Rattle.psm_terms.specs.declared.routines.HandlerKind.TheVariants as kinds
 use Rattle.psm_sqlstate.specs.declared.state.SqlState.{SqlState}
 use Rattle.psm_sqlstate.specs.Kind.{kind_of}
 use Rattle.psm_value.specs.declared.datum.Datum.{Datum}
@@ -7,8 +9,6 @@ use Rattle.psm_cond.specs.Area.{Diagnostics, clear}
 use Rattle.psm_cond.specs.Choice.{is_exception}
 use Rattle.psm_cond.specs.Condition.{Entries, by_state}
 use Rattle.psm_cond.specs.declared.handlers.Handler.{Handler}
-use Rattle.psm_cond.specs.declared.handlers.HandlerKind.{HandlerKind}
-use Rattle.psm_cond.specs.declared.handlers.HandlerKind.TheVariants as kinds
 use Rattle.psm_exprcode.specs.declared.operand.Operand.{Operand}
 use Rattle.psm_table.specs.Cursors.{Cursor, Closed}
 use Rattle.psm_table.specs.Cursors as cursors

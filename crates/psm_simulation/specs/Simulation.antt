@@ -3,8 +3,6 @@ use Rattle.std.specs.Prelude.{◌≡◌, ℕ, true, List, [], ◌∷◌, map, le
 use Rattle.psm_exprcode.specs.declared.op.Letter.{Letter}
 use Rattle.psm_exprcode.specs.declared.operand.Operand.{Operand}
 use Rattle.psm_resolved.specs.declared.expr.ResolvedExpr.{ResolvedExpr}
-use Rattle.psm_resolved.specs.declared.file.ParameterMode.{ParameterMode}
-use Rattle.psm_resolved.specs.declared.file.ParameterMode.TheVariants as modes
 use Rattle.psm_resolved.specs.declared.file.ResolvedFile.{ResolvedFile}
 use Rattle.psm_resolved.specs.declared.file.ResolvedParameter.{ResolvedParameter}
 use Rattle.psm_resolved.specs.declared.file.ResolvedRoutine.{ResolvedRoutine}
@@ -14,8 +12,6 @@ use Rattle.psm_value.specs.declared.sqltype.SqlType.{SqlType}
 use Rattle.psm_meaning.specs.Acts.{Act, Do, Meaning, Round, operand}
 use Rattle.psm_meaning.specs.State.{State}
 use Rattle.psm_code.specs.declared.code.Parameter.{Parameter}
-use Rattle.psm_code.specs.declared.code.ParameterMode.{ParameterMode as CodeMode}
-use Rattle.psm_code.specs.declared.code.ParameterMode.TheVariants as code_modes
 use Rattle.psm_code.specs.declared.code.RawCode.{RawCode}
 use Rattle.psm_code.specs.declared.code.RawRoutine.{RawRoutine}
 use Rattle.psm_code.specs.declared.instruction.Instruction.{Instruction}
@@ -30,13 +26,8 @@ use Rattle.psm_simulation.specs.Scheme.{Rounds, Stands}
 
 -- ---- routines and files
 
-abbrev pub mode_of : ParameterMode → CodeMode
-mode_of modes.In = code_modes.In
-mode_of modes.Out = code_modes.Out
-mode_of modes.InOut = code_modes.InOut
-
 abbrev pub parameter_of : ResolvedParameter → Parameter
-parameter_of p = record { mode = mode_of p.mode; name = p.name; kind = p.kind }
+parameter_of p = record { mode = p.mode; name = p.name; kind = p.kind }
 
 -- the line after the body: a procedure ends there, and a function that comes there raises a condition
 abbrev pub last_instruction : Option SqlType → Instruction

@@ -1,11 +1,12 @@
 //! The parameters of routines as calls see them (ISO/IEC 9075-4:1996, SQL-invoked routine).
 ghost use Rattle.std.specs.Prelude.{◌≡◌, map, IfOk};
-ghost use Rattle.psm_rules.specs.FileFaults.{is_in, kind_of, mode_of, parameter_of};
+ghost use Rattle.psm_rules.specs.FileFaults.{is_in, kind_of, parameter_of};
 
 use psm_check_expr::type_of;
 use psm_list::List;
-use psm_scope::{ArgKind, ParameterMode, ParameterScope};
-use psm_tree::{Mode, Parameter, TypeForm};
+use psm_scope::{ArgKind, ParameterScope};
+use psm_terms::ParameterMode;
+use psm_tree::{Parameter, TypeForm};
 use std::alloc::{AllocError, Global};
 
 /// The kinds of parameters, by which a function is chosen. Fails only without memory.
@@ -42,30 +43,19 @@ pub fn parameters_of(
     let mut known = Vec::new(alloc);
     for parameter in parameters {
         known.push(ParameterScope {
-            mode: mode_of(parameter.mode),
+            mode: parameter.mode,
             kind: type_of(&parameter.kind),
         })?;
     }
     Ok(List::of(known))
 }
 
-/// The mode of a parameter.
-pub fn mode_of(mode: Mode) -> ParameterMode
-    ensures { result ≡ mode_of mode }
-{
-    match mode {
-        Mode::In => ParameterMode::In,
-        Mode::Out => ParameterMode::Out,
-        Mode::InOut => ParameterMode::InOut,
-    }
-}
-
 /// Whether a parameter can't be set.
-pub fn is_in(mode: Mode) -> bool
+pub fn is_in(mode: ParameterMode) -> bool
     ensures { result ≡ is_in mode }
 {
     match mode {
-        Mode::In => true,
-        Mode::Out | Mode::InOut => false,
+        ParameterMode::In => true,
+        ParameterMode::Out | ParameterMode::InOut => false,
     }
 }

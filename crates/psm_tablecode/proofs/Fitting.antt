@@ -6,13 +6,13 @@ use Rattle.std.specs.Option.{option_map_or}
 use Rattle.std.proofs.lemmas.List.{length-map}
 use Rattle.std.proofs.lemmas.List.Elements.{All-head, All-tail}
 use Rattle.std.proofs.lemmas.List.Sums.{AllPass-from_list_all}
+use Rattle.psm_terms.specs.declared.functions.SetFunction.{SetFunction}
+use Rattle.psm_terms.specs.declared.functions.SetFunction.TheVariants.{Count, Sum, Min, Max, Avg}
 use Rattle.psm_value.specs.declared.datum.Datum.{Datum}
 use Rattle.psm_value.specs.declared.datum.Datum.TheVariants.{Null, Num, Text}
 use Rattle.psm_value.specs.declared.sqltype.SqlType.{SqlType}
 use Rattle.psm_value.specs.declared.sqltype.SqlType.TheVariants.{SmallInt, Integer, Numeric, Char, VarChar}
 use Rattle.psm_value.specs.SqlType.{IsOfFamily}
-use Rattle.psm_exprcode.specs.declared.aggregate.SetFunction.{SetFunction}
-use Rattle.psm_exprcode.specs.declared.aggregate.SetFunction.TheVariants.{Count, Sum, Min, Max, Avg}
 use Rattle.psm_exprcode.specs.declared.items.Items.{Items}
 use Rattle.psm_exprcode.specs.declared.items.Items.TheVariants.{Rows, Sets}
 use Rattle.psm_exprcode.specs.declared.op.Letter.{Letter}

@@ -1,13 +1,13 @@
 -- Queries whose expressions are code.
 use Rattle.std.specs.Prelude.{List, map, Some, None, Result, Ok, Err}
+use Rattle.psm_terms.specs.declared.functions.SetFunction as set_code_function
+use Rattle.psm_terms.specs.declared.functions.SetFunction.TheVariants as function_code
 use Rattle.psm_sqlstate.specs.declared.state.SqlState.{SqlState}
 use Rattle.psm_value.specs.declared.datum.Datum.{Datum}
 use Rattle.psm_value.specs.declared.datum.Datum.TheVariants.{Null}
 use Rattle.psm_value.specs.declared.truth.Truth as truth_of
 use Rattle.psm_value.specs.declared.truth.Truth.TheVariants.{Unknown}
 use Rattle.psm_exprcode.specs.declared.aggregate.Aggregate as set_code
-use Rattle.psm_exprcode.specs.declared.aggregate.SetFunction as set_code_function
-use Rattle.psm_exprcode.specs.declared.aggregate.SetFunction.TheVariants as function_code
 use Rattle.psm_exprcode.specs.declared.items.Items as items_code
 use Rattle.psm_exprcode.specs.declared.items.Items.TheVariants as items_variant
 use Rattle.psm_exprcode.specs.declared.op.Line.{Line}

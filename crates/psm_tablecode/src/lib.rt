@@ -13,7 +13,7 @@ mod walking;
 pub use evaluating::{meets, taken, truth, value, values};
 pub use laws::{access_between_bounds, access_by_key, access_by_unique, constant_folding};
 pub use psm_cond::DataFault;
-pub use psm_exprcode::{Aggregate, ExprCode, Items, Operand, Query, SetFunction};
+pub use psm_exprcode::{Aggregate, ExprCode, Items, Operand, Query};
 pub use raising::raised;
 pub use typing::{column_letters, gives_truth, gives_value, type_checks};
 pub use walking::{Coming, Edge, Unique, Walk, walk_of};

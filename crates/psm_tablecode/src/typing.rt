@@ -4,8 +4,9 @@ ghost use Rattle.std.specs.List.{list_all};
 ghost use Rattle.std.specs.Option.{option_map_or};
 ghost use Rattle.psm_tablecode.specs.TypeChecks.{fits_query, give_items, gives_operand as gives_operand_code, gives_set, gives_truth as gives_truth_code, gives_value as gives_value_code, letters_of};
 
-use psm_exprcode::{Aggregate, ExprCode, Items, Letter, Query, SetFunction};
+use psm_exprcode::{Aggregate, ExprCode, Items, Letter, Query};
 use psm_table::TableDef;
+use psm_terms::SetFunction;
 use std::alloc::{AllocError, Global};
 
 /// The letters of a table's columns, in order.

@@ -1,6 +1,10 @@
 -- Where each kind of expression, block and statement begins.
 use Rattle.std.proofs.Common.{◌≡◌, ℕ, Bool, List, Option, Some, None, ap}
 use denote.Hole.Carrier
+use Rattle.psm_terms.specs.declared.operators.LogicalOperator.{LogicalOperator}
+use Rattle.psm_terms.specs.declared.operators.Comparison.{Comparison}
+use Rattle.psm_terms.specs.declared.functions.SetFunction.{SetFunction}
+use Rattle.psm_terms.specs.declared.functions.TextFunction.{TextFunction}
 use Rattle.psm_num.specs.Num.{Num}
 use Rattle.psm_list.specs.Several.{Several}
 use Rattle.psm_token.specs.declared.place.Place.{Place}
@@ -13,16 +17,12 @@ use Rattle.psm_tree.specs.declared.expr.Expr.TheVariants as exprs
 use Rattle.psm_tree.specs.declared.expr.Expr.TheOpen.{Expr-F, Pick-F}
 use Rattle.psm_tree.specs.declared.expr.Expr.TheOpen as layers
 use Rattle.psm_tree.specs.declared.expr.Expr.TheFolds.{map-Expr, map-Pick, fold-ChainLink, fold-Select, fold-When, fold-roll-Expr, fold-roll-Pick}
-use Rattle.psm_tree.specs.declared.expr.LogicalOperator.{LogicalOperator}
-use Rattle.psm_tree.specs.declared.expr.Comparison.{Comparison}
 use Rattle.psm_tree.specs.declared.expr.ChainLink.{ChainLink}
 use Rattle.psm_tree.specs.declared.expr.Select.{Select}
 use Rattle.psm_tree.specs.declared.expr.When.{When}
 use Rattle.psm_tree.specs.declared.expr.Pick.{Pick, roll-Pick}
 use Rattle.psm_tree.specs.declared.expr.Pick.TheVariants as picked
-use Rattle.psm_tree.specs.declared.expr.SetFunction.{SetFunction}
-use Rattle.psm_tree.specs.declared.expr.TextFunction.{TextFunction}
-use Rattle.psm_tree.specs.declared.expr.TrimSide.{TrimSide}
+use Rattle.psm_text.specs.declared.parts.Side.{Side}
 use Rattle.psm_tree.specs.declared.statement.Statement.{Statement}
 use Rattle.psm_tree.specs.declared.statement.Statement.TheVariants as statements
 use Rattle.psm_tree.specs.declared.statement.Block.{Block}
@@ -149,7 +149,7 @@ pub place-Substring : (place : Place) (text from : Expr) (length : Option Expr) 
 unfolding roll-Expr Carrier.roll
 place-Substring place text from length = expr_rolled (layers.Substring place text from length)
 
-pub place-Trim : (place : Place) (side : TrimSide) (text : Expr) → expr_place (exprs.Trim place side text) ≡ place
+pub place-Trim : (place : Place) (side : Side) (text : Expr) → expr_place (exprs.Trim place side text) ≡ place
 unfolding roll-Expr Carrier.roll
 place-Trim place side text = expr_rolled (layers.Trim place side text)
 

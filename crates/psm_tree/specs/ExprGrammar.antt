@@ -21,7 +21,7 @@ use Rattle.psm_tree.specs.declared.types.DataType.{DataType}
 use Rattle.psm_tree.specs.declared.types.Constant.{Constant}
 use Rattle.psm_tree.specs.declared.expr.Expr.{Expr}
 use Rattle.psm_tree.specs.declared.expr.ChainLink.{ChainLink}
-use Rattle.psm_tree.specs.declared.expr.TrimSide.{TrimSide}
+use Rattle.psm_text.specs.declared.parts.Side.{Side}
 use Rattle.psm_tree.specs.declared.expr.When.{When}
 use Rattle.psm_tree.specs.declared.expr.Select.{Select}
 use Rattle.psm_tree.specs.declared.expr.Pick.{Pick}
@@ -379,14 +379,14 @@ unfoldable pub substring_rest : Gram (Expr × Expr × Option Expr)
 substring_rest = within_parens (seq triple expr (after_token (word w.From) (seq pair expr (optional for_length))))
 
 -- trim_rest = "(" [(LEADING|TRAILING|BOTH) FROM] expr ")"
-unfoldable pub sided : Gram (TrimSide × Expr)
+unfoldable pub sided : Gram (Side × Expr)
 sided = seq pair (token trim_side) (after_token (word w.From) expr)
 
-unfoldable pub trimmed : Gram (TrimSide × Expr)
+unfoldable pub trimmed : Gram (Side × Expr)
 trimmed = ahead (word_kind w.Leading ∷ word_kind w.Trailing ∷ word_kind w.Both ∷ []) (word_kind w.From ∷ [])
     (closed sided) (closed (image both_sides expr))
 
-unfoldable pub trim_rest : Gram (TrimSide × Expr)
+unfoldable pub trim_rest : Gram (Side × Expr)
 trim_rest = after_token (sign s.LeftParen) trimmed
 
 -- ---- a name that opens every production of names, types, constants, expressions and queries

@@ -1,5 +1,12 @@
 -- What the parts of an expression and of a query make.
 use Rattle.std.specs.Prelude.{ℕ, Bool, true, false, List, [], ◌∷◌, Option, Some, None}
+use Rattle.psm_terms.specs.declared.operators.LogicalOperator.{LogicalOperator}
+use Rattle.psm_terms.specs.declared.operators.LogicalOperator.TheVariants as logical_operators
+use Rattle.psm_terms.specs.declared.operators.Comparison.{Comparison}
+use Rattle.psm_terms.specs.declared.operators.Operator.{Operator}
+use Rattle.psm_terms.specs.declared.functions.TextFunction.{TextFunction}
+use Rattle.psm_terms.specs.declared.functions.SetFunction.{SetFunction}
+use Rattle.psm_terms.specs.declared.functions.SetFunction.TheVariants as sets
 use Rattle.psm_num.specs.Num.{Num}
 use Rattle.psm_token.specs.declared.place.Place.{Place}
 use Rattle.psm_list.specs.Several.{Several}
@@ -16,20 +23,13 @@ use Rattle.psm_tree.specs.declared.types.ConstantForm.TheVariants as constants
 use Rattle.psm_tree.specs.declared.types.Constant.{Constant}
 use Rattle.psm_tree.specs.declared.expr.Expr.{Expr}
 use Rattle.psm_tree.specs.declared.expr.Expr.TheVariants as exprs
-use Rattle.psm_tree.specs.declared.expr.LogicalOperator.{LogicalOperator}
-use Rattle.psm_tree.specs.declared.expr.LogicalOperator.TheVariants as logical_operators
-use Rattle.psm_tree.specs.declared.expr.Comparison.{Comparison}
-use Rattle.psm_tree.specs.declared.expr.Operator.{Operator}
 use Rattle.psm_tree.specs.declared.expr.ChainLink.{ChainLink, roll-ChainLink}
-use Rattle.psm_tree.specs.declared.expr.TextFunction.{TextFunction}
-use Rattle.psm_tree.specs.declared.expr.TrimSide.{TrimSide}
-use Rattle.psm_tree.specs.declared.expr.TrimSide.TheVariants as sides
+use Rattle.psm_text.specs.declared.parts.Side.{Side}
+use Rattle.psm_text.specs.declared.parts.Side.TheVariants as sides
 use Rattle.psm_tree.specs.declared.expr.When.{When, roll-When}
 use Rattle.psm_tree.specs.declared.expr.Select.{Select, roll-Select}
 use Rattle.psm_tree.specs.declared.expr.Pick.{Pick}
 use Rattle.psm_tree.specs.declared.expr.Pick.TheVariants as picked
-use Rattle.psm_tree.specs.declared.expr.SetFunction.{SetFunction}
-use Rattle.psm_tree.specs.declared.expr.SetFunction.TheVariants as sets
 
 abbrev pub pair : {A B : Type 0} → A → B → A × B
 pair a b = (a, b)
@@ -197,10 +197,10 @@ position_of place p = exprs.Position place p.0 p.1
 abbrev pub substring_of : Place → Expr × Expr × Option Expr → Expr
 substring_of place p = exprs.Substring place p.0 p.1 p.2
 
-abbrev pub trim_of : Place → TrimSide × Expr → Expr
+abbrev pub trim_of : Place → Side × Expr → Expr
 trim_of place p = exprs.Trim place p.0 p.1
 
-abbrev pub both_sides : Expr → TrimSide × Expr
+abbrev pub both_sides : Expr → Side × Expr
 both_sides text = (sides.Both, text)
 
 -- ---- CASE

@@ -1,5 +1,7 @@
 -- What the parts of a module file and of a script make.
 use Rattle.std.specs.Prelude.{List, [], ◌∷◌, Option, Some, None}
+use Rattle.psm_terms.specs.declared.routines.ParameterMode.{ParameterMode}
+use Rattle.psm_terms.specs.declared.routines.ParameterMode.TheVariants as modes
 use Rattle.psm_token.specs.declared.place.Place.{Place}
 use Rattle.psm_list.specs.Several.{Several}
 use Rattle.psm_tree.specs.Tests.{At}
@@ -23,8 +25,6 @@ use Rattle.psm_tree.specs.declared.file.References.{References}
 use Rattle.psm_tree.specs.declared.file.TableRule.{TableRule}
 use Rattle.psm_tree.specs.declared.file.TableRuleForm.{TableRuleForm}
 use Rattle.psm_tree.specs.declared.file.TableRuleForm.TheVariants as table_rules
-use Rattle.psm_tree.specs.declared.file.Mode.{Mode}
-use Rattle.psm_tree.specs.declared.file.Mode.TheVariants as modes
 use Rattle.psm_tree.specs.declared.file.Parameter.{Parameter}
 use Rattle.psm_tree.specs.declared.file.CharacteristicForm.{CharacteristicForm}
 use Rattle.psm_tree.specs.declared.file.Characteristic.{Characteristic}
@@ -92,7 +92,7 @@ table_of place t = record { place = place; name = t.name; elements = t.elements 
 
 -- ---- routines
 
-abbrev pub moded : At Mode → Identifier × DataType → Parameter
+abbrev pub moded : At ParameterMode → Identifier × DataType → Parameter
 moded mode p = record { place = mode.place; mode = mode.value; name = p.0; kind = p.1 }
 
 -- a parameter without a mode is IN

@@ -1,6 +1,7 @@
 -- The parts of the grammar that stand after a token of their own, and what the words of each say.
 use Rattle.std.specs.Prelude.{Bool, List, Option}
 use Rattle.psm_list.specs.Several.{Several}
+use Rattle.psm_terms.specs.declared.routines.HandlerKind.{HandlerKind}
 use Rattle.psm_tree.specs.Tests.{At}
 use Rattle.psm_tree.specs.declared.name.Identifier.{Identifier}
 use Rattle.psm_tree.specs.declared.types.DataType.{DataType}
@@ -8,7 +9,7 @@ use Rattle.psm_tree.specs.declared.types.State.{State}
 use Rattle.psm_tree.specs.declared.expr.Expr.{Expr}
 use Rattle.psm_tree.specs.declared.expr.Select.{Select}
 use Rattle.psm_tree.specs.declared.expr.When.{When}
-use Rattle.psm_tree.specs.declared.expr.TrimSide.{TrimSide}
+use Rattle.psm_text.specs.declared.parts.Side.{Side}
 use Rattle.psm_tree.specs.declared.statement.Statement.{Statement}
 use Rattle.psm_tree.specs.declared.statement.Branch.{Branch}
 use Rattle.psm_tree.specs.declared.statement.Declaration.{Declaration}
@@ -17,7 +18,6 @@ use Rattle.psm_tree.specs.declared.statement.Handler.{Handler}
 use Rattle.psm_tree.specs.declared.statement.ForHead.{ForHead}
 use Rattle.psm_tree.specs.declared.statement.OrderedQuery.{OrderedQuery}
 use Rattle.psm_tree.specs.declared.statement.Updatability.{Updatability}
-use Rattle.psm_tree.specs.declared.statement.HandlerKind.{HandlerKind}
 use Rattle.psm_tree.specs.declared.statement.HandlerValue.{HandlerValue}
 
 -- which declarations may still come in a block: all, all but variables and conditions, or handlers alone
@@ -93,7 +93,7 @@ V NullIfRest = Expr × Expr
 V FunctionRest = Expr
 V PositionRest = Expr × Expr
 V SubstringRest = Expr × Expr × Option Expr
-V TrimRest = TrimSide × Expr
+V TrimRest = Side × Expr
 V BeginRest = Bool × Body
 V LoopRest = Statements
 V WhileRest = Expr × Statements

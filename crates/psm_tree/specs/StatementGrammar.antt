@@ -1,5 +1,7 @@
 -- The grammar of statements, blocks and declarations (ISO/IEC 9075-4:1996).
 use Rattle.std.specs.Prelude.{ℕ, Bool, false, List, [], ◌∷◌, Option, Some, None}
+use Rattle.psm_terms.specs.declared.diagnostics.DiagnosticsArea.{DiagnosticsArea}
+use Rattle.psm_terms.specs.declared.diagnostics.DiagnosticsArea.TheVariants as areas
 use Rattle.psm_token.specs.declared.word.Word.TheVariants as w
 use Rattle.psm_token.specs.declared.sign.Sign.TheVariants as s
 use Rattle.psm_list.specs.Several.{Several}
@@ -29,8 +31,6 @@ use Rattle.psm_tree.specs.declared.statement.Signalled.{Signalled}
 use Rattle.psm_tree.specs.declared.statement.StatementInformation.{StatementInformation}
 use Rattle.psm_tree.specs.declared.statement.ConditionInformation.{ConditionInformation}
 use Rattle.psm_tree.specs.declared.statement.ConditionNumber.{ConditionNumber}
-use Rattle.psm_tree.specs.declared.statement.DiagnosticsArea.{DiagnosticsArea}
-use Rattle.psm_tree.specs.declared.statement.DiagnosticsArea.TheVariants as areas
 use Rattle.psm_tree.specs.declared.statement.Diagnostics.{Diagnostics}
 use Rattle.psm_tree.specs.declared.statement.Values.{Values}
 use Rattle.psm_tree.specs.declared.statement.InsertSource.{InsertSource}

@@ -1,5 +1,9 @@
 -- What the parts of a statement make.
 use Rattle.std.specs.Prelude.{ℕ, Bool, true, false, List, [], ◌∷◌, Option, Some, None}
+use Rattle.psm_terms.specs.declared.diagnostics.StatementItem.{StatementItem}
+use Rattle.psm_terms.specs.declared.diagnostics.DiagnosticsArea.{DiagnosticsArea}
+use Rattle.psm_terms.specs.declared.diagnostics.DiagnosticsArea.TheVariants as areas
+use Rattle.psm_terms.specs.declared.diagnostics.ConditionItem.{ConditionItem}
 use Rattle.psm_num.specs.Num.{Num}
 use Rattle.psm_token.specs.declared.place.Place.{Place}
 use Rattle.psm_list.specs.Several.{Several}
@@ -32,10 +36,6 @@ use Rattle.psm_tree.specs.declared.statement.HandlerValue.TheVariants as handled
 use Rattle.psm_tree.specs.declared.statement.Condition.{Condition as SignalCondition}
 use Rattle.psm_tree.specs.declared.statement.Condition.TheVariants as signals
 use Rattle.psm_tree.specs.declared.statement.Signalled.{Signalled}
-use Rattle.psm_tree.specs.declared.statement.StatementItem.{StatementItem}
-use Rattle.psm_tree.specs.declared.statement.DiagnosticsArea.{DiagnosticsArea}
-use Rattle.psm_tree.specs.declared.statement.DiagnosticsArea.TheVariants as areas
-use Rattle.psm_tree.specs.declared.statement.ConditionItem.{ConditionItem}
 use Rattle.psm_tree.specs.declared.statement.StatementInformation.{StatementInformation}
 use Rattle.psm_tree.specs.declared.statement.ConditionInformation.{ConditionInformation}
 use Rattle.psm_tree.specs.declared.statement.ConditionNumber.{ConditionNumber}

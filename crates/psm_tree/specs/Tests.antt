@@ -1,5 +1,21 @@
 -- The tokens that productions name: which kinds, and what each of them says.
 use Rattle.std.specs.Prelude.{ℕ, pos, List, [], ◌∷◌}
+use Rattle.psm_terms.specs.declared.operators.Comparison.{Comparison}
+use Rattle.psm_terms.specs.declared.operators.Comparison.TheVariants as comparisons
+use Rattle.psm_terms.specs.declared.operators.Operator.{Operator}
+use Rattle.psm_terms.specs.declared.operators.Operator.TheVariants as operators
+use Rattle.psm_terms.specs.declared.functions.TextFunction.{TextFunction}
+use Rattle.psm_terms.specs.declared.functions.TextFunction.TheVariants as functions
+use Rattle.psm_terms.specs.declared.functions.SetFunction.{SetFunction}
+use Rattle.psm_terms.specs.declared.functions.SetFunction.TheVariants as sets
+use Rattle.psm_terms.specs.declared.routines.HandlerKind.{HandlerKind}
+use Rattle.psm_terms.specs.declared.routines.HandlerKind.TheVariants as handlers
+use Rattle.psm_terms.specs.declared.diagnostics.StatementItem.{StatementItem}
+use Rattle.psm_terms.specs.declared.diagnostics.StatementItem.TheVariants as items
+use Rattle.psm_terms.specs.declared.diagnostics.ConditionItem.{ConditionItem}
+use Rattle.psm_terms.specs.declared.diagnostics.ConditionItem.TheVariants as conditions
+use Rattle.psm_terms.specs.declared.routines.ParameterMode.{ParameterMode}
+use Rattle.psm_terms.specs.declared.routines.ParameterMode.TheVariants as modes
 use Rattle.psm_num.specs.Num.{Num}
 use Rattle.psm_token.specs.declared.place.Place.{Place}
 use Rattle.psm_token.specs.declared.word.Word.{Word}
@@ -17,24 +33,8 @@ use Rattle.psm_tree.specs.FirstWords.{name_words}
 use Rattle.psm_tree.specs.declared.name.Identifier.{Identifier}
 use Rattle.psm_tree.specs.declared.types.Sign.{Sign as PlusMinus}
 use Rattle.psm_tree.specs.declared.types.Sign.TheVariants as signs
-use Rattle.psm_tree.specs.declared.expr.Comparison.{Comparison}
-use Rattle.psm_tree.specs.declared.expr.Comparison.TheVariants as comparisons
-use Rattle.psm_tree.specs.declared.expr.Operator.{Operator}
-use Rattle.psm_tree.specs.declared.expr.Operator.TheVariants as operators
-use Rattle.psm_tree.specs.declared.expr.TextFunction.{TextFunction}
-use Rattle.psm_tree.specs.declared.expr.TextFunction.TheVariants as functions
-use Rattle.psm_tree.specs.declared.expr.SetFunction.{SetFunction}
-use Rattle.psm_tree.specs.declared.expr.SetFunction.TheVariants as sets
-use Rattle.psm_tree.specs.declared.expr.TrimSide.{TrimSide}
-use Rattle.psm_tree.specs.declared.expr.TrimSide.TheVariants as sides
-use Rattle.psm_tree.specs.declared.statement.HandlerKind.{HandlerKind}
-use Rattle.psm_tree.specs.declared.statement.HandlerKind.TheVariants as handlers
-use Rattle.psm_tree.specs.declared.statement.StatementItem.{StatementItem}
-use Rattle.psm_tree.specs.declared.statement.StatementItem.TheVariants as items
-use Rattle.psm_tree.specs.declared.statement.ConditionItem.{ConditionItem}
-use Rattle.psm_tree.specs.declared.statement.ConditionItem.TheVariants as conditions
-use Rattle.psm_tree.specs.declared.file.Mode.{Mode}
-use Rattle.psm_tree.specs.declared.file.Mode.TheVariants as modes
+use Rattle.psm_text.specs.declared.parts.Side.{Side}
+use Rattle.psm_text.specs.declared.parts.Side.TheVariants as sides
 
 -- a token at the start of a file
 abbrev pub placed : Token → Placed
@@ -155,12 +155,12 @@ set_function_of _ = sets.Sum
 abbrev pub set_function : Test Placed (At SetFunction)
 set_function = one_word w.Sum (word_kind w.Sum ∷ word_kind w.Avg ∷ word_kind w.Min ∷ word_kind w.Max ∷ []) (at set_function_of)
 
-abbrev pub trim_side_of : Token → TrimSide
+abbrev pub trim_side_of : Token → Side
 trim_side_of (t.Word w.Leading) = sides.Leading
 trim_side_of (t.Word w.Trailing) = sides.Trailing
 trim_side_of _ = sides.Both
 
-abbrev pub trim_side : Test Placed TrimSide
+abbrev pub trim_side : Test Placed Side
 trim_side = one_word w.Both (word_kind w.Leading ∷ word_kind w.Trailing ∷ word_kind w.Both ∷ []) (λ p. trim_side_of p.token)
 
 abbrev pub integer_word : Test Placed Place
@@ -189,7 +189,7 @@ abbrev pub statement_item : Test Placed (At StatementItem)
 statement_item = one_word w.Number (word_kind w.Number ∷ word_kind w.More ∷ word_kind w.RowCount ∷ []) (at statement_item_of)
 
 abbrev pub condition_item_of : Token → ConditionItem
-condition_item_of (t.Word w.ReturnedSqlState) = conditions.ReturnedSqlState
+condition_item_of (t.Word w.ReturnedSqlState) = conditions.ReturnedSqlstate
 condition_item_of (t.Word w.ConditionIdentifier) = conditions.ConditionIdentifier
 condition_item_of (t.Word w.MessageText) = conditions.MessageText
 condition_item_of (t.Word w.MessageLength) = conditions.MessageLength
@@ -204,10 +204,10 @@ condition_item = one_word w.ConditionNumber (word_kind w.ConditionNumber ∷ wor
 abbrev pub exception_word : Test Placed Place
 exception_word = one_word w.Exception (word_kind w.Exception ∷ word_kind w.Condition ∷ []) place_of
 
-abbrev pub mode_of : Token → Mode
+abbrev pub mode_of : Token → ParameterMode
 mode_of (t.Word w.Out) = modes.Out
 mode_of (t.Word w.InOut) = modes.InOut
 mode_of _ = modes.In
 
-abbrev pub mode : Test Placed (At Mode)
+abbrev pub mode : Test Placed (At ParameterMode)
 mode = one_word w.In (word_kind w.In ∷ word_kind w.Out ∷ word_kind w.InOut ∷ []) (at mode_of)

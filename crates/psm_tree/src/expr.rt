@@ -6,52 +6,9 @@ use crate::name::{Identifier, Target};
 use crate::types::{DataType, Sign};
 use psm_list::{Boxed, List, OneOrMore};
 use psm_num::Dec;
-use psm_text::Text;
+use psm_terms::{Comparison, LogicalOperator, Operator, SetFunction, TextFunction};
+use psm_text::{Side, Text};
 use psm_token::Place;
-
-/// AND or OR.
-#[derive(Clone, Copy, Debug, PartialEq, Eq)]
-pub enum LogicalOperator {
-    And,
-    Or,
-}
-
-/// A comparison operator (ISO/IEC 9075:1992, 8.2).
-#[derive(Clone, Copy, Debug, PartialEq, Eq)]
-pub enum Comparison {
-    Equal,
-    NotEqual,
-    Less,
-    LessEqual,
-    Greater,
-    GreaterEqual,
-}
-
-/// `+`, `-`, `||`, `*` or `/`.
-#[derive(Clone, Copy, Debug, PartialEq, Eq)]
-pub enum Operator {
-    Add,
-    Subtract,
-    Concatenate,
-    Multiply,
-    Divide,
-}
-
-/// The functions of one text (ISO/IEC 9075:1992, 6.6 and 6.7).
-#[derive(Clone, Copy, Debug, PartialEq, Eq)]
-pub enum TextFunction {
-    CharLength,
-    Upper,
-    Lower,
-}
-
-/// Which end of a text TRIM works on.
-#[derive(Clone, Copy, Debug, PartialEq, Eq)]
-pub enum TrimSide {
-    Leading,
-    Trailing,
-    Both,
-}
 
 /// An expression, a condition or a source (ISO/IEC 9075:1992, 6.11 to 8.12).
 #[cycle(expression)]
@@ -171,7 +128,7 @@ pub enum Expr {
     },
     Trim {
         place: Place,
-        side: TrimSide,
+        side: Side,
         text: Boxed<Expr>,
     },
 }
@@ -237,16 +194,6 @@ pub struct Select {
     pub table: Identifier,
     pub alias: Option<Identifier>,
     pub condition: Option<Boxed<Expr>>,
-}
-
-/// A set function over an expression (ISO/IEC 9075:1992, 6.5).
-#[derive(Clone, Copy, Debug, PartialEq, Eq)]
-pub enum SetFunction {
-    Count,
-    Sum,
-    Avg,
-    Min,
-    Max,
 }
 
 /// An item of a query, and its own name where it has one.

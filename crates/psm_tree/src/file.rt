@@ -4,6 +4,7 @@ use crate::name::{Identifier, Names};
 use crate::statement::Statement;
 use crate::types::{Constant, DataType};
 use psm_list::{Boxed, List, OneOrMore};
+use psm_terms::ParameterMode;
 use psm_token::Place;
 
 /// A module file.
@@ -84,19 +85,11 @@ pub struct Module {
     pub routines: List<Routine>,
 }
 
-/// How a parameter passes its value.
-#[derive(Clone, Copy, Debug, PartialEq, Eq)]
-pub enum Mode {
-    In,
-    Out,
-    InOut,
-}
-
 /// A parameter. One without a mode is IN.
 #[derive(Debug, Drop)]
 pub struct Parameter {
     pub place: Place,
-    pub mode: Mode,
+    pub mode: ParameterMode,
     pub name: Identifier,
     pub kind: DataType,
 }

@@ -10,22 +10,19 @@ mod script;
 mod statement;
 mod types;
 
-pub use expr::{
-    ChainLink, Comparison, Expr, LogicalOperator, Operator, Pick, Select, SetFunction,
-    TextFunction, TrimSide, When,
-};
+pub use expr::{ChainLink, Expr, Pick, Select, When};
 pub use fault::ParseFault;
 pub use file::{
-    Characteristic, CharacteristicForm, ColumnRule, ColumnRuleForm, Element, FileTree, Mode,
-    Module, Parameter, References, Routine, TableRule, TableRuleForm, TableTree,
+    Characteristic, CharacteristicForm, ColumnRule, ColumnRuleForm, Element, FileTree, Module,
+    Parameter, References, Routine, TableRule, TableRuleForm, TableTree,
 };
 pub use laws::one_tree;
 pub use name::{Identifier, Names, Target, Targets};
 pub use script::{Argument, Command, ConstantRow, ScriptTree};
 pub use statement::{
-    Assignment, Block, Branch, Condition, ConditionInformation, ConditionItem, ConditionNumber,
-    CursorDeclaration, Declaration, Diagnostics, DiagnosticsArea, ForCursor, ForHead, Handler,
-    HandlerKind, HandlerValue, InsertSource, Label, Order, OrderColumn, OrderedQuery, Signalled,
-    Simple, Statement, StatementInformation, StatementItem, Updatability, Values, Where,
+    Assignment, Block, Branch, Condition, ConditionInformation, ConditionNumber, CursorDeclaration,
+    Declaration, Diagnostics, ForCursor, ForHead, Handler, HandlerValue, InsertSource, Label,
+    Order, OrderColumn, OrderedQuery, Signalled, Simple, Statement, StatementInformation,
+    Updatability, Values, Where,
 };
 pub use types::{Constant, ConstantForm, DataType, Precision, Sign, State, TypeForm};

@@ -7,6 +7,7 @@ use crate::name::{Identifier, Names, Target, Targets};
 use crate::types::{DataType, State};
 use psm_list::{Boxed, List, OneOrMore};
 use psm_num::Dec;
+use psm_terms::{ConditionItem, DiagnosticsArea, HandlerKind, StatementItem};
 use psm_token::Place;
 
 /// A statement (ISO/IEC 9075-4:1996).
@@ -205,14 +206,6 @@ pub struct CursorDeclaration {
     pub updatability: Option<Updatability>,
 }
 
-/// How a handler goes on (ISO/IEC 9075-4:1996, handler declarations).
-#[derive(Clone, Copy, Debug, PartialEq, Eq)]
-pub enum HandlerKind {
-    Continue,
-    Exit,
-    Undo,
-}
-
 /// `DECLARE` of a handler.
 #[cycle(statement)]
 #[derive(Drop)]
@@ -276,26 +269,6 @@ pub struct Signalled {
     pub message: Option<Boxed<Expr>>,
 }
 
-/// An item of a statement in the diagnostics area.
-#[derive(Clone, Copy, Debug, PartialEq, Eq)]
-pub enum StatementItem {
-    Number,
-    More,
-    RowCount,
-}
-
-/// An item of a condition in the diagnostics area.
-#[derive(Clone, Copy, Debug, PartialEq, Eq)]
-pub enum ConditionItem {
-    ConditionNumber,
-    ReturnedSqlState,
-    ConditionIdentifier,
-    MessageText,
-    MessageLength,
-    TableName,
-    CursorName,
-}
-
 /// A target and the item of the statement that it gets, with the item's place.
 #[derive(Debug, Drop)]
 pub struct StatementInformation {
@@ -329,15 +302,6 @@ impl ConditionNumber {
             ConditionNumber::Target(target) => target.place(),
         }
     }
-}
-
-/// Which diagnostics area GET DIAGNOSTICS looks at.
-#[derive(Clone, Copy, Debug, PartialEq, Eq)]
-pub enum DiagnosticsArea {
-    /// That of the last statement, which GET DIAGNOSTICS without CURRENT or STACKED reads too.
-    Current,
-    /// The one with which the handler was activated whose action runs (ISO/IEC 9075-4:1996).
-    Stacked,
 }
 
 /// What GET DIAGNOSTICS gets.

@@ -1,5 +1,7 @@
 -- Activations of well-typed routines are never stuck.
 use Rattle.std.proofs.Common.{codes, ◌≡◌, true, List, [], ◌∷◌, length, map, replicate, nat_lt, inl, inr, refl, sym, subst, arith, true≢false}
+use Rattle.psm_terms.specs.declared.routines.ParameterMode.{ParameterMode}
+use Rattle.psm_terms.specs.declared.routines.ParameterMode.TheVariants as modes
 use Rattle.psm_value.specs.declared.datum.Datum.{Datum}
 use Rattle.psm_value.specs.declared.datum.Datum.TheVariants.{Null}
 use Rattle.psm_value.specs.declared.sqltype.SqlType.{SqlType}
@@ -9,8 +11,6 @@ use Rattle.psm_exprcode.proofs.Results.{letter_of-value, null-letter}
 use Rattle.psm_exprcode.proofs.Standing.{both_true}
 use Rattle.psm_num.proofs.Literals.{and_first, and_second}
 use Rattle.psm_table.specs.Cursors.{Closed}
-use Rattle.psm_resolved.specs.declared.file.ParameterMode.{ParameterMode}
-use Rattle.psm_resolved.specs.declared.file.ParameterMode.TheVariants as modes
 use Rattle.psm_resolved.specs.declared.file.ResolvedFile.{ResolvedFile}
 use Rattle.psm_resolved.specs.declared.file.ResolvedParameter.{ResolvedParameter}
 use Rattle.psm_resolved.specs.declared.file.ResolvedRoutine.{ResolvedRoutine}

@@ -1,5 +1,7 @@
 -- Assignments, SET, CALL, SIGNAL, RESIGNAL and GET DIAGNOSTICS are never stuck.
 use Rattle.std.proofs.Common.{◌≡◌, ℕ, suc, true, false, not, List, [], ◌∷◌, length, Option, Some, None, refl, ap, sym, subst, ◌∙◌, slice_get, true≢false, arith}
+use Rattle.psm_terms.specs.declared.diagnostics.DiagnosticsArea.{DiagnosticsArea}
+use Rattle.psm_terms.specs.declared.diagnostics.DiagnosticsArea.TheVariants as which_area
 use Rattle.psm_num.proofs.Literals.{and_second}
 use Rattle.psm_value.specs.declared.datum.Datum.{Datum}
 use Rattle.psm_value.specs.declared.datum.Datum.TheVariants.{Null, Num, Text}
@@ -10,8 +12,6 @@ use Rattle.psm_cond.specs.Area.{Diagnostics}
 use Rattle.psm_cond.specs.Condition.{alone, «following» as in_front}
 use Rattle.psm_cond.specs.Item.{entries_of, entry_item, statement_item}
 use Rattle.psm_cond.specs.declared.entry.Entry.{Entry}
-use Rattle.psm_cond.specs.declared.item.DiagnosticsArea.{DiagnosticsArea}
-use Rattle.psm_cond.specs.declared.item.DiagnosticsArea.TheVariants as which_area
 use Rattle.psm_exprcode.specs.declared.op.Letter.TheVariants.{T}
 use Rattle.psm_exprcode.specs.Kinds.{are_of, has_letter, letter_of}
 use Rattle.psm_exprcode.proofs.Results.{letter_of-value}

@@ -1,6 +1,7 @@
 -- Well-typed expressions are never stuck: each form, where its parts do so.
 use Rattle.std.proofs.Common.{◌≡◌, ℕ, Bool, true, false, cond, List, [], ◌∷◌, length, map, filter, Option, Some, None, Ok, Err, inl, inr, refl, ap, sym, subst, ◌∙◌, zero, suc, slice_get, true≢false, unwrap_or}
 use Rattle.psm_list.specs.Several.{Several}
+use Rattle.psm_terms.specs.declared.operators.LogicalOperator.{LogicalOperator}
 use Rattle.psm_num.proofs.Literals.{and_first, and_second}
 use Rattle.psm_value.specs.declared.datum.Datum.{Datum}
 use Rattle.psm_value.specs.declared.datum.Datum.TheVariants.{Null}
@@ -17,7 +18,6 @@ use Rattle.psm_exprcode.specs.Kinds.{are_of, has_letter, is_value, letter_of}
 use Rattle.psm_exprcode.proofs.Results.{letter_of-value, null-letter}
 use Rattle.psm_table.specs.Queries as q
 use Rattle.psm_table.specs.Table.{Contents}
-use Rattle.psm_resolved.specs.declared.expr.LogicalOperator.{LogicalOperator}
 use Rattle.psm_resolved.specs.declared.expr.ResolvedExpr.{ResolvedExpr, out-ResolvedExpr}
 use Rattle.psm_resolved.specs.declared.expr.ResolvedExpr.TheOpen.{ResolvedExpr-F}
 use Rattle.psm_resolved.specs.declared.expr.ResolvedExpr.TheOpen as layers

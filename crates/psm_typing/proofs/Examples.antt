@@ -1,12 +1,12 @@
 -- A small file that is well-typed, and statements that aren't.
 use Rattle.std.proofs.Common.{true, false, [], ◌∷◌, None, inl, inr, refl, sym, subst, arith}
 use Rattle.std.specs.Prelude.{pos, codes}
+use Rattle.psm_terms.specs.declared.routines.HandlerKind.TheVariants as kinds
+use Rattle.psm_terms.specs.declared.routines.ParameterMode.TheVariants as modes
 use Rattle.psm_value.specs.declared.sqltype.SqlType.TheVariants as types
 use Rattle.psm_cond.specs.declared.handlers.ConditionValue.TheVariants as conditions
-use Rattle.psm_cond.specs.declared.handlers.HandlerKind.TheVariants as kinds
 use Rattle.psm_resolved.specs.declared.expr.ResolvedExpr.{ResolvedExpr}
 use Rattle.psm_resolved.specs.declared.expr.ResolvedExpr.TheVariants as exprs
-use Rattle.psm_resolved.specs.declared.file.ParameterMode.TheVariants as modes
 use Rattle.psm_resolved.specs.declared.file.ResolvedFile.{ResolvedFile}
 use Rattle.psm_resolved.specs.declared.file.ResolvedRoutine.{ResolvedRoutine}
 use Rattle.psm_resolved.specs.declared.statement.ResolvedArgument.TheVariants as arguments

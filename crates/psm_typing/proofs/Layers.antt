@@ -1,6 +1,12 @@
 -- What each operation ends in, the operands of which are of the letters that it asks for.
 use Rattle.std.proofs.Common.{◌≡◌, ℕ, Bool, true, List, [], ◌∷◌, Option, Some, None, Ok, refl}
 use Rattle.psm_list.specs.Several.{Several}
+use Rattle.psm_terms.specs.declared.operators.Comparison.{Comparison}
+use Rattle.psm_terms.specs.declared.operators.LogicalOperator.{LogicalOperator}
+use Rattle.psm_terms.specs.declared.operators.Operator.{Operator}
+use Rattle.psm_terms.specs.declared.operators.Operator.TheVariants as operators
+use Rattle.psm_terms.specs.declared.functions.TextFunction.{TextFunction}
+use Rattle.psm_terms.specs.declared.functions.TextFunction.TheVariants as functions
 use Rattle.psm_text.specs.declared.parts.Side.{Side}
 use Rattle.psm_text.specs.Parts.{upper_of, lower_of}
 use Rattle.psm_value.specs.declared.datum.Datum.{Datum}
@@ -13,12 +19,6 @@ use Rattle.psm_exprcode.specs.Kinds.{has_letter, is_value, letter_of}
 use Rattle.psm_exprcode.specs.Texts.{trim_of}
 use Rattle.psm_exprcode.proofs.Standing.{gives}
 use Rattle.psm_exprcode.proofs.Results.{sum-gives, difference-gives, product-gives, quotient-gives, negated-gives, rescaled-gives, concatenated-gives, length-gives, position-gives, part_from-gives, part_of-gives, on_text-gives, unless_equal-gives, cast-gives}
-use Rattle.psm_resolved.specs.declared.expr.Comparison.{Comparison}
-use Rattle.psm_resolved.specs.declared.expr.LogicalOperator.{LogicalOperator}
-use Rattle.psm_resolved.specs.declared.expr.Operator.{Operator}
-use Rattle.psm_resolved.specs.declared.expr.Operator.TheVariants as operators
-use Rattle.psm_resolved.specs.declared.expr.TextFunction.{TextFunction}
-use Rattle.psm_resolved.specs.declared.expr.TextFunction.TheVariants as functions
 use Rattle.psm_resolved.specs.declared.expr.ResolvedExpr.TheOpen as layers
 use Rattle.psm_resolved.specs.Outcomes.{at_scale, decided, of_two, valued}
 use Rattle.psm_resolved.specs.RowValue.{connective, function_of, listed, operated, value_layer}

@@ -1,7 +1,7 @@
 -- Well-typed blocks, handlers and branches that are put together from their parts.
 use Rattle.std.proofs.Common.{◌≡◌, ℕ, List, ◌∷◌, sym, subst}
+use Rattle.psm_terms.specs.declared.routines.HandlerKind.{HandlerKind}
 use Rattle.psm_cond.specs.declared.handlers.ConditionValue.{ConditionValue}
-use Rattle.psm_cond.specs.declared.handlers.HandlerKind.{HandlerKind}
 use Rattle.psm_exprcode.specs.declared.op.Letter.{Letter}
 use Rattle.psm_resolved.specs.declared.expr.ResolvedExpr.{ResolvedExpr}
 use Rattle.psm_resolved.specs.declared.statement.ResolvedBlock.{out-ResolvedBlock, roll-ResolvedBlock, out-roll-ResolvedBlock}

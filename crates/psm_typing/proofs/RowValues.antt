@@ -1,6 +1,7 @@
 -- The same of all row expressions, by their sizes.
 use Rattle.std.proofs.Common.{◌≡◌, ◌≤◌, ◌&&◌, ℕ, zero, suc, Bool, true, false, List, [], ◌∷◌, map, Option, Some, None, refl, sym, subst, arith, slice_get, le_trans, not-suc-le-zero, if◌then◌else◌}
 use Rattle.std.specs.List.{list_all}
+use Rattle.psm_terms.specs.declared.operators.Operator.{Operator}
 use Rattle.psm_num.proofs.Literals.{and_first, and_second}
 use Rattle.psm_value.specs.declared.datum.Datum.{Datum}
 use Rattle.psm_exprcode.specs.declared.op.Letter.{Letter}
@@ -9,7 +10,6 @@ use Rattle.psm_exprcode.specs.Evaluated.{Outcome}
 use Rattle.psm_exprcode.specs.Kinds.{are_of, has_letter, is_value, letter_of, some_value}
 use Rattle.psm_exprcode.specs.WellFormed.{is_type}
 use Rattle.psm_exprcode.proofs.Results.{null-letter}
-use Rattle.psm_resolved.specs.declared.expr.Operator.{Operator}
 use Rattle.psm_resolved.specs.declared.expr.ResolvedExpr.{ResolvedExpr, out-ResolvedExpr}
 use Rattle.psm_resolved.specs.declared.expr.ResolvedExpr.TheOpen.{ResolvedExpr-F}
 use Rattle.psm_resolved.specs.declared.expr.ResolvedExpr.TheOpen as layers

@@ -1,9 +1,9 @@
 -- The innermost action that runs: its end, and the area with which its handler was activated (ISO/IEC 9075-4:1996).
 use Rattle.std.specs.Prelude.{◌≡◌, Bool, true, false, List, [], ◌∷◌, length, reverse, Option, Some, None, Result}
+use Rattle.psm_terms.specs.declared.diagnostics.ConditionItem.{ConditionItem}
+use Rattle.psm_terms.specs.declared.diagnostics.StatementItem.{StatementItem}
 use Rattle.psm_value.specs.declared.datum.Datum.{Datum}
 use Rattle.psm_cond.specs.declared.fault.AreaFault.{AreaFault}
-use Rattle.psm_cond.specs.declared.item.ConditionItem.{ConditionItem}
-use Rattle.psm_cond.specs.declared.item.StatementItem.{StatementItem}
 use Rattle.psm_cond.specs.Area.{Diagnostics}
 use Rattle.psm_cond.specs.Item.{GivesItem, entries_of, statement_item}
 use Rattle.psm_code.specs.Run.{with_frames}

@@ -7,7 +7,8 @@ ghost use Rattle.psm_unwind.specs.Marks.{open_marks};
 ghost use Rattle.psm_unwind.specs.View.{frames_of, machine_of};
 
 use crate::run::{Frame, Run};
-use psm_cond::{AreaFault, Condition, ConditionItem, StatementItem};
+use psm_cond::{AreaFault, Condition};
+use psm_terms::{ConditionItem, StatementItem};
 use psm_value::Datum;
 use std::alloc::{AllocError, Global};
 

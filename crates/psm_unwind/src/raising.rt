@@ -19,9 +19,10 @@ use crate::leaving::leave_until;
 use crate::parts::{Place, handler_at, is_exception, place_of, routine_at};
 use crate::run::{Frame, Run};
 use psm_code::{RawCode, RawRoutine};
-use psm_cond::{Condition, Handler, HandlerKind, choose};
+use psm_cond::{Condition, Handler, choose};
 use psm_list::Boxed;
 use psm_store::{Store, go_back};
+use psm_terms::HandlerKind;
 use std::alloc::{AllocError, Global};
 
 /// What a condition meets in an activation.

@@ -5,9 +5,10 @@ ghost use Rattle.psm_code.specs.Parts.{giving, taking};
 ghost use Rattle.psm_exprcode.specs.Kinds.{letter_of};
 ghost use Rattle.psm_verify.specs.Called.{call_of, call_with};
 
-use psm_code::{Parameter, ParameterMode, RawRoutine};
+use psm_code::{Parameter, RawRoutine};
 use psm_exprcode::Letter;
 use psm_list::List;
+use psm_terms::ParameterMode;
 use std::alloc::{AllocError, Global};
 
 /// The letters of a routine's arguments, the last one first, and of the values that it gives back.

@@ -13,9 +13,10 @@ use crate::handlers::{is_condition, line_there};
 use crate::listing::passed;
 use crate::numbers::is_there;
 use psm_code::{CodeRule, RawRoutine};
-use psm_cond::{ConditionValue, ContextKind, Declared, Handler, HandlerKind};
+use psm_cond::{ConditionValue, ContextKind, Declared, Handler};
 use psm_keys::HandledSet;
 use psm_list::OneOrMore;
+use psm_terms::HandlerKind;
 use psm_verify_line::{is_action_of, is_bare};
 use std::alloc::{AllocError, Global};
 

@@ -10,8 +10,8 @@ ghost use Rattle.psm_verify.specs.Moves.{fall_through_of, branch_of, effect_of, 
 use crate::effects::{Effect, Run};
 use crate::verify_context::VerifyContext;
 use psm_code::Instruction;
-use psm_cond::{ConditionItem, StatementItem};
 use psm_exprcode::{Entry, Letter, Letters, Op};
+use psm_terms::{ConditionItem, StatementItem};
 
 pub(crate) fn none() -> Run<'static>
     ensures { run_of result ≡ [] }

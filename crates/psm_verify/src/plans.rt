@@ -12,7 +12,8 @@ use crate::listing::{next, passed};
 use crate::numbers::is_there;
 use crate::verify_context::VerifyContext;
 use psm_code::{CodeCursor, CodeRule, RawCode, RawRoutine};
-use psm_exprcode::{Aggregate, ExprCode, Items, Letter, Query, SetFunction};
+use psm_exprcode::{Aggregate, ExprCode, Items, Letter, Query};
+use psm_terms::SetFunction;
 use std::alloc::Global;
 
 impl<'a> VerifyContext<'a> {

@@ -10,8 +10,9 @@ ghost use Rattle.psm_verify.specs.Earlier.{is_new_parameter, is_new_routine};
 use crate::fault::Stop;
 use crate::listing::passed;
 use crate::types::is_type;
-use psm_code::{CodeRule, Parameter, ParameterMode, RawRoutine};
+use psm_code::{CodeRule, Parameter, RawRoutine};
 use psm_keys::NameSet;
+use psm_terms::ParameterMode;
 use psm_value::SqlType;
 use std::alloc::Global;
 

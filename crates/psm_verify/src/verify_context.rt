@@ -1,16 +1,17 @@
 //! What is known of code and of one of its routines before their lines are looked at.
 ghost use Rattle.std.specs.Prelude.{◌≡◌, ◌++◌, map, slice_get, IfOk, OnOk};
+ghost use Rattle.psm_terms.specs.declared.functions.SetFunction.TheVariants.{Min};
 ghost use Rattle.psm_exprcode.specs.Kinds.{letter_of};
 ghost use Rattle.psm_code.specs.Instructions as instructions;
-ghost use Rattle.psm_exprcode.specs.declared.aggregate.SetFunction.TheVariants.{Min};
 ghost use Rattle.psm_verify.specs.VerifyContext.{Known};
 
 use crate::calls::Call;
 use crate::expressions::known_end;
 use psm_code::{CodeTable, Parameter, RawCode, RawRoutine};
-use psm_exprcode::{Aggregate, ExprCode, Items, Letter, SetFunction};
+use psm_exprcode::{Aggregate, ExprCode, Items, Letter};
 use psm_list::List;
 use psm_tablecode::column_letters;
+use psm_terms::SetFunction;
 use psm_value::SqlType;
 use std::alloc::{AllocError, Global};
 

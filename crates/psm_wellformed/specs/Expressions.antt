@@ -1,9 +1,9 @@
 -- Expressions outside of rows as they are checked: NULL stands only where a value of a letter that is known may stand, as a result of
 -- CASE, a value of COALESCE, an argument or the source of CAST, types and scales are within bounds, and queries are well-formed.
 use Rattle.std.specs.Prelude.{◌≡◌, ℕ, Bool, true, false, List, [], ◌∷◌, Option, Some, None}
+use Rattle.psm_terms.specs.declared.operators.LogicalOperator.{LogicalOperator}
 use Rattle.psm_exprcode.specs.WellFormed.{is_type}
 use Rattle.psm_list.specs.Several.{Several}
-use Rattle.psm_resolved.specs.declared.expr.LogicalOperator.{LogicalOperator}
 use Rattle.psm_resolved.specs.declared.expr.ResolvedExpr.{ResolvedExpr, out-ResolvedExpr}
 use Rattle.psm_resolved.specs.declared.expr.ResolvedExpr.TheOpen as layers
 use Rattle.psm_resolved.specs.declared.expr.ResolvedOperation.{ResolvedOperation, out-ResolvedOperation}

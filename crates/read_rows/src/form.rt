@@ -1,7 +1,8 @@
 //! What a tree is, in a word or two.
 
 use psm_list::{Boxed, OneOrMore};
-use psm_tree::{Block, DataType, Expr, LogicalOperator, Pick, Simple, Statement, Target, TypeForm};
+use psm_terms::LogicalOperator;
+use psm_tree::{Block, DataType, Expr, Pick, Simple, Statement, Target, TypeForm};
 
 pub fn expression(expr: &Expr) -> &'static str {
     match expr {

@@ -1,6 +1,6 @@
 use Rattle.std.proofs.Common.{◌≡◌, Err, sym, subst, ◌∙◌}
+use Rattle.psm_terms.specs.declared.diagnostics.DiagnosticsArea.{DiagnosticsArea}
 use Rattle.psm_value.specs.declared.datum.Datum.{Datum}
-use Rattle.psm_cond.specs.declared.item.DiagnosticsArea.{DiagnosticsArea}
 use Rattle.psm_code.specs.Steps.{Got, got}
 use Rattle.psm_unwind.specs.Actions.{item_of, stacked_in}
 use Rattle.psm_unwind.specs.View.{machine_of}
