@@ -5,6 +5,7 @@ use Rattle.std.specs.List.{AllByRecursion}
 use Rattle.psm_list.specs.Several.{Several}
 use Rattle.psm_terms.specs.declared.routines.ParameterMode.{ParameterMode}
 use Rattle.psm_terms.specs.declared.routines.ParameterMode.TheVariants.{In, Out, InOut}
+use Rattle.psm_terms.specs.Modes.{takes}
 use Rattle.psm_value.specs.declared.sqltype.SqlType.{SqlType}
 use Rattle.psm_scope.specs.Lookup.{named, index_named}
 use Rattle.psm_scope.specs.Routines.{procedure}
@@ -25,10 +26,11 @@ use Rattle.psm_rules.proofs.Earliest.{first_of_cons}
 use Rattle.psm_resolve_expr.specs.Exprs.{number_of}
 use Rattle.psm_code.specs.declared.code.Parameter.{Parameter}
 use Rattle.psm_code.specs.declared.code.RawCode.{RawCode}
+use Rattle.psm_code.specs.Parts.{taking}
 use Rattle.psm_check_script.specs.Commands.{command_of, given_values, procedure_number}
 use Rattle.psm_check_script.specs.Known.{known_of, parameter_of}
 use Rattle.psm_check_script.specs.ScriptFaults.{argument_fault, arguments_fault, call_fault, command_fault, insert_fault, rows_fault}
-use Rattle.psm_check_script.specs.There.{IsCall, IsThere, takes, taking}
+use Rattle.psm_check_script.specs.There.{IsCall, IsThere}
 use Rattle.psm_check_script.proofs.Numbers.{get_there, numbered, index_within, tables_within}
 
 -- ---- where there is no first fault there is none

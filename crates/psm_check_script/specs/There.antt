@@ -1,27 +1,15 @@
 -- What the resolved commands name is there: procedures and tables of code.
-use Rattle.std.specs.Prelude.{ℕ, ◌≡◌, Bool, true, false, IsSome, Some, List, [], ◌∷◌, length, slice_get, if◌then◌else◌}
-use Rattle.psm_terms.specs.declared.routines.ParameterMode.{ParameterMode}
-use Rattle.psm_terms.specs.declared.routines.ParameterMode.TheVariants.{In, Out, InOut}
+use Rattle.std.specs.Prelude.{ℕ, ◌≡◌, IsSome, Some, List, [], ◌∷◌, length, slice_get, if◌then◌else◌}
 use Rattle.psm_value.specs.declared.datum.Datum.{Datum}
-use Rattle.psm_code.specs.declared.code.Parameter.{Parameter}
 use Rattle.psm_code.specs.declared.code.RawCode.{RawCode}
 use Rattle.psm_code.specs.declared.code.RawRoutine.{RawRoutine}
+use Rattle.psm_code.specs.Parts.{taking}
 use Rattle.psm_meaning.specs.Session.{Command, Call, Insert, Select, Commit, Rollback}
 
 -- the procedures among routines, in order
 abbrev pub procedures_in : List RawRoutine → List RawRoutine
 procedures_in [] = []
 procedures_in (r ∷ rs) = if r.is_function then procedures_in rs else r ∷ procedures_in rs
-
-abbrev pub takes : ParameterMode → Bool
-takes In = true
-takes Out = false
-takes InOut = true
-
--- the parameters that take a value
-abbrev pub taking : List Parameter → List Parameter
-taking [] = []
-taking (p ∷ ps) = if takes p.mode then p ∷ taking ps else taking ps
 
 -- the procedure with that number takes n values
 pub record IsCall (c : RawCode) (n : ℕ) (values : List Datum) : Type 0 where

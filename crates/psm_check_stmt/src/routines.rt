@@ -1,11 +1,12 @@
 //! The first fault of a routine, and what routines declare.
 ghost use Rattle.std.specs.Prelude.{◌≡◌, ◌∷◌, ◌<◌, [], map, true, IfOk};
+ghost use Rattle.psm_terms.specs.Modes.{gives};
 ghost use Rattle.psm_scope.specs.KeptScopes.{can_declare_here};
 ghost use Rattle.psm_rules.specs.declared.rule.Rule.TheVariants as rules_of;
 ghost use Rattle.psm_rules.specs.Faults.{first_of};
 ghost use Rattle.psm_rules.specs.BlockFaults.{statement_fault};
 ghost use Rattle.psm_rules.specs.StatementFaults.{repeated, several};
-ghost use Rattle.psm_rules.specs.FileFaults.{block_returns, body_context, branch_returns, handler_returns, has_return, is_in, kind_of_routine, characteristic_number, characteristics_fault, parameter_fault, parameter_variable, result_fault, return_fault, returns, routine_fault, routine_scopes, some, with_parameter, with_routine, with_routines};
+ghost use Rattle.psm_rules.specs.FileFaults.{block_returns, body_context, branch_returns, handler_returns, has_return, kind_of_routine, characteristic_number, characteristics_fault, parameter_fault, parameter_variable, result_fault, return_fault, returns, routine_fault, routine_scopes, some, with_parameter, with_routine, with_routines};
 ghost use Rattle.psm_check_stmt.specs.InRoutine.{context, within_of};
 
 use crate::blocks::statement_fault;
@@ -16,7 +17,7 @@ use psm_check_expr::{Scopes, SymbolTable, type_fault, type_of};
 use psm_list::{Boxed, List, OneOrMore};
 use psm_rules::{Fault, Rule, breaks_if, earlier};
 use psm_scope::{ProcedureScope, ScopeKind, Variable};
-use psm_symbols::{is_in, kinds_of, parameters_of};
+use psm_symbols::{kinds_of, parameters_of};
 use psm_tree::{
     Block, Branch, Characteristic, CharacteristicForm, DataType, Handler, Parameter, Routine,
     Simple, Statement,
@@ -241,7 +242,7 @@ fn parameter_fault(of_function: bool, parameter: &Parameter) -> Option<Fault>
     ensures { result ≡ parameter_fault of_function parameter.now }
 {
     let mode = breaks_if(
-        of_function && !is_in(parameter.mode),
+        of_function && parameter.mode.gives(),
         Rule::ModeNotAllowed,
         parameter.place,
     );
@@ -302,7 +303,7 @@ fn parameter_variable(parameter: &Parameter) -> Variable
     Variable {
         kind: type_of(&parameter.kind),
         slot: 0,
-        assignable: !is_in(parameter.mode),
+        assignable: parameter.mode.gives(),
     }
 }
 

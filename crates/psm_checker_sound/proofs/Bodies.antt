@@ -1,7 +1,8 @@
 -- The body of a routine of an accepted file stands at a place where what is seen agrees: its parameters, and what the file declares.
 use Rattle.std.proofs.Common.{◌≡◌, ℕ, List, [], ◌∷◌, ◌++◌, map, Option, Some, None, option_map, refl, ap, sym, ◌∙◌, subst, arith}
-use Rattle.std.specs.Prelude.{filter, not}
+use Rattle.std.specs.Prelude.{filter}
 use Rattle.std.proofs.lemmas.List.{append_assoc}
+use Rattle.psm_terms.specs.Modes.{gives}
 use Rattle.psm_value.specs.declared.sqltype.SqlType.{SqlType}
 use Rattle.psm_scope.specs.Scopes.{Declared, Scope, Spelling}
 use Rattle.psm_scope.specs.Scopes as scope
@@ -10,7 +11,7 @@ use Rattle.psm_scope.specs.declared.known.Variable.{Variable}
 use Rattle.psm_rules.specs.declared.rule.Rule.TheVariants as rule
 use Rattle.psm_rules.specs.BlockFaults.{declared_once}
 use Rattle.psm_rules.specs.Faults.{first_of}
-use Rattle.psm_rules.specs.FileFaults.{body_context, is_function, kind_of_routine, parameter_variable, is_in, references_faults, result_fault, table_fault, with_parameters, symbols_of}
+use Rattle.psm_rules.specs.FileFaults.{body_context, is_function, kind_of_routine, parameter_variable, references_faults, result_fault, table_fault, with_parameters, symbols_of}
 use Rattle.psm_rules.specs.StatementFaults.{Context, InProcedure, Within, repeated}
 use Rattle.psm_rules.specs.Types.{type_of}
 use Rattle.psm_rules.specs.CheckerScope as checker_scopes
@@ -61,7 +62,7 @@ seen_parameters us [] = us
 seen_parameters us (p ∷ ps) = seen_parameters (declared_once us p.name.name (parameter_variable p)) ps
 
 abbrev numbered : Numbering → Parameter → Variable
-numbered n p = record { kind = Some (type_in_slot p); slot = next_slot n; assignable = not (is_in p.mode) }
+numbered n p = record { kind = Some (type_in_slot p); slot = next_slot n; assignable = gives p.mode }
 
 abbrev resolved_parameters : Parameters → Numbering → List Parameter → Parameters
 resolved_parameters vs n [] = vs

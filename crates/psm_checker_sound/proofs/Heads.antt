@@ -1,13 +1,11 @@
 -- The heads of routines that have no fault: parameters with names of their own, with the first slots, and with types within bounds.
-use Rattle.std.proofs.Common.{◌≡◌, true, false, not, List, [], ◌∷◌, ◌++◌, map, Option, Some, None, option_map, refl, ap, sym, ◌∙◌, subst}
+use Rattle.std.proofs.Common.{◌≡◌, true, false, List, [], ◌∷◌, ◌++◌, map, Option, Some, None, option_map, refl, ap, sym, ◌∙◌, subst}
 use Rattle.std.specs.List.{list_all}
 use Rattle.std.proofs.lemmas.List.{append_assoc, append-nil}
-use Rattle.psm_terms.specs.declared.routines.ParameterMode.{ParameterMode}
-use Rattle.psm_terms.specs.declared.routines.ParameterMode.TheVariants as modes
 use Rattle.psm_value.specs.declared.sqltype.SqlType.{SqlType}
 use Rattle.psm_exprcode.specs.WellFormed.{is_type}
 use Rattle.psm_rules.specs.declared.rule.Rule.TheVariants as rule
-use Rattle.psm_rules.specs.FileFaults.{is_in, parameter_fault}
+use Rattle.psm_rules.specs.FileFaults.{parameter_fault}
 use Rattle.psm_rules.specs.Types.{type_of}
 use Rattle.psm_rules.specs.CheckerScope.{SymbolTable}
 use Rattle.psm_tree.specs.declared.file.Parameter.{Parameter}
@@ -18,7 +16,6 @@ use Rattle.psm_resolve_expr.specs.Exprs.{type_known}
 use Rattle.psm_declare.specs.Declarations.{Numbered}
 use Rattle.psm_resolve.specs.Files.{resolve_parameter, resolve_routine, numbered_parameter, numbered_parameters}
 use Rattle.psm_codegen.specs.Files as emit
-use Rattle.psm_codegen.specs.Files.{gives_back}
 use Rattle.psm_typing.specs.TypingContext.{Begin, Each}
 use Rattle.psm_wellformed.specs.Files.{are_new_names, is_passed}
 use Rattle.psm_checker_sound.proofs.Columns.{type-is}
@@ -55,18 +52,13 @@ head-names seen r a = new-names [] (map (λ p. p.name) (map resolve_parameter r.
 
 -- ---- modes: the parameters of a function are IN
 
-in-back : (m : ParameterMode) → is_in m ≡ true → not (gives_back m) ≡ true
-in-back modes.In h = refl
-in-back modes.Out h = absurd cc
-in-back modes.InOut h = absurd cc
-
 passed-procedure : (ps : List Parameter) → list_all (is_passed false) (map resolve_parameter ps) ≡ true
 passed-procedure [] = refl
 passed-procedure (p ∷ ps) = passed-procedure ps
 
 passed-function : (ps : List Parameter) → Each (λ p. parameter_fault true p ≡ None) ps → list_all (is_passed true) (map resolve_parameter ps) ≡ true
 passed-function [] h = refl
-passed-function (p ∷ ps) h = both-hold _ _ (in-back p.mode (parameter-in p h.0)) (passed-function ps h.1)
+passed-function (p ∷ ps) h = both-hold _ _ (parameter-in p h.0) (passed-function ps h.1)
 
 modes-of : (seen symbols : SymbolTable) (r : Routine) (o : Option DataType) → IsAccepted seen (with_result r o) → list_all (is_passed (emit.is_function (resolve_routine symbols (with_result r o)))) (map resolve_parameter r.parameters) ≡ true
 modes-of seen symbols r None a = passed-procedure r.parameters

@@ -2,12 +2,9 @@
 use Rattle.std.proofs.Common.{◌≡◌, ℕ, suc, Bool, true, false, ◌&&◌, not, nat_eq, List, [], ◌∷◌, ◌++◌, length, map, Option, Some, None, refl, ap, sym, ◌∙◌, subst, arith, eqb-true, length-append}
 use Rattle.std.specs.Prelude.{filter, if◌then◌else◌, is_some, slice_get}
 use Rattle.std.proofs.lemmas.List.{append_assoc}
-use Rattle.psm_terms.specs.declared.routines.ParameterMode.{ParameterMode}
-use Rattle.psm_terms.specs.declared.routines.ParameterMode.TheVariants as modes
 use Rattle.psm_scope.specs.Scopes.{Spelling, is_spelled}
 use Rattle.psm_scope.specs.Routines.{Header, is_header, procedure}
 use Rattle.psm_scope.specs.declared.procedures.ProcedureScope.{ProcedureScope}
-use Rattle.psm_rules.specs.FileFaults as rules
 use Rattle.psm_rules.specs.FileFaults.{Procedures, is_function, no_symbols, parameter_of, with_routine, with_routines, with_table, with_tables, symbols_of}
 use Rattle.psm_rules.specs.CheckerScope.{SymbolTable}
 use Rattle.psm_tree.specs.declared.file.FileTree.{FileTree}
@@ -17,7 +14,6 @@ use Rattle.psm_tree.specs.declared.file.TableTree.{TableTree}
 use Rattle.psm_tree.specs.declared.types.DataType.{DataType}
 use Rattle.psm_resolved.specs.declared.file.ResolvedFile.{ResolvedFile}
 use Rattle.psm_resolved.specs.declared.file.ResolvedRoutine.{ResolvedRoutine}
-use Rattle.psm_resolve.specs.Files as making
 use Rattle.psm_resolve.specs.Files.{resolve_parameter, resolve_routine}
 use Rattle.psm_resolve.specs.SymbolTables.{known_symbols, next_procedure, with_known_routine, with_known_routines, with_known_table, with_known_tables}
 use Rattle.psm_meaning.specs.Calls.{procedure_at, returns}
@@ -28,14 +24,9 @@ use Rattle.psm_checker_sound.proofs.Routines.{IsAccepted, IsTypeKnown, parameter
 
 -- ---- parameters
 
-same-mode : (m : ParameterMode) → m ≡ m
-same-mode modes.In = refl
-same-mode modes.Out = refl
-same-mode modes.InOut = refl
-
 are-parameters : (ps : List Parameter) → Each IsTypeKnown ps → AreParameters (map parameter_of ps) (map resolve_parameter ps)
 are-parameters [] h = tt
-are-parameters (p ∷ ps) h = ((same-mode p.mode, h.0), are-parameters ps h.1)
+are-parameters (p ∷ ps) h = ((refl, h.0), are-parameters ps h.1)
 
 -- ---- procedures one for one
 

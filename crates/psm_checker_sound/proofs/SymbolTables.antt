@@ -4,13 +4,14 @@ use Rattle.std.specs.Prelude.{filter, if◌then◌else◌, not}
 use Rattle.std.proofs.lemmas.List.{append_assoc, append-nil}
 use Rattle.psm_terms.specs.declared.routines.ParameterMode.{ParameterMode}
 use Rattle.psm_terms.specs.declared.routines.ParameterMode.TheVariants as modes
+use Rattle.psm_terms.specs.Modes.{gives}
 use Rattle.psm_value.specs.declared.sqltype.SqlType.{SqlType}
 use Rattle.psm_scope.specs.Choice as choice
 use Rattle.psm_scope.specs.Choice.{Signature}
 use Rattle.psm_scope.specs.Scopes.{Spelling}
 use Rattle.psm_scope.specs.Routines.{Callable}
 use Rattle.psm_rules.specs.declared.rule.Rule.TheVariants as rule
-use Rattle.psm_rules.specs.FileFaults.{columns_of, is_in, kind_of, kinds_of, no_symbols, parameter_fault, table_elements, table_fault, with_routine, with_routines, with_table, with_tables, symbols_of}
+use Rattle.psm_rules.specs.FileFaults.{columns_of, kind_of, kinds_of, no_symbols, parameter_fault, table_elements, table_fault, with_routine, with_routines, with_table, with_tables, symbols_of}
 use Rattle.psm_rules.specs.StatementFaults.{repeated}
 use Rattle.psm_rules.specs.Types.{type_of}
 use Rattle.psm_rules.specs.CheckerScope.{Columns, SymbolTable}
@@ -28,7 +29,6 @@ use Rattle.psm_typing.specs.TypingContext.{Each, taken_by, with_taken}
 use Rattle.psm_checker_sound.specs.Agreement.{AreFunctions, AreTables}
 use Rattle.psm_checker_sound.proofs.Columns.{type-is}
 use Rattle.psm_checker_sound.proofs.Faultless.{unbroken}
-use Rattle.psm_checker_sound.proofs.Flags.{not-false}
 use Rattle.psm_checker_sound.proofs.NewNames.{AreNew, declared-all, declared_all, first_in, names-new}
 use Rattle.psm_checker_sound.proofs.Parts.{neither}
 use Rattle.psm_checker_sound.proofs.Routines.{IsAccepted, IsTypeKnown, known-kind, parameters-known, result-known, with_result}
@@ -155,13 +155,13 @@ same-functions f = routines-functions (with_tables no_symbols f.tables) f.«modu
     ∙ ap (λ fs. with_all fs (signatures_of f.«module».routines) (results_of f.«module».routines)) (tables-functions no_symbols f.tables) ∙ sym (known-functions f)
 
 -- a function takes what its parameters take, which are all IN
-taken-mode : (m : ParameterMode) (t : SqlType) (ts : List SqlType) → is_in m ≡ true → with_taken m t ts ≡ t ∷ ts
+taken-mode : (m : ParameterMode) (t : SqlType) (ts : List SqlType) → not (gives m) ≡ true → with_taken m t ts ≡ t ∷ ts
 taken-mode modes.In t ts h = refl
 taken-mode modes.Out t ts h = absurd cc
 taken-mode modes.InOut t ts h = absurd cc
 
-pub parameter-in : (p : Parameter) → parameter_fault true p ≡ None → is_in p.mode ≡ true
-parameter-in p none = not-false (is_in p.mode) (unbroken (not (is_in p.mode)) rule.ModeNotAllowed p.place (neither _ _ none).0)
+pub parameter-in : (p : Parameter) → parameter_fault true p ≡ None → not (gives p.mode) ≡ true
+parameter-in p none = ap not (unbroken (gives p.mode) rule.ModeNotAllowed p.place (neither _ _ none).0)
 
 taken-kinds : (ps : List Parameter) → Each (λ p. parameter_fault true p ≡ None) ps → Each IsTypeKnown ps → map (λ p. kind_of p.kind.form) ps ≡ map choice.kind_of (taken_by (map resolve_parameter ps))
 taken-kinds [] h k = refl

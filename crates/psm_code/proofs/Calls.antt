@@ -5,6 +5,7 @@ use Rattle.std.specs.List.{list_all}
 use Rattle.std.proofs.lemmas.List.{length-reverse, length-map}
 use Rattle.psm_terms.specs.declared.routines.ParameterMode.{ParameterMode}
 use Rattle.psm_terms.specs.declared.routines.ParameterMode.TheVariants.{In, Out, InOut}
+use Rattle.psm_terms.specs.Modes.{gives, takes}
 use Rattle.psm_num.proofs.Literals.{and_first, and_second}
 use Rattle.psm_value.specs.declared.datum.Datum.{Datum}
 use Rattle.psm_value.specs.declared.sqltype.SqlType.{SqlType}
@@ -30,7 +31,7 @@ use Rattle.psm_code.specs.Calling.{call, end_of, left_values, most_depth, on_top
 use Rattle.psm_code.specs.Calling as calling
 use Rattle.psm_code.specs.Instructions.{function_effect, instruction_effect, may_raise, of_routine, parameter_letters, procedure_effect}
 use Rattle.psm_code.specs.Instructions as table
-use Rattle.psm_code.specs.Parts.{back, given_back, gives, giving, routine_at, takes, taking}
+use Rattle.psm_code.specs.Parts.{back, given_back, giving, routine_at, taking}
 use Rattle.psm_code.specs.RoutineRules as rules
 use Rattle.psm_code.specs.RoutineRules.{first_fault}
 use Rattle.psm_code.specs.Run.{call_from, here, return, settled}

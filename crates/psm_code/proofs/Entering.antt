@@ -6,6 +6,7 @@ use Rattle.std.proofs.lemmas.List.{reverse-append}
 use Rattle.std.proofs.lemmas.List.Folds.{list_all-append}
 use Rattle.psm_terms.specs.declared.routines.ParameterMode.{ParameterMode}
 use Rattle.psm_terms.specs.declared.routines.ParameterMode.TheVariants.{In, Out, InOut}
+use Rattle.psm_terms.specs.Modes.{takes}
 use Rattle.psm_num.proofs.Literals.{and_first, and_second}
 use Rattle.psm_sqlstate.specs.declared.state.SqlState.{SqlState}
 use Rattle.psm_value.specs.declared.datum.Datum.{Datum}
@@ -28,7 +29,7 @@ use Rattle.psm_code.specs.declared.lines.CodeLine.{CodeLine}
 use Rattle.psm_code.specs.declared.rule.CodeRule.TheVariants as rule
 use Rattle.psm_code.specs.Calling.{activation, bounded, entered, filled, most_depth, passed}
 use Rattle.psm_code.specs.Instructions.{may_raise, parameter_letters}
-use Rattle.psm_code.specs.Parts.{line_at, routine_at, takes, taking}
+use Rattle.psm_code.specs.Parts.{line_at, routine_at, taking}
 use Rattle.psm_code.specs.RoutineRules as rules
 use Rattle.psm_code.specs.Rules.{is_some, there, where_there}
 use Rattle.psm_code.specs.MachineInvariant.{are_stored, AreCursors, Keeps, StandsAt}

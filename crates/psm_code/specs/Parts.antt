@@ -1,5 +1,5 @@
 -- The parts of code by their numbers.
-use Rattle.std.specs.Prelude.{ℕ, Bool, true, false, List, [], ◌∷◌, ◌++◌, filter, map, slice_get, Option, Some, None}
+use Rattle.std.specs.Prelude.{ℕ, List, [], ◌∷◌, ◌++◌, filter, map, slice_get, Option, Some, None}
 use Rattle.psm_terms.specs.declared.routines.ParameterMode.{ParameterMode}
 use Rattle.psm_terms.specs.declared.routines.ParameterMode.TheVariants.{In, Out, InOut}
 use Rattle.psm_value.specs.declared.datum.Datum.{Datum}
@@ -42,17 +42,6 @@ abbrev pub handler_at : RawRoutine → ℕ → Option Handler
 handler_at r n = slice_get r.handlers.handlers n
 
 -- ---- parameters
-
--- whether a parameter takes an argument, and whether it gives a value back
-abbrev pub takes : ParameterMode → Bool
-takes In = true
-takes Out = false
-takes InOut = true
-
-abbrev pub gives : ParameterMode → Bool
-gives In = false
-gives Out = true
-gives InOut = true
 
 abbrev pub taking : List Parameter → List Parameter
 taking ps = filter (λ p. takes p.mode) ps

@@ -3,6 +3,7 @@ use Rattle.std.specs.Prelude.{ℕ, suc, Bool, true, false, ◌&&◌, ◌||◌, n
 use Rattle.std.specs.List.{flat_map, list_all}
 use Rattle.psm_terms.specs.declared.routines.HandlerKind.{HandlerKind}
 use Rattle.psm_terms.specs.declared.routines.HandlerKind.TheVariants.{Continue, Exit, Undo}
+use Rattle.psm_terms.specs.Modes.{gives}
 use Rattle.psm_sqlstate.specs.declared.kind.Kind.{Kind}
 use Rattle.psm_sqlstate.specs.declared.kind.Kind.TheVariants as of_class
 use Rattle.psm_sqlstate.specs.declared.state.SqlState.{SqlState}
@@ -32,7 +33,7 @@ use Rattle.psm_code.specs.declared.lines.CodeLine.{CodeLine}
 use Rattle.psm_code.specs.declared.rule.CodeRule.{CodeRule}
 use Rattle.psm_code.specs.declared.rule.CodeRule.TheVariants.{Range, Target, Stack, Context, Resume, Turn, Place, Definition}
 use Rattle.psm_code.specs.Instructions.{arguments, instruction_effect, may_raise}
-use Rattle.psm_code.specs.Parts.{block_at, gives, handler_at, line_at, routine_at, slots_of}
+use Rattle.psm_code.specs.Parts.{block_at, handler_at, line_at, routine_at, slots_of}
 use Rattle.psm_code.specs.PlanRules.{cursor_fault, plan_faults, query_faults}
 use Rattle.psm_code.specs.Rules.{each_after, fault_in, first_of, is_same, is_some, is_there, there, unless, where_there}
 use Rattle.psm_code.specs.TableRules.{are_in_turn, are_there, is_in_bounds, is_of_letter, table_faults, target_of}

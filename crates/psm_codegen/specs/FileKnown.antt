@@ -1,14 +1,14 @@
 -- What is known of a file alone, and how what is known of one of its routines comes of it.
 use Rattle.std.specs.Prelude.{Bool, true, false, [], map, not}
 use Rattle.psm_terms.specs.declared.routines.ParameterMode.{ParameterMode}
+use Rattle.psm_terms.specs.Modes.{gives, takes}
 use Rattle.psm_exprcode.specs.declared.op.Letter.TheVariants.{N}
 use Rattle.psm_exprcode.specs.Kinds.{letter_of}
 use Rattle.psm_resolved.specs.declared.file.ResolvedFile.{ResolvedFile}
 use Rattle.psm_resolved.specs.declared.file.ResolvedRoutine.{ResolvedRoutine}
-use Rattle.psm_simulation.specs.Expressions.{wants}
 use Rattle.psm_exprgen.specs.declared.known.Known.{Known}
 use Rattle.psm_exprgen.specs.Queries.{column_letters}
-use Rattle.psm_codegen.specs.Files.{gives_back, is_function, letter_of_result, letters_of, numbers_of}
+use Rattle.psm_codegen.specs.Files.{is_function, letter_of_result, letters_of, numbers_of}
 
 -- whether it is a function, or a procedure
 abbrev pub is_kind : Bool → ResolvedRoutine → Bool
@@ -17,8 +17,8 @@ is_kind false r = not (is_function r)
 
 -- whether a parameter gives a value back, or takes one
 abbrev pub passes : Bool → ParameterMode → Bool
-passes true mode = gives_back mode
-passes false mode = wants mode
+passes true mode = gives mode
+passes false mode = takes mode
 
 -- no routine is chosen yet
 abbrev pub known_of_file : ResolvedFile → Known

@@ -1,7 +1,7 @@
 -- The code that is written for routines and module files.
 use Rattle.std.specs.Prelude.{◌≡◌, ℕ, suc, Bool, true, false, List, [], ◌∷◌, drop, filter, length, map, not, Option, Some, None}
 use Rattle.psm_terms.specs.declared.routines.ParameterMode.{ParameterMode}
-use Rattle.psm_terms.specs.declared.routines.ParameterMode.TheVariants as modes
+use Rattle.psm_terms.specs.Modes.{gives, takes}
 use Rattle.psm_value.specs.declared.sqltype.SqlType.{SqlType}
 use Rattle.psm_cond.specs.declared.handlers.Declared.TheVariants as declares
 use Rattle.psm_exprcode.specs.declared.op.Letter.{Letter}
@@ -12,7 +12,6 @@ use Rattle.psm_resolved.specs.declared.file.ResolvedRoutine.{ResolvedRoutine}
 use Rattle.psm_meaning.specs.Calls.{returns}
 use Rattle.psm_code.specs.declared.code.RawCode.{RawCode}
 use Rattle.psm_code.specs.declared.code.RawRoutine.{RawRoutine}
-use Rattle.psm_simulation.specs.Expressions.{wants}
 use Rattle.psm_simulation.specs.Simulation.{last_instruction, parameter_of}
 use Rattle.psm_exprgen.specs.declared.known.Known.{Known}
 use Rattle.psm_exprgen.specs.Queries.{TablesMade, column_letters}
@@ -33,12 +32,6 @@ numbers_of test n (r ∷ rs) = with_number (test r) n (numbers_of test (suc n) r
 abbrev pub is_function : ResolvedRoutine → Bool
 is_function r = returns r.returns
 
--- whether a parameter gives a value back
-abbrev pub gives_back : ParameterMode → Bool
-gives_back modes.In = false
-gives_back modes.Out = true
-gives_back modes.InOut = true
-
 abbrev pub letters_of : (ParameterMode → Bool) → ResolvedRoutine → List Letter
 letters_of test r = map (λ p. letter_of p.kind) (filter (λ p. test p.mode) r.parameters)
 
@@ -51,8 +44,8 @@ known_of file routine = record {
   functions = numbers_of is_function 0 file.routines;
   procedures = numbers_of (λ r. not (is_function r)) 0 file.routines;
   columns = map column_letters file.tables;
-  takes = map (letters_of wants) file.routines;
-  gives = map (letters_of gives_back) file.routines;
+  takes = map (letters_of takes) file.routines;
+  gives = map (letters_of gives) file.routines;
   results = map (λ r. letter_of_result r.returns) file.routines;
   variables = map letter_of routine.slots;
   result = letter_of_result routine.returns;

@@ -4,6 +4,7 @@ use Rattle.std.specs.Prelude.{◌≡◌, ℕ, true, List, [], ◌∷◌, filter,
 use Rattle.std.specs.List.{list_all}
 use Rattle.psm_list.specs.Several.{Several}
 use Rattle.psm_terms.specs.declared.operators.LogicalOperator.{LogicalOperator}
+use Rattle.psm_terms.specs.Modes.{takes}
 use Rattle.psm_resolved.specs.declared.expr.ResolvedExpr.{ResolvedExpr, out-ResolvedExpr}
 use Rattle.psm_resolved.specs.declared.expr.ResolvedExpr.TheOpen as layers
 use Rattle.psm_resolved.specs.declared.expr.ResolvedOperation.{ResolvedOperation, out-ResolvedOperation}
@@ -17,7 +18,7 @@ use Rattle.psm_resolved.specs.declared.statement.ResolvedArgument.TheVariants as
 use Rattle.psm_resolved.specs.declared.statement.ResolvedDeclaration.{ResolvedDeclaration}
 use Rattle.psm_resolved.specs.RowValue.{listed}
 use Rattle.psm_meaning.specs.Calls.{function_at}
-use Rattle.psm_simulation.specs.Expressions.{Layer, is_straight, operands_of, wants}
+use Rattle.psm_simulation.specs.Expressions.{Layer, is_straight, operands_of}
 use Rattle.psm_exprgen.specs.declared.known.Known.{Known}
 use Rattle.psm_exprgen.specs.Queries.{column_letters, is_query, is_test}
 
@@ -25,7 +26,7 @@ use Rattle.psm_exprgen.specs.Queries.{column_letters, is_query, is_test}
 pub record IsThere (file : ResolvedFile) (function count : ℕ) : Type 0 where
   pub routine : ResolvedRoutine
   pub there : function_at file function ≡ Some routine
-  pub takes : count ≡ length (filter (λ p. wants p.mode) routine.parameters)
+  pub takes : count ≡ length (filter (λ p. takes p.mode) routine.parameters)
 
 mutual
   pub data Outside (file : ResolvedFile) (known : Known) : ResolvedExpr → Type 0 where

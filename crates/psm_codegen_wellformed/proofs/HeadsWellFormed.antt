@@ -1,8 +1,7 @@
 -- The head of a routine of an accepted file is well-formed in code: its line, and those of its parameters and variables.
 use Rattle.std.proofs.Common.{◌≡◌, ◌++◌, ◌&&◌, ℕ, zero, suc, Bool, true, false, not, List, [], ◌∷◌, drop, length, map, nat_eq, Option, Some, None, ap, ap₂, refl, sym, subst, ◌∙◌}
 use Rattle.std.specs.List.{list_all}
-use Rattle.psm_terms.specs.declared.routines.ParameterMode.{ParameterMode}
-use Rattle.psm_terms.specs.declared.routines.ParameterMode.TheVariants as modes
+use Rattle.psm_terms.specs.Modes.{gives}
 use Rattle.psm_num.proofs.Literals.{and_first, and_second}
 use Rattle.psm_value.specs.declared.sqltype.SqlType.{SqlType}
 use Rattle.psm_exprcode.specs.WellFormed.{is_type}
@@ -14,12 +13,11 @@ use Rattle.psm_code.specs.declared.code.Parameter.{Parameter}
 use Rattle.psm_code.specs.declared.code.RawRoutine.{RawRoutine}
 use Rattle.psm_code.specs.declared.rule.CodeRule.{CodeRule}
 use Rattle.psm_code.specs.declared.rule.CodeRule.TheVariants.{Range, Target, Definition}
-use Rattle.psm_code.specs.Parts.{gives}
 use Rattle.psm_code.specs.RoutineRules.{are_apart, are_distinct_of, are_same_kinds, parameter_fault, routine_fault, same_truth, type_fault}
 use Rattle.psm_code.specs.Rules.{each_after, first_of, is_same, is_some, there, unless, where_there}
 use Rattle.psm_simulation.specs.Simulation.{parameter_of}
 use Rattle.psm_exprgen.specs.declared.known.Known.{Known}
-use Rattle.psm_codegen.specs.Files.{RoutineWritten, RoutinesWritten, gives_back, is_function, known_of}
+use Rattle.psm_codegen.specs.Files.{RoutineWritten, RoutinesWritten, is_function, known_of}
 use Rattle.psm_wellformed.specs.Files.{WellFormedRoutine, are_new_names, are_distinct, is_apart_from, is_name_among, is_passed}
 use Rattle.psm_typing.specs.TypingContext.{Begin, Each}
 use Rattle.psm_codegen_wellformed.proofs.Faultless.{Faultless, faultless-append}
@@ -39,11 +37,6 @@ types-following (suc n) (t ∷ ts) h = types-following n ts (and_second (is_type
 
 -- ---- parameters
 
-gives-back : (m : ParameterMode) → gives m ≡ gives_back m
-gives-back modes.In = refl
-gives-back modes.Out = refl
-gives-back modes.InOut = refl
-
 none-first : (o : Option CodeRule) (b : Bool) (q : CodeRule) → o ≡ None → b ≡ true → first_of (o ∷ unless b q ∷ []) ≡ None
 none-first o b q g h = ap (λ x. first_of (x ∷ unless b q ∷ [])) g ∙ ap (λ x. first_of (unless x q ∷ [])) h
 
@@ -56,7 +49,7 @@ parameters-from r function before names (p ∷ ps) (k ∷ ks) q b t m c n =
     let mine = not (is_name_among p.name names) in
     let others = are_new_names (p.name ∷ names) (map (λ y. y.name) ps) in
     let type : type_fault p.kind ≡ None = none_unless (is_type p.kind) Range (ap is_type b.0 ∙ and_first (is_type k) (list_all is_type ks) t) in
-    let passed : not (r.is_function && gives p.mode) ≡ true = ap₂ (λ f g. not (f && g)) q (gives-back p.mode) ∙ and_first (is_passed function p) (list_all (is_passed function) ps) m in
+    let passed : not (r.is_function && gives p.mode) ≡ true = ap (λ f. not (f && gives p.mode)) q ∙ and_first (is_passed function p) (list_all (is_passed function) ps) m in
     let new : list_all (λ y. not (is_same y.name p.name)) before ≡ true = c p.name (and_first mine others n) in
     let next = parameters-from r function (before ++ x ∷ []) (p.name ∷ names) ps ks q b.1 (and_second (is_type k) (list_all is_type ks) t) (and_second (is_passed function p) (list_all (is_passed function) ps) m)
     (covers-more (λ y. y.name) names before x p.name c refl) (and_second mine others n) in

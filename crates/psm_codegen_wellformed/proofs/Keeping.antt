@@ -8,6 +8,7 @@ use Rattle.psm_terms.specs.declared.functions.SetFunction.{SetFunction}
 use Rattle.psm_terms.specs.declared.functions.SetFunction.TheVariants as functions
 use Rattle.psm_terms.specs.declared.routines.ParameterMode.{ParameterMode}
 use Rattle.psm_terms.specs.declared.routines.ParameterMode.TheVariants as modes
+use Rattle.psm_terms.specs.Modes.{gives, takes}
 use Rattle.psm_num.proofs.Literals.{and_first, and_second}
 use Rattle.psm_value.specs.declared.sqltype.SqlType.{SqlType}
 use Rattle.psm_exprcode.specs.declared.op.Letter.{Letter}
@@ -29,12 +30,11 @@ use Rattle.psm_code.specs.declared.code.RawCode.{RawCode}
 use Rattle.psm_code.specs.declared.code.RawRoutine.{RawRoutine}
 use Rattle.psm_code.specs.Instructions.{parameter_letters}
 use Rattle.psm_code.specs.Parts.{slots_of}
-use Rattle.psm_simulation.specs.Expressions.{wants}
 use Rattle.psm_simulation.specs.Simulation.{parameter_of}
 use Rattle.psm_exprgen.specs.Exprs.{function_number}
 use Rattle.psm_exprgen.specs.Queries.{Layer, are_items, column_letters, is_query, is_test_perhaps, is_value_of, is_value_perhaps, item_letters, letter_of_set, letter_of_row_type, letters_of_layer}
 use Rattle.psm_exprgen.specs.Written.{letters_at, letters_or}
-use Rattle.psm_codegen.specs.Files.{FileWritten, RoutineWritten, RoutinesWritten, gives_back, known_of, letter_of_result, letters_of}
+use Rattle.psm_codegen.specs.Files.{FileWritten, RoutineWritten, RoutinesWritten, known_of, letter_of_result, letters_of}
 use Rattle.psm_resolved.specs.Written.{letter_or}
 use Rattle.psm_codegen.proofs.Numbers.{known_functions}
 use Rattle.psm_typing.specs.Queries.{AreItems, AreRowValues, AreSets, IsOperand, IsQuery}
@@ -51,25 +51,25 @@ slots-kept (p ∷ ps) [] h = absurd h
 slots-kept (p ∷ ps) (t ∷ ts) h = ap₂ (λ s ss. s ∷ ss) h.0 (slots-kept ps ts h.1)
 
 taken-one : (m : ParameterMode) (p : ResolvedParameter) (kept : List ResolvedParameter) (ts : List SqlType) → map (λ q. letter_of q.kind) kept ≡ typing_contexts.letters_of ts
-    → map (λ q. letter_of q.kind) (if wants m then p ∷ kept else kept) ≡ typing_contexts.letters_of (with_taken m p.kind ts)
+    → map (λ q. letter_of q.kind) (if takes m then p ∷ kept else kept) ≡ typing_contexts.letters_of (with_taken m p.kind ts)
 taken-one modes.In p kept ts h = ap (λ s. letter_of p.kind ∷ s) h
 taken-one modes.Out p kept ts h = h
 taken-one modes.InOut p kept ts h = ap (λ s. letter_of p.kind ∷ s) h
 
-pub taken-letters : (ps : List ResolvedParameter) → map (λ q. letter_of q.kind) (filter (λ q. wants q.mode) ps) ≡ typing_contexts.letters_of (taken_by ps)
+pub taken-letters : (ps : List ResolvedParameter) → map (λ q. letter_of q.kind) (filter (λ q. takes q.mode) ps) ≡ typing_contexts.letters_of (taken_by ps)
 taken-letters [] = refl
-taken-letters (p ∷ ps) = taken-one p.mode p (filter (λ q. wants q.mode) ps) (taken_by ps) (taken-letters ps)
+taken-letters (p ∷ ps) = taken-one p.mode p (filter (λ q. takes q.mode) ps) (taken_by ps) (taken-letters ps)
 
-in-one : (m : ParameterMode) (k : SqlType) (ks : List Letter) (ts : List SqlType) → not (gives_back m) ≡ true → ks ≡ typing_contexts.letters_of ts → letter_of k ∷ ks ≡ typing_contexts.letters_of (with_taken m k ts)
+in-one : (m : ParameterMode) (k : SqlType) (ks : List Letter) (ts : List SqlType) → not (gives m) ≡ true → ks ≡ typing_contexts.letters_of ts → letter_of k ∷ ks ≡ typing_contexts.letters_of (with_taken m k ts)
 in-one modes.In k ks ts h q = ap (λ s. letter_of k ∷ s) q
 in-one modes.Out k ks ts h q = absurd (false≢true h)
 in-one modes.InOut k ks ts h q = absurd (false≢true h)
 
-in-letters : (ps : List ResolvedParameter) → list_all (λ p. not (gives_back p.mode)) ps ≡ true → parameter_letters (map parameter_of ps) ≡ typing_contexts.letters_of (taken_by ps)
+in-letters : (ps : List ResolvedParameter) → list_all (λ p. not (gives p.mode)) ps ≡ true → parameter_letters (map parameter_of ps) ≡ typing_contexts.letters_of (taken_by ps)
 in-letters [] h = refl
 in-letters (p ∷ ps) h =
-    let rest = list_all (λ q. not (gives_back q.mode)) ps in
-    in-one p.mode p.kind (parameter_letters (map parameter_of ps)) (taken_by ps) (and_first (not (gives_back p.mode)) rest h) (in-letters ps (and_second (not (gives_back p.mode)) rest h))
+    let rest = list_all (λ q. not (gives q.mode)) ps in
+    in-one p.mode p.kind (parameter_letters (map parameter_of ps)) (taken_by ps) (and_first (not (gives p.mode)) rest h) (in-letters ps (and_second (not (gives p.mode)) rest h))
 
 -- ---- functions
 
@@ -94,7 +94,7 @@ function-kept file of routine code n t w takes at h =
         returns = q.2.returns ∙ h;
         result = refl;
       };
-      takes = ap letters_or (slice_get-map (letters_of wants) file.routines n ∙ ap (option_map (letters_of wants)) at) ∙ taken-letters routine.parameters;
+      takes = ap letters_or (slice_get-map (letters_of takes) file.routines n ∙ ap (option_map (letters_of takes)) at) ∙ taken-letters routine.parameters;
       result = ap letter_or (slice_get-map (λ r. letter_of_result r.returns) file.routines n ∙ ap (option_map (λ r. letter_of_result r.returns)) at) ∙ ap letter_of_result h;
     }
 

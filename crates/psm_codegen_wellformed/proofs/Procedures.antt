@@ -4,7 +4,7 @@ use Rattle.std.specs.Prelude.{filter, slice_get}
 use Rattle.std.proofs.lemmas.Bool.{false≢true}
 use Rattle.std.proofs.lemmas.Option.{slice_get-map}
 use Rattle.psm_terms.specs.declared.routines.ParameterMode.{ParameterMode}
-use Rattle.psm_terms.specs.declared.routines.ParameterMode.TheVariants as modes
+use Rattle.psm_terms.specs.Modes.{gives, takes}
 use Rattle.psm_exprcode.specs.Kinds.{letter_of}
 use Rattle.psm_resolved.specs.declared.file.ResolvedFile.{ResolvedFile}
 use Rattle.psm_resolved.specs.declared.file.ResolvedParameter.{ResolvedParameter}
@@ -15,12 +15,11 @@ use Rattle.psm_code.specs.declared.code.Parameter.{Parameter}
 use Rattle.psm_code.specs.declared.code.RawCode.{RawCode}
 use Rattle.psm_code.specs.declared.code.RawRoutine.{RawRoutine}
 use Rattle.psm_code.specs.Instructions.{parameter_letters}
-use Rattle.psm_code.specs.Parts.{gives, giving, takes, taking}
-use Rattle.psm_simulation.specs.Expressions.{wants}
+use Rattle.psm_code.specs.Parts.{giving, taking}
 use Rattle.psm_simulation.specs.Scheme.{slots_given}
 use Rattle.psm_simulation.specs.Simulation.{parameter_of}
 use Rattle.psm_exprgen.specs.declared.known.Known.{Known}
-use Rattle.psm_codegen.specs.Files.{FileWritten, RoutineWritten, gives_back, is_function, known_of, letters_of}
+use Rattle.psm_codegen.specs.Files.{FileWritten, RoutineWritten, is_function, known_of, letters_of}
 use Rattle.psm_meaning.specs.Calls.{procedure_at, returns}
 use Rattle.psm_exprgen.specs.Written.{letters_or}
 use Rattle.psm_codegen.specs.Simples.{procedure_number}
@@ -33,25 +32,18 @@ use Rattle.psm_codegen_wellformed.specs.Kept.{FunctionTakes, Keeps, KeepsProcedu
 use Rattle.psm_wellformed.specs.Simples.{WellFormedArguments}
 use Rattle.psm_codegen_wellformed.proofs.Keeping.{keeps-written, routine-written, taken-letters}
 
-taking-one : (m : ParameterMode) (p : Parameter) (kept : List Parameter) (q : ResolvedParameter) (others : List ResolvedParameter) → letter_of p.kind ≡ letter_of q.kind → parameter_letters kept ≡ map (λ x. letter_of x.kind) others
-    → parameter_letters (if takes m then p ∷ kept else kept) ≡ map (λ x. letter_of x.kind) (if wants m then q ∷ others else others)
-taking-one modes.In p kept q others k h = ap (λ j. j ∷ parameter_letters kept) k ∙ ap (λ js. letter_of q.kind ∷ js) h
-taking-one modes.Out p kept q others k h = h
-taking-one modes.InOut p kept q others k h = ap (λ j. j ∷ parameter_letters kept) k ∙ ap (λ js. letter_of q.kind ∷ js) h
+kept-one : (b : Bool) (p : Parameter) (kept : List Parameter) (q : ResolvedParameter) (others : List ResolvedParameter) → letter_of p.kind ≡ letter_of q.kind → parameter_letters kept ≡ map (λ x. letter_of x.kind) others
+    → parameter_letters (if b then p ∷ kept else kept) ≡ map (λ x. letter_of x.kind) (if b then q ∷ others else others)
+kept-one true p kept q others k h = ap (λ j. j ∷ parameter_letters kept) k ∙ ap (λ js. letter_of q.kind ∷ js) h
+kept-one false p kept q others k h = h
 
-taking-letters : (ps : List ResolvedParameter) → parameter_letters (taking (map parameter_of ps)) ≡ map (λ x. letter_of x.kind) (filter (λ x. wants x.mode) ps)
+taking-letters : (ps : List ResolvedParameter) → parameter_letters (taking (map parameter_of ps)) ≡ map (λ x. letter_of x.kind) (filter (λ x. takes x.mode) ps)
 taking-letters [] = refl
-taking-letters (p ∷ ps) = taking-one p.mode (parameter_of p) (taking (map parameter_of ps)) p (filter (λ x. wants x.mode) ps) refl (taking-letters ps)
-
-giving-one : (m : ParameterMode) (p : Parameter) (kept : List Parameter) (q : ResolvedParameter) (others : List ResolvedParameter) → letter_of p.kind ≡ letter_of q.kind → parameter_letters kept ≡ map (λ x. letter_of x.kind) others
-    → parameter_letters (if gives m then p ∷ kept else kept) ≡ map (λ x. letter_of x.kind) (if gives_back m then q ∷ others else others)
-giving-one modes.In p kept q others k h = h
-giving-one modes.Out p kept q others k h = ap (λ j. j ∷ parameter_letters kept) k ∙ ap (λ js. letter_of q.kind ∷ js) h
-giving-one modes.InOut p kept q others k h = ap (λ j. j ∷ parameter_letters kept) k ∙ ap (λ js. letter_of q.kind ∷ js) h
+taking-letters (p ∷ ps) = kept-one (takes p.mode) (parameter_of p) (taking (map parameter_of ps)) p (filter (λ x. takes x.mode) ps) refl (taking-letters ps)
 
 giving-letters : (ps : List ResolvedParameter) → parameter_letters (giving (map parameter_of ps)) ≡ letters_given ps
 giving-letters [] = refl
-giving-letters (p ∷ ps) = giving-one p.mode (parameter_of p) (giving (map parameter_of ps)) p (filter (λ x. gives_back x.mode) ps) refl (giving-letters ps)
+giving-letters (p ∷ ps) = kept-one (gives p.mode) (parameter_of p) (giving (map parameter_of ps)) p (filter (λ x. gives x.mode) ps) refl (giving-letters ps)
 
 -- a procedure of the file
 pub procedure-kept : (file : ResolvedFile) (of routine : ResolvedRoutine) (code : RawCode) (n : ℕ) → FileWritten file code → slice_get file.routines n ≡ Some routine → is_function routine ≡ false
@@ -64,8 +56,8 @@ procedure-kept file of routine code n w at h =
       procedure = q.2.kind ∙ h;
       taking = ap (λ ps. parameter_letters (taking ps)) q.2.parameters ∙ taking-letters routine.parameters ∙ taken-letters routine.parameters;
       giving = ap (λ ps. parameter_letters (giving ps)) q.2.parameters ∙ giving-letters routine.parameters;
-      takes = ap letters_or (slice_get-map (letters_of wants) file.routines n ∙ ap (option_map (letters_of wants)) at) ∙ taken-letters routine.parameters;
-      gives = ap letters_or (slice_get-map (letters_of gives_back) file.routines n ∙ ap (option_map (letters_of gives_back)) at);
+      takes = ap letters_or (slice_get-map (letters_of takes) file.routines n ∙ ap (option_map (letters_of takes)) at) ∙ taken-letters routine.parameters;
+      gives = ap letters_or (slice_get-map (letters_of gives) file.routines n ∙ ap (option_map (letters_of gives)) at);
     }
 
 -- the routine itself
@@ -74,12 +66,12 @@ routine-kept e r w = record { returns = w.returns; kind = w.kind; result = refl 
 
 -- ---- the variables that values come back to
 
-back-one : (e : TypingContext) (slot : ℕ) (slots : List ℕ) (m : ParameterMode) (p : ResolvedParameter) (others : List ResolvedParameter) → gives_back m ≡ true → AreSlots e (slot ∷ slots) (letter_of p.kind ∷ map (λ x. letter_of x.kind) others)
-    → AreSlots e (slot ∷ slots) (map (λ x. letter_of x.kind) (if gives_back m then p ∷ others else others))
+back-one : (e : TypingContext) (slot : ℕ) (slots : List ℕ) (m : ParameterMode) (p : ResolvedParameter) (others : List ResolvedParameter) → gives m ≡ true → AreSlots e (slot ∷ slots) (letter_of p.kind ∷ map (λ x. letter_of x.kind) others)
+    → AreSlots e (slot ∷ slots) (map (λ x. letter_of x.kind) (if gives m then p ∷ others else others))
 back-one e slot slots m p others g h = subst (λ b. AreSlots e (slot ∷ slots) (map (λ x. letter_of x.kind) (if b then p ∷ others else others))) (sym g) h
 
-none-back : (e : TypingContext) (slots : List ℕ) (m : ParameterMode) (p : ResolvedParameter) (others : List ResolvedParameter) → gives_back m ≡ false → AreSlots e slots (map (λ x. letter_of x.kind) others)
-    → AreSlots e slots (map (λ x. letter_of x.kind) (if gives_back m then p ∷ others else others))
+none-back : (e : TypingContext) (slots : List ℕ) (m : ParameterMode) (p : ResolvedParameter) (others : List ResolvedParameter) → gives m ≡ false → AreSlots e slots (map (λ x. letter_of x.kind) others)
+    → AreSlots e slots (map (λ x. letter_of x.kind) (if gives m then p ∷ others else others))
 none-back e slots m p others g h = subst (λ b. AreSlots e slots (map (λ x. letter_of x.kind) (if b then p ∷ others else others))) (sym g) h
 
 pub slots-back : (e : TypingContext) (known : Known) (args : List ResolvedArgument) (ps : List ResolvedParameter) → AreArguments e args ps → WellFormedArguments e known args ps → AreSlots e (slots_given args) (letters_given ps)
@@ -88,9 +80,9 @@ slots-back e known [] (q ∷ ps) t p = absurd t
 slots-back e known (arguments.In x ∷ others) [] t p = absurd t
 slots-back e known (arguments.Out slot ∷ others) [] t p = absurd t
 slots-back e known (arguments.InOut slot ∷ others) [] t p = absurd t
-slots-back e known (arguments.In x ∷ others) (q ∷ ps) t p = none-back e (slots_given others) q.mode q (filter (λ y. gives_back y.mode) ps) (ap gives_back t.0.0) (slots-back e known others ps t.1 p.1)
-slots-back e known (arguments.Out slot ∷ others) (q ∷ ps) t p = back-one e slot (slots_given others) q.mode q (filter (λ y. gives_back y.mode) ps) (ap gives_back t.0.0) (p.0, slots-back e known others ps t.1 p.1)
-slots-back e known (arguments.InOut slot ∷ others) (q ∷ ps) t p = back-one e slot (slots_given others) q.mode q (filter (λ y. gives_back y.mode) ps) (ap gives_back t.0.0) (p.0, slots-back e known others ps t.1 p.1)
+slots-back e known (arguments.In x ∷ others) (q ∷ ps) t p = none-back e (slots_given others) q.mode q (filter (λ y. gives y.mode) ps) (ap gives t.0.0) (slots-back e known others ps t.1 p.1)
+slots-back e known (arguments.Out slot ∷ others) (q ∷ ps) t p = back-one e slot (slots_given others) q.mode q (filter (λ y. gives y.mode) ps) (ap gives t.0.0) (p.0, slots-back e known others ps t.1 p.1)
+slots-back e known (arguments.InOut slot ∷ others) (q ∷ ps) t p = back-one e slot (slots_given others) q.mode q (filter (λ y. gives y.mode) ps) (ap gives t.0.0) (p.0, slots-back e known others ps t.1 p.1)
 
 -- ---- the procedures of a file
 

@@ -1,6 +1,7 @@
 -- What code keeps of a file, where the lines of one of its routines are written: the letters of variables, of functions and of queries.
 use Rattle.std.specs.Prelude.{◌≡◌, ℕ, true, false, List, Some, not, filter, map, slice_get}
 use Rattle.std.specs.List.{list_all}
+use Rattle.psm_terms.specs.Modes.{gives}
 use Rattle.psm_value.specs.declared.sqltype.SqlType.{SqlType}
 use Rattle.psm_exprcode.specs.declared.op.Letter.{Letter}
 use Rattle.psm_exprcode.specs.declared.query.Query.{Query}
@@ -17,7 +18,7 @@ use Rattle.psm_exprgen.specs.declared.known.Known.{Known}
 use Rattle.psm_exprgen.specs.Exprs.{function_number}
 use Rattle.psm_exprgen.specs.Queries.{QueryMade, is_query, item_letters}
 use Rattle.psm_exprgen.specs.Written.{letter_at, letters_at}
-use Rattle.psm_codegen.specs.Files.{gives_back, is_function, letter_of_result}
+use Rattle.psm_codegen.specs.Files.{is_function, letter_of_result}
 use Rattle.psm_codegen.specs.Simples.{procedure_number}
 use Rattle.psm_typing.specs.Queries.{IsQuery}
 use Rattle.psm_typing.specs.TypingContext.{TypingContext, letters_of, taken_by}
@@ -41,7 +42,7 @@ pub record KeepsFunction (known : Known) (code : RawCode) (n : ℕ) (ks : List L
 
 -- a function has IN parameters alone
 abbrev pub FunctionTakes : ResolvedRoutine → Type 0
-FunctionTakes r = returns r.returns ≡ true → list_all (λ p. not (gives_back p.mode)) r.parameters ≡ true
+FunctionTakes r = returns r.returns ≡ true → list_all (λ p. not (gives p.mode)) r.parameters ≡ true
 
 -- the items of each query of the routine are of the letters that are known of the query for which it is made
 abbrev pub QueriesKeep : Known → RawCode → RawRoutine → Type 0
@@ -60,7 +61,7 @@ pub record Keeps (e : TypingContext) (known : Known) (code : RawCode) (r : RawRo
 
 -- the letters of the parameters that give a value back
 abbrev pub letters_given : List ResolvedParameter → List Letter
-letters_given ps = map (λ p. letter_of p.kind) (filter (λ p. gives_back p.mode) ps)
+letters_given ps = map (λ p. letter_of p.kind) (filter (λ p. gives p.mode) ps)
 
 pub record KeepsRoutine (e : TypingContext) (known : Known) (r : RawRoutine) : Type 0 where
   pub returns : r.returns ≡ e.routine.returns

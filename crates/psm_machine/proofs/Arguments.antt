@@ -4,12 +4,13 @@ use Rattle.std.specs.Result.{result_map_both}
 use Rattle.std.proofs.lemmas.List.{drop_more, length-reverse, reverse-append}
 use Rattle.psm_terms.specs.declared.routines.ParameterMode.{ParameterMode}
 use Rattle.psm_terms.specs.declared.routines.ParameterMode.TheVariants.{In, Out, InOut}
+use Rattle.psm_terms.specs.Modes.{takes}
 use Rattle.psm_value.specs.declared.datum.Datum.{Datum}
 use Rattle.psm_value.specs.declared.sqltype.SqlType.{SqlType}
 use Rattle.psm_value.specs.Stored.{stored}
 use Rattle.psm_code.specs.declared.code.Parameter.{Parameter}
 use Rattle.psm_code.specs.Calling.{entered, passed}
-use Rattle.psm_code.specs.Parts.{takes, taking}
+use Rattle.psm_code.specs.Parts.{taking}
 use Rattle.psm_code.specs.State.{Stuck, Machine}
 use Rattle.psm_code.specs.Steps.{Act, Came, Given, Got, Raises, Ends, ends, go_on, got, pop, pops, tried, ◌>>=◌}
 use Rattle.psm_machine.specs.declared.stop.Stop.{Stop}

@@ -3,6 +3,7 @@ use Rattle.std.proofs.Common.{◌≡◌, ℕ, zero, suc, ◌<◌, ◌&&◌, Bool
 use Rattle.std.specs.Prelude.{not, reverse}
 use Rattle.std.specs.List.{list_all}
 use Rattle.std.proofs.lemmas.List.Elements.{All-append, All-map}
+use Rattle.psm_terms.specs.Modes.{gives}
 use Rattle.psm_value.specs.declared.sqltype.SqlType.{SqlType}
 use Rattle.psm_value.specs.SqlType.{IsType}
 use Rattle.psm_cond.specs.WellFormed.{is_numbered}
@@ -21,7 +22,6 @@ use Rattle.psm_code.specs.Parts.{slots_of}
 use Rattle.psm_code.specs.RoutineRules as rules
 use Rattle.psm_code.specs.RoutineRules.{first_fault, parameter_fault, type_fault}
 use Rattle.psm_code.specs.Rules.{is_same, is_some, there, unless, where_there}
-use Rattle.psm_code.specs.Parts.{gives}
 use Rattle.psm_code.specs.MachineInvariant.{MachineInvariant}
 use Rattle.psm_code.specs.State.{Machine}
 use Rattle.psm_code.proofs.Acts.{Has}

@@ -1,11 +1,12 @@
 //! Calls of procedures and functions (ISO/IEC 9075-4:1996, call statement and routine invocation).
 ghost use Rattle.std.specs.Prelude.{◌≡◌, [], All, IfOk, length, replicate, reverse, List};
+ghost use Rattle.psm_terms.specs.Modes.{takes};
 ghost use Rattle.psm_value.specs.SqlType.{IsType};
 ghost use Rattle.psm_table.specs.Cursors.{Closed};
 ghost use Rattle.psm_table.specs.Table.{Contents};
 ghost use Rattle.psm_store.specs.declared.store.Mark.{Mark as MarkValue};
 ghost use Rattle.psm_code.specs.Calling.{activation, bounded, call, calling, entered, filled, passed};
-ghost use Rattle.psm_code.specs.Parts.{slots_of, takes, taking};
+ghost use Rattle.psm_code.specs.Parts.{slots_of, taking};
 ghost use Rattle.psm_code.specs.Steps.{change, pops};
 ghost use Rattle.psm_unwind.specs.Marks.{SameFrames};
 ghost use Rattle.psm_unwind.specs.View.{activation_of, machine_of};
@@ -53,20 +54,11 @@ fn arguments(alloc: Global, parameters: &[Parameter], run: &mut Run) -> Result<V
 {
     let mut arguments = Vec::new(alloc);
     for parameter in parameters {
-        if takes(parameter.mode) {
+        if parameter.mode.takes() {
             arguments.push(pop(run)?)?;
         }
     }
     Ok(arguments)
-}
-
-fn takes(mode: ParameterMode) -> bool
-    ensures { result ≡ takes mode }
-{
-    match mode {
-        ParameterMode::Out => false,
-        ParameterMode::In | ParameterMode::InOut => true,
-    }
 }
 
 // What parameters begin with. The last one of the arguments comes first.

@@ -1,10 +1,11 @@
 //! Ends of activations (ISO/IEC 9075-4:1996, return statement and the end of a routine).
 ghost use Rattle.std.specs.Prelude.{◌≡◌, [], ◌++◌, All, IfOk, IfSome, OnOk, List, reverse};
+ghost use Rattle.psm_terms.specs.Modes.{gives};
 ghost use Rattle.psm_value.specs.SqlType.{IsType};
 ghost use Rattle.psm_table.specs.Table.{Contents};
 ghost use Rattle.psm_store.specs.declared.store.Mark.{Mark as MarkValue};
 ghost use Rattle.psm_code.specs.Calling.{«end», left_values, on_top};
-ghost use Rattle.psm_code.specs.Parts.{back, given_back, gives};
+ghost use Rattle.psm_code.specs.Parts.{back, given_back};
 ghost use Rattle.psm_code.specs.Run.{return};
 ghost use Rattle.psm_code.specs.State.{cleared};
 ghost use Rattle.psm_unwind.specs.Marks.{Nested, SameFrames, Unwinds, open_marks};
@@ -164,17 +165,8 @@ fn give(
 ) -> Result<(), AllocError>
     ensures { OnOk result (values.new.items ≡ values.old.items ++ back mode value.now []) }
 {
-    if gives(mode) {
+    if mode.gives() {
         values.push(value.copy(alloc)?)?;
     }
     Ok(())
-}
-
-fn gives(mode: ParameterMode) -> bool
-    ensures { result ≡ gives mode }
-{
-    match mode {
-        ParameterMode::In => false,
-        ParameterMode::Out | ParameterMode::InOut => true,
-    }
 }

@@ -1,6 +1,7 @@
 -- The resolved module file that stands for one: its tables, and its routines, with the types of their slots.
-use Rattle.std.specs.Prelude.{ℕ, suc, Bool, true, false, not, ◌||◌, Option, Some, None, Result, Ok, Err, List, [], ◌∷◌, ◌++◌, map, nat_eq, option_map, slice_get, if◌then◌else◌}
+use Rattle.std.specs.Prelude.{ℕ, suc, Bool, true, false, ◌||◌, Option, Some, None, Result, Ok, Err, List, [], ◌∷◌, ◌++◌, map, nat_eq, option_map, slice_get, if◌then◌else◌}
 use Rattle.std.specs.List.{list_any}
+use Rattle.psm_terms.specs.Modes.{gives}
 use Rattle.psm_symbols.specs.Columns.{column_of}
 use Rattle.psm_value.specs.declared.datum.Datum.{Datum}
 use Rattle.psm_value.specs.declared.datum.Datum.TheVariants as data_of
@@ -10,7 +11,7 @@ use Rattle.psm_scope.specs.Scopes.{Spelling, undeclared}
 use Rattle.psm_scope.specs.Scopes as scope
 use Rattle.psm_scope.specs.Lookup.{or_else}
 use Rattle.psm_rules.specs.CheckerScope.{SymbolTable, Columns}
-use Rattle.psm_rules.specs.FileFaults.{no_symbols, datum_of, columns_of, table_elements, is_in}
+use Rattle.psm_rules.specs.FileFaults.{no_symbols, datum_of, columns_of, table_elements}
 use Rattle.psm_rules.specs.StatementFaults.{several}
 use Rattle.psm_rules.specs.Types.{type_of}
 use Rattle.psm_tree.specs.Names.{Names}
@@ -241,7 +242,7 @@ resolve_parameter p = record { mode = p.mode; name = p.name.name; kind = type_kn
 -- a parameter has the next slot; one that is IN can't be assigned
 abbrev pub numbered_parameter : Numbered → Parameter → Numbered
 numbered_parameter numbered p = let t = type_known (type_of p.kind) in
-    (with_variable numbered.0 p.name.name (record { kind = Some t; slot = next_slot numbered.1; assignable = not (is_in p.mode) }), with_slot t numbered.1)
+    (with_variable numbered.0 p.name.name (record { kind = Some t; slot = next_slot numbered.1; assignable = gives p.mode }), with_slot t numbered.1)
 
 abbrev pub numbered_parameters : Numbered → List Parameter → Numbered
 numbered_parameters numbered [] = numbered

@@ -1,7 +1,7 @@
 //! Routines.
 ghost use Rattle.std.specs.Prelude.{◌≡◌, [], map, option_map, IfOk, IsTrue};
+ghost use Rattle.psm_terms.specs.Modes.{gives};
 ghost use Rattle.psm_scope.specs.KeptScopes.{can_declare_here};
-ghost use Rattle.psm_rules.specs.FileFaults.{is_in};
 ghost use Rattle.psm_rules.specs.Types.{type_of};
 ghost use Rattle.psm_resolve_expr.specs.Exprs.{type_known};
 ghost use Rattle.psm_resolve.specs.Files.{nothing_numbered, resolve_parameter, resolve_routine, routine_numbered, numbered_parameter};
@@ -12,7 +12,6 @@ use psm_list::{Boxed, List};
 use psm_resolve_expr::Scopes;
 use psm_resolved::{ResolvedParameter, ResolvedRoutine, ResolvedStatement};
 use psm_scope::{ScopeKind, Variable};
-use psm_symbols::is_in;
 use psm_tree::{DataType, Parameter, Routine};
 use psm_value::SqlType;
 use std::alloc::{AllocError, Global};
@@ -133,7 +132,7 @@ fn declare_parameter<'a>(
     let variable = Variable {
         kind: Some(kind),
         slot: numbering.slot(kind)?,
-        assignable: !is_in(parameter.mode),
+        assignable: parameter.mode.gives(),
     };
     declare_known(scopes, &parameter.name.name, variable)?;
     Ok(())

@@ -2,8 +2,7 @@
 use Rattle.std.specs.Prelude.{ℕ, nat_eq, Bool, true, false, not, ◌&&◌, ◌||◌, Option, Some, None, is_some, Result, Ok, Err, List, [], ◌∷◌, ◌++◌, map, length, slice_get, if◌then◌else◌}
 use Rattle.std.specs.List.{list_any}
 use Rattle.std.specs.Cmp.Lexicographic.{pointwise}
-use Rattle.psm_terms.specs.declared.routines.ParameterMode.{ParameterMode}
-use Rattle.psm_terms.specs.declared.routines.ParameterMode.TheVariants as modes
+use Rattle.psm_terms.specs.Modes.{gives}
 use Rattle.psm_num.specs.Num.{Num}
 use Rattle.psm_token.specs.declared.place.Place.{Place}
 use Rattle.psm_num.specs.Arithmetic.{negated}
@@ -322,11 +321,6 @@ references_faults before (t ∷ ts) = references_fault (with_referred before t) 
 
 -- ---- routines
 
-abbrev pub is_in : ParameterMode → Bool
-is_in modes.In = true
-is_in modes.Out = false
-is_in modes.InOut = false
-
 abbrev pub is_function : Routine → Bool
 is_function r = is_some r.returns
 
@@ -446,13 +440,13 @@ characteristics_fault before (n ∷ ns) = breaks_if (list_any (nat_eq (character
 -- ---- a routine
 
 abbrev pub mode_fault : Bool → Parameter → Option Fault
-mode_fault of_function p = breaks_if (of_function && not (is_in p.mode)) rule.ModeNotAllowed p.place
+mode_fault of_function p = breaks_if (of_function && gives p.mode) rule.ModeNotAllowed p.place
 
 abbrev pub parameter_fault : Bool → Parameter → Option Fault
 parameter_fault of_function p = earlier (mode_fault of_function p) (type_fault p.kind (type_of p.kind))
 
 abbrev pub parameter_variable : Parameter → Variable
-parameter_variable p = record { kind = type_of p.kind; slot = 0; assignable = not (is_in p.mode) }
+parameter_variable p = record { kind = type_of p.kind; slot = 0; assignable = gives p.mode }
 
 -- a parameter whose name stands before declares nothing
 abbrev pub with_parameter : Scopes → Parameter → Scopes

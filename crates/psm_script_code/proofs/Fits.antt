@@ -1,10 +1,8 @@
 -- The commands that are made of those of an accepted script ask of code what it has.
-use Rattle.std.proofs.Common.{◌≡◌, ℕ, zero, suc, true, List, [], ◌∷◌, length, map, Some, None, is_some, refl, ap, sym, ◌∙◌, subst, cond}
-use Rattle.std.specs.Prelude.{slice_get, if◌then◌else◌}
+use Rattle.std.proofs.Common.{◌≡◌, ℕ, zero, suc, true, List, [], ◌∷◌, length, map, Some, None, is_some, refl, ap, sym, ◌∙◌, subst}
+use Rattle.std.specs.Prelude.{slice_get}
 use Rattle.std.specs.List.{All, AllByRecursion}
 use Rattle.std.proofs.lemmas.List.Elements.{All-from_recursion}
-use Rattle.psm_terms.specs.declared.routines.ParameterMode.{ParameterMode}
-use Rattle.psm_terms.specs.declared.routines.ParameterMode.TheVariants as modes
 use Rattle.psm_value.specs.declared.datum.Datum.{Datum}
 use Rattle.psm_exprcode.specs.declared.query.Query.{Query}
 use Rattle.psm_exprcode.specs.Kinds.{letter_of}
@@ -12,10 +10,8 @@ use Rattle.psm_table.specs.Definition.{kinds_of}
 use Rattle.psm_table.specs.declared.definition.TableDef.{TableDef}
 use Rattle.psm_tablecode.specs.TypeChecks.{fits_query, letters_of}
 use Rattle.psm_code.specs.declared.code.CodeTable.{CodeTable}
-use Rattle.psm_code.specs.declared.code.Parameter.{Parameter}
 use Rattle.psm_code.specs.declared.code.RawCode.{RawCode}
 use Rattle.psm_code.specs.Instructions as code_of
-use Rattle.psm_code.specs.Parts as parts
 use Rattle.psm_resolved.specs.declared.expr.ResolvedQuery.{ResolvedQuery, out-ResolvedQuery}
 use Rattle.psm_resolved.specs.declared.file.ResolvedFile.{ResolvedFile}
 use Rattle.psm_resolved.specs.declared.file.ResolvedTable.{ResolvedTable}
@@ -47,20 +43,11 @@ use Rattle.psm_script_code.proofs.TypeChecks.{query_fits}
 
 -- ---- CALL
 
-taking_more : (m : ParameterMode) (p : Parameter) (ps qs : List Parameter) → length ps ≡ length qs → length (if checked.takes m then p ∷ ps else ps) ≡ length (cond (parts.takes m) (p ∷ qs) qs)
-taking_more modes.In p ps qs e = ap suc e
-taking_more modes.Out p ps qs e = e
-taking_more modes.InOut p ps qs e = ap suc e
-
-same_taking : (ps : List Parameter) → length (checked.taking ps) ≡ length (parts.taking ps)
-same_taking [] = refl
-same_taking (p ∷ ps) = taking_more p.mode p (checked.taking ps) (parts.taking ps) (same_taking ps)
-
 call_fits : (code : RawCode) (procedure routine : ℕ) (values args : List Datum) → checked.IsCall code procedure values → CommandMade code (Call procedure values) (made.Call routine args) → Takes code routine args
 call_fits code procedure routine values args is h = record {
   routine = is.routine;
   there = h.0 ∙ is.there;
-  many = ap length h.1 ∙ is.counted ∙ same_taking is.routine.parameters;
+  many = ap length h.1 ∙ is.counted;
 }
 
 -- ---- SELECT

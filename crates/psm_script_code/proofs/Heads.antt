@@ -1,8 +1,6 @@
 -- Code that has the tables and the heads of the routines of a file: a script may name the same, and by the same numbers.
-use Rattle.std.proofs.Common.{◌≡◌, ℕ, suc, Bool, List, [], ◌∷◌, ◌++◌, map, length, Some, is_some, refl, ap, ◌∙◌}
+use Rattle.std.proofs.Common.{◌≡◌, ℕ, suc, Bool, List, [], ◌∷◌, ◌++◌, map, length, is_some, refl, ap, ◌∙◌}
 use Rattle.std.specs.Prelude.{if◌then◌else◌}
-use Rattle.psm_terms.specs.declared.routines.ParameterMode.{ParameterMode}
-use Rattle.psm_terms.specs.declared.routines.ParameterMode.TheVariants as modes
 use Rattle.psm_scope.specs.Scopes.{Spelling}
 use Rattle.psm_scope.specs.Routines.{procedure}
 use Rattle.psm_scope.specs.declared.procedures.ParameterScope.{ParameterScope}
@@ -109,17 +107,9 @@ same_keys known (t ∷ ts) [] h = absurd h
 same_keys known (t ∷ ts) (u ∷ us) h =
     ap (λ (d : TableDef). checked.with_keys (declared_once known d.name (key_names d.columns d.key)) us) h.0 ∙ same_keys (with_key known t) ts us h.1
 
-same_mode : (m : ParameterMode) → m ≡ m
-same_mode modes.In = refl
-same_mode modes.Out = refl
-same_mode modes.InOut = refl
-
-same_parameter : (p : ResolvedParameter) → checked.parameter_of (lowered.parameter_of p) ≡ parameter_of p
-same_parameter p = ap (λ m. record { mode = m; kind = Some p.kind }) (same_mode p.mode)
-
 same_parameters : (ps : List ResolvedParameter) → map checked.parameter_of (map lowered.parameter_of ps) ≡ map parameter_of ps
 same_parameters [] = refl
-same_parameters (p ∷ ps) = ap (λ x. x ∷ map checked.parameter_of (map lowered.parameter_of ps)) (same_parameter p) ∙ ap (λ xs. parameter_of p ∷ xs) (same_parameters ps)
+same_parameters (p ∷ ps) = ap (λ xs. parameter_of p ∷ xs) (same_parameters ps)
 
 same_count : (ps : List ResolvedParameter) → length (map lowered.parameter_of ps) ≡ length ps
 same_count [] = refl

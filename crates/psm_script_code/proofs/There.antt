@@ -3,6 +3,7 @@ use Rattle.std.proofs.Common.{◌≡◌, ℕ, zero, suc, Bool, true, false, List
 use Rattle.std.specs.Prelude.{filter, not, slice_get, if◌then◌else◌}
 use Rattle.psm_terms.specs.declared.routines.ParameterMode.{ParameterMode}
 use Rattle.psm_terms.specs.declared.routines.ParameterMode.TheVariants as modes
+use Rattle.psm_terms.specs.Modes.{takes}
 use Rattle.psm_resolved.specs.declared.file.ResolvedFile.{ResolvedFile}
 use Rattle.psm_resolved.specs.declared.file.ResolvedParameter.{ResolvedParameter}
 use Rattle.psm_resolved.specs.declared.file.ResolvedRoutine.{ResolvedRoutine}
@@ -16,7 +17,7 @@ use Rattle.psm_code.specs.declared.code.RawCode.{RawCode}
 use Rattle.psm_code.specs.declared.code.RawRoutine.{RawRoutine}
 use Rattle.psm_simulation.specs.Simulation as lowered
 use Rattle.psm_typing.specs.TypingContext.{IsThere, taken_by, with_taken}
-use Rattle.psm_check_script.specs.There.{IsCall, procedures_in, takes, taking}
+use Rattle.psm_check_script.specs.There.{IsCall, procedures_in}
 use Rattle.psm_script_code.proofs.Heads.{HasHeads, SameHead, SameHeads, SameTables}
 
 -- ---- procedures

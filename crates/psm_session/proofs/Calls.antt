@@ -3,12 +3,13 @@ use Rattle.std.proofs.Common.{◌≡◌, ℕ, Bool, true, List, [], ◌∷◌, �
 use Rattle.std.specs.Prelude.{codes}
 use Rattle.psm_terms.specs.declared.routines.ParameterMode.{ParameterMode}
 use Rattle.psm_terms.specs.declared.routines.ParameterMode.TheVariants.{In, Out, InOut}
+use Rattle.psm_terms.specs.Modes.{gives}
 use Rattle.psm_value.specs.declared.datum.Datum.{Datum}
 use Rattle.psm_table.specs.Table.{Contents}
 use Rattle.psm_code.specs.declared.code.Parameter.{Parameter}
 use Rattle.psm_code.specs.declared.code.RawCode.{RawCode}
 use Rattle.psm_code.specs.declared.code.RawRoutine.{RawRoutine}
-use Rattle.psm_code.specs.Parts.{gives, giving, routine_at}
+use Rattle.psm_code.specs.Parts.{giving, routine_at}
 use Rattle.psm_code.specs.Run.{Ran}
 use Rattle.psm_code.specs.MachineInvariant.{is_due}
 use Rattle.psm_code.specs.State.{End, Ended, Raised, NoTurns, Stuck, Machine}

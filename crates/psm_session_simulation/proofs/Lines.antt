@@ -3,12 +3,13 @@ use Rattle.std.proofs.Common.{◌≡◌, ℕ, List, [], ◌∷◌, ◌++◌, map
 use Rattle.std.specs.Prelude.{codes, encode_utf8_all}
 use Rattle.psm_terms.specs.declared.routines.ParameterMode.{ParameterMode}
 use Rattle.psm_terms.specs.declared.routines.ParameterMode.TheVariants.{In, Out, InOut}
+use Rattle.psm_terms.specs.Modes.{gives}
 use Rattle.psm_value.specs.declared.datum.Datum.{Datum}
 use Rattle.psm_value.specs.Printed.{printed}
 use Rattle.psm_resolved.specs.declared.file.ResolvedParameter.{ResolvedParameter}
 use Rattle.psm_meaning.specs.Lines.{line, value_line, value_lines}
 use Rattle.psm_code.specs.declared.code.Parameter.{Parameter}
-use Rattle.psm_code.specs.Parts.{back, given_back, gives, giving}
+use Rattle.psm_code.specs.Parts.{back, given_back, giving}
 use Rattle.psm_simulation.specs.Simulation.{parameter_of}
 use Rattle.psm_session.specs.CommandSteps.{given_lines}
 

@@ -25,7 +25,7 @@ use Rattle.psm_code.specs.Steps as steps
 use Rattle.psm_simulation.specs.Agreement.{Evaluates, IsReady, RaisedAt, Spot, machine}
 use Rattle.psm_simulation.specs.Expressions.{Takes, stacked}
 use Rattle.psm_simulation.specs.Simulation.{RoutineStands, parameter_of}
-use Rattle.psm_simulation.proofs.Entering.{Gives, entered-same, filled-same, given_as, pops-stacked, wants-as_many}
+use Rattle.psm_simulation.proofs.Entering.{Gives, entered-same, filled-same, given_as, pops-stacked, takes-as_many}
 use Rattle.psm_simulation.proofs.Runs.{leads-here}
 
 -- the activation that calls, at its line
@@ -113,7 +113,7 @@ module _ (code : RawCode) (r : RawRoutine) (k following : ℕ) (spot : Spot) (m 
       let at_call : Machine = machine spot pc (stacked args below) st in
       let rest : RawRoutine → steps.Act (Unit {0}) = λ c. steps.◌>>=◌ (steps.pops (length (taking c.parameters)) []) (λ xs. steps.◌>>=◌ (coded.entered c.parameters xs) (after_entry n c)) in
       let goal : steps.Came Successor → Type 0 = λ c. Rests code r k following spot c to (meaning.◌>>=◌ (activated routine args) out m st).given (meaning.◌>>=◌ (activated routine args) out m st).state in
-      let as_many : length (taking callee.parameters) ≡ length args = ap (λ ps. length (taking ps)) stands.parameters ∙ wants-as_many routine.parameters ∙ sym count in
+      let as_many : length (taking callee.parameters) ≡ length args = ap (λ ps. length (taking ps)) stands.parameters ∙ takes-as_many routine.parameters ∙ sym count in
       let one : steps.◌>>=◌ (steps.◌>>=◌ (steps.present (routine_at code n)) rest) (λ u. steps.got here) at_call ≡ steps.◌>>=◌ (rest callee) (λ u. steps.got here) at_call = ap (λ x. steps.◌>>=◌ (steps.◌>>=◌ (steps.present x) rest) (λ u. steps.got here) at_call) at in
       let two : steps.pops (length (taking callee.parameters)) [] at_call ≡ record { given = steps.Got args; machine = machine spot pc below st } = ap (λ c. steps.pops c [] at_call) as_many ∙ pops-stacked args below at_call in
       let go : List Datum → steps.Act (Unit {0}) = λ xs. steps.◌>>=◌ (coded.entered callee.parameters xs) (after_entry n callee) in

@@ -2,6 +2,7 @@
 use Rattle.std.proofs.Common.{◌≡◌, suc, ◌+◌, Bool, true, false, List, [], ◌∷◌, ◌++◌, filter, length, map, refl, ap, ◌∙◌, arith, Result, Ok, Err, if◌then◌else◌}
 use Rattle.psm_terms.specs.declared.routines.ParameterMode.{ParameterMode}
 use Rattle.psm_terms.specs.declared.routines.ParameterMode.TheVariants.{In, Out, InOut}
+use Rattle.psm_terms.specs.Modes.{takes}
 use Rattle.psm_sqlstate.specs.declared.state.SqlState.{SqlState}
 use Rattle.psm_value.specs.declared.datum.Datum.{Datum}
 use Rattle.psm_value.specs.declared.datum.Datum.TheVariants.{Null}
@@ -15,11 +16,11 @@ use Rattle.psm_meaning.specs.Acts.{Evaluated, Given, Got, Raises, Ends, Stuck, M
 use Rattle.psm_meaning.specs.Calls as calls
 use Rattle.psm_meaning.specs.State.{State}
 use Rattle.psm_code.specs.Calling as coded
-use Rattle.psm_code.specs.Parts.{takes, taking}
+use Rattle.psm_code.specs.Parts.{taking}
 use Rattle.psm_code.specs.State as code_state
 use Rattle.psm_code.specs.State.{Machine}
 use Rattle.psm_code.specs.Steps as steps
-use Rattle.psm_simulation.specs.Expressions.{stacked, wants}
+use Rattle.psm_simulation.specs.Expressions.{stacked}
 use Rattle.psm_simulation.specs.Simulation.{parameter_of}
 
 -- ---- arguments come off the operands
@@ -66,20 +67,14 @@ pops-stacked ds below m =
 
 -- ---- as many as the parameters take
 
-wants-takes : (mode : ParameterMode) → takes mode ≡ wants mode
-wants-takes In = refl
-wants-takes Out = refl
-wants-takes InOut = refl
-
-counted : (b : Bool) (p : ResolvedParameter) (ps : List ResolvedParameter) → length (taking (map parameter_of ps)) ≡ length (filter (λ q. wants q.mode) ps)
-    → length (if b then parameter_of p ∷ taking (map parameter_of ps) else taking (map parameter_of ps)) ≡ length (if b then p ∷ filter (λ q. wants q.mode) ps else filter (λ q. wants q.mode) ps)
+counted : (b : Bool) (p : ResolvedParameter) (ps : List ResolvedParameter) → length (taking (map parameter_of ps)) ≡ length (filter (λ q. takes q.mode) ps)
+    → length (if b then parameter_of p ∷ taking (map parameter_of ps) else taking (map parameter_of ps)) ≡ length (if b then p ∷ filter (λ q. takes q.mode) ps else filter (λ q. takes q.mode) ps)
 counted true p ps e = ap suc e
 counted false p ps e = e
 
-pub wants-as_many : (ps : List ResolvedParameter) → length (taking (map parameter_of ps)) ≡ length (filter (λ p. wants p.mode) ps)
-wants-as_many [] = refl
-wants-as_many (p ∷ ps) =
-    ap (λ b. length (if b then parameter_of p ∷ taking (map parameter_of ps) else taking (map parameter_of ps))) (wants-takes p.mode) ∙ counted (wants p.mode) p ps (wants-as_many ps)
+pub takes-as_many : (ps : List ResolvedParameter) → length (taking (map parameter_of ps)) ≡ length (filter (λ p. takes p.mode) ps)
+takes-as_many [] = refl
+takes-as_many (p ∷ ps) = counted (takes p.mode) p ps (takes-as_many ps)
 
 -- ---- the arguments are stored
 

@@ -2,6 +2,7 @@
 use Rattle.std.proofs.Common.{◌≡◌, ℕ, suc, Bool, true, not, List, [], ◌∷◌, filter, length, map, slice_get, refl, ap, sym, ◌∙◌, subst, Option, Some, None, IfSome, if◌then◌else◌}
 use Rattle.psm_terms.specs.declared.routines.ParameterMode.{ParameterMode}
 use Rattle.psm_terms.specs.declared.routines.ParameterMode.TheVariants as modes
+use Rattle.psm_terms.specs.Modes.{takes}
 use Rattle.psm_value.specs.declared.datum.Datum.{Datum}
 use Rattle.psm_value.specs.declared.sqltype.SqlType.{SqlType}
 use Rattle.psm_exprcode.specs.Applied.{with_named}
@@ -30,7 +31,7 @@ use Rattle.psm_code.specs.State.{Machine, Stepped}
 use Rattle.psm_simulation.proofs.Closing.{all-begin, all-closed}
 use Rattle.psm_simulation.specs.Agreement.{Evaluates, Fits, Leads, Spot, areas, machine}
 use Rattle.psm_simulation.specs.Env.{Env, Plain, Raising, outermost, eval_context_of}
-use Rattle.psm_simulation.specs.Expressions.{stacked, wants}
+use Rattle.psm_simulation.specs.Expressions.{stacked}
 use Rattle.psm_simulation.specs.Scheme.{AreFor, AreForRoutine, Arguments, IsProcedure, Stores, slots_given}
 use Rattle.psm_simulation.specs.Simulation.{Evals, FileStands, RoutineStands, Simulates, last_instruction, parameter_of}
 use Rattle.psm_simulation.proofs.Calling.{call-rests, within}
@@ -66,14 +67,14 @@ evals-variable {code = code} {r = r} {k = k} {following = following} {spot = spo
 
 -- ---- arguments
 
-counts : (mode other : ParameterMode) (p : ResolvedParameter) (n : ℕ) (ps : List ResolvedParameter) → mode ≡ other → length (if wants other then p ∷ ps else ps) ≡ n → length (if wants mode then p ∷ ps else ps) ≡ n
-counts mode other p n ps e h = ap (λ x. length (if wants x then p ∷ ps else ps)) e ∙ h
+counts : (mode other : ParameterMode) (p : ResolvedParameter) (n : ℕ) (ps : List ResolvedParameter) → mode ≡ other → length (if takes other then p ∷ ps else ps) ≡ n → length (if takes mode then p ∷ ps else ps) ≡ n
+counts mode other p n ps e h = ap (λ x. length (if takes x then p ∷ ps else ps)) e ∙ h
 
 wanted : List ResolvedParameter → List ResolvedParameter
-wanted ps = filter (λ p. wants p.mode) ps
+wanted ps = filter (λ p. takes p.mode) ps
 
 pub evals-arguments : {file : ResolvedFile} {code : RawCode} {r : RawRoutine} {k following : ℕ} {spot : Spot} {m : Meaning} {B : Type 0} → Simulates file code m → routine_at code spot.number ≡ Some r → (args : List ResolvedArgument) (ps : List ResolvedParameter) → AreFor args ps → {pc mid : ℕ} → Arguments file code r k following args pc mid
-    → (below : List Operand) (go : List Datum → Act B) (to : B → State → Stepped) → ((ds : List Datum) → length ds ≡ length (filter (λ p. wants p.mode) ps) → Evals code r k following spot m (go ds) (at_line spot mid (stacked ds below)) to)
+    → (below : List Operand) (go : List Datum → Act B) (to : B → State → Stepped) → ((ds : List Datum) → length ds ≡ length (filter (λ p. takes p.mode) ps) → Evals code r k following spot m (go ds) (at_line spot mid (stacked ds below)) to)
     → Evals code r k following spot m (◌>>=◌ (arguments_given args) go) (at_line spot pc below) to
 evals-arguments {code = code} {r = r} {k = k} {following = following} {spot = spot} {m = m} sim there [] [] f e below go to h = subst (λ n. Evals code r k following spot m (◌>>=◌ (arguments_given []) go) (at_line spot n below) to) (sym e) (record { by = λ st d. (h [] refl).by st d })
 evals-arguments sim there [] (p ∷ ps) f e below go to h = absurd f
@@ -81,13 +82,13 @@ evals-arguments sim there (a ∷ args) [] f e below go to h = absurd f
 evals-arguments {spot = spot} sim there (arguments.In e ∷ args) (p ∷ ps) f (next, x, more) below go to h =
     evals-regrouped (value_of e) (λ d. ◌>>=◌ (arguments_given args) (λ ds. got (d ∷ ds))) go (at_line spot _ below) to
     (evals-bind (evals-value_of sim there x below) (λ d. evals-regrouped (arguments_given args) (λ ds. got (d ∷ ds)) go (at_line spot next (Value d ∷ below)) to
-    (evals-arguments sim there args ps f.1 more (Value d ∷ below) (λ ds. go (d ∷ ds)) to (λ ds n. h (d ∷ ds) (ap suc n ∙ sym (counts p.mode modes.In p _ (filter (λ p. wants p.mode) ps) f.0 refl))))))
+    (evals-arguments sim there args ps f.1 more (Value d ∷ below) (λ ds. go (d ∷ ds)) to (λ ds n. h (d ∷ ds) (ap suc n ∙ sym (counts p.mode modes.In p _ (filter (λ p. takes p.mode) ps) f.0 refl))))))
 evals-arguments sim there (arguments.Out slot ∷ args) (p ∷ ps) f x below go to h =
-    evals-arguments sim there args ps f.1 x below go to (λ ds n. h ds (n ∙ sym (counts p.mode modes.Out p _ (filter (λ p. wants p.mode) ps) f.0 refl)))
+    evals-arguments sim there args ps f.1 x below go to (λ ds n. h ds (n ∙ sym (counts p.mode modes.Out p _ (filter (λ p. takes p.mode) ps) f.0 refl)))
 evals-arguments {spot = spot} sim there (arguments.InOut slot ∷ args) (p ∷ ps) f (x, more) below go to h =
     evals-regrouped (variable slot) (λ d. ◌>>=◌ (arguments_given args) (λ ds. got (d ∷ ds))) go (at_line spot _ below) to
     (evals-bind (evals-variable there x below) (λ d. evals-regrouped (arguments_given args) (λ ds. got (d ∷ ds)) go (at_line spot _ (Value d ∷ below)) to
-    (evals-arguments sim there args ps f.1 more (Value d ∷ below) (λ ds. go (d ∷ ds)) to (λ ds n. h (d ∷ ds) (ap suc n ∙ sym (counts p.mode modes.InOut p _ (filter (λ p. wants p.mode) ps) f.0 refl))))))
+    (evals-arguments sim there args ps f.1 more (Value d ∷ below) (λ ds. go (d ∷ ds)) to (λ ds n. h (d ∷ ds) (ap suc n ∙ sym (counts p.mode modes.InOut p _ (filter (λ p. takes p.mode) ps) f.0 refl))))))
 
 -- ---- values that come back
 
@@ -137,7 +138,7 @@ module _ {file : ResolvedFile} {code : RawCode} {routine : ResolvedRoutine} {r :
   after_call args e = meaning.◌>>◌ (ended_well e.returned) (given_back here args e.variables)
 
   activated-evals : (callee : ResolvedRoutine) (n mid end : ℕ) → slice_get file.routines n ≡ Some callee → not (returns callee.returns) ≡ true → Raising r env.context end mid (instruction.Call n) → (args : List ResolvedArgument) → AreFor args callee.parameters
-      → Stores r env.context end (λ slot. instruction.Store slot) (slots_given args) (suc mid) end → (ds : List Datum) → length ds ≡ length (filter (λ p. wants p.mode) callee.parameters)
+      → Stores r env.context end (λ slot. instruction.Store slot) (slots_given args) (suc mid) end → (ds : List Datum) → length ds ≡ length (filter (λ p. takes p.mode) callee.parameters)
       → Evals code r env.context end spot m (◌>>=◌ (activated callee ds) (after_call args)) (at_line spot mid (stacked ds [])) (λ u. at_line spot end [])
   activated-evals callee n mid end e p l args f stores ds count =
       let q = stands.routines n callee e in

@@ -1,8 +1,7 @@
 -- Which lines stand for an expression outside of rows: from the line pc up to the line end they put what it ends in on the operands.
 use Rattle.std.specs.Prelude.{◌≡◌, ℕ, suc, Bool, true, false, List, [], ◌∷◌, filter, length, slice_get, Option, Some, None}
 use Rattle.psm_terms.specs.declared.operators.LogicalOperator.{LogicalOperator}
-use Rattle.psm_terms.specs.declared.routines.ParameterMode.{ParameterMode}
-use Rattle.psm_terms.specs.declared.routines.ParameterMode.TheVariants as modes
+use Rattle.psm_terms.specs.Modes.{takes}
 use Rattle.psm_value.specs.declared.datum.Datum.TheVariants as data_of
 use Rattle.psm_exprcode.specs.declared.op.Letter.{Letter}
 use Rattle.psm_exprcode.specs.declared.op.Letter.TheVariants.{N, T}
@@ -117,16 +116,10 @@ abbrev pub Operations : RawRoutine → ℕ → ℕ → List Op → ℕ → ℕ �
 Operations r context resume [] pc end = pc ≡ end
 Operations r context resume (o ∷ os) pc end = Raising r context resume pc (instruction.Operation o) × Operations r context resume os (suc pc) end
 
--- whether a parameter takes an argument
-abbrev pub wants : ParameterMode → Bool
-wants modes.In = true
-wants modes.Out = false
-wants modes.InOut = true
-
 -- the routine, if it is there, takes n arguments
 abbrev pub Takes : ℕ → Option ResolvedRoutine → Type 0
 Takes count None = Unit {0}
-Takes count (Some routine) = count ≡ length (filter (λ p. wants p.mode) routine.parameters)
+Takes count (Some routine) = count ≡ length (filter (λ p. takes p.mode) routine.parameters)
 
 -- a function's number among all routines, and as many arguments as it takes
 abbrev pub IsFunction : ResolvedFile → ℕ → ℕ → ℕ → Type 0

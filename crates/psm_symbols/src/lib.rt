@@ -19,5 +19,5 @@ pub use handler_values::{condition_name_fault, handler_value_fault, state_fault}
 pub use names::{label_name, last_name};
 pub use numbers::{as_number, next_number};
 pub use orders::is_one_way;
-pub use parameters::{is_in, kind_of, kinds_of, parameters_of};
+pub use parameters::{kind_of, kinds_of, parameters_of};
 pub use states::good_state;

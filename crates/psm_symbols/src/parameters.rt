@@ -1,11 +1,11 @@
 //! The parameters of routines as calls see them (ISO/IEC 9075-4:1996, SQL-invoked routine).
 ghost use Rattle.std.specs.Prelude.{◌≡◌, map, IfOk};
-ghost use Rattle.psm_rules.specs.FileFaults.{is_in, kind_of, parameter_of};
+ghost use Rattle.psm_terms.specs.Modes.{gives};
+ghost use Rattle.psm_rules.specs.FileFaults.{kind_of, parameter_of};
 
 use psm_check_expr::type_of;
 use psm_list::List;
 use psm_scope::{ArgKind, ParameterScope};
-use psm_terms::ParameterMode;
 use psm_tree::{Parameter, TypeForm};
 use std::alloc::{AllocError, Global};
 
@@ -48,14 +48,4 @@ pub fn parameters_of(
         })?;
     }
     Ok(List::of(known))
-}
-
-/// Whether a parameter can't be set.
-pub fn is_in(mode: ParameterMode) -> bool
-    ensures { result ≡ is_in mode }
-{
-    match mode {
-        ParameterMode::In => true,
-        ParameterMode::Out | ParameterMode::InOut => false,
-    }
 }

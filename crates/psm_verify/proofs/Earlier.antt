@@ -4,6 +4,7 @@ use Rattle.std.specs.Prelude.{slice_get}
 use Rattle.std.specs.List.{flat_map, list_all}
 use Rattle.std.proofs.lemmas.List.{append-nil}
 use Rattle.std.proofs.lemmas.Option.{get_or_from_slice_get, slice_get_within}
+use Rattle.psm_terms.specs.Modes.{gives}
 use Rattle.psm_num.proofs.Literals.{and_first, and_second}
 use Rattle.psm_value.specs.Stored.{stored}
 use Rattle.psm_exprcode.specs.declared.set_item.SetItem.{SetItem}
@@ -18,7 +19,7 @@ use Rattle.psm_code.specs.declared.code.RawCode.{RawCode}
 use Rattle.psm_code.specs.declared.code.RawRoutine.{RawRoutine}
 use Rattle.psm_code.specs.declared.rule.CodeRule.{CodeRule}
 use Rattle.psm_code.specs.declared.rule.CodeRule.TheVariants.{Range, Target, Context, Definition}
-use Rattle.psm_code.specs.Parts.{gives, line_at}
+use Rattle.psm_code.specs.Parts.{line_at}
 use Rattle.psm_code.specs.PlanRules.{set_faults}
 use Rattle.psm_code.specs.Rules.{each_after, is_among, is_same, is_some, is_there, there, unless, where_there}
 use Rattle.psm_code.specs.RoutineRules as rules

@@ -1,9 +1,9 @@
 //! Routines, their parameters and variables (ISO/IEC 9075-4:1996, SQL-invoked routine).
 ghost use Rattle.std.specs.Prelude.{◌≡◌, [], ◌∷◌, map};
+ghost use Rattle.psm_terms.specs.Modes.{gives};
 ghost use Rattle.psm_exprcode.specs.WellFormed.{is_type as is_type_within};
 ghost use Rattle.psm_code.specs.Rules.{each_after, there, where_there};
 ghost use Rattle.psm_code.specs.RoutineRules as routines;
-ghost use Rattle.psm_code.specs.Parts.{gives as gives_back};
 ghost use Rattle.psm_verify.specs.Checked.{Finds, checked};
 ghost use Rattle.psm_verify.specs.Earlier.{is_new_parameter, is_new_routine};
 
@@ -12,7 +12,6 @@ use crate::listing::passed;
 use crate::types::is_type;
 use psm_code::{CodeRule, Parameter, RawRoutine};
 use psm_keys::NameSet;
-use psm_terms::ParameterMode;
 use psm_value::SqlType;
 use std::alloc::Global;
 
@@ -83,20 +82,10 @@ fn parameter_fault(
 {
     if !is_type(parameter.kind) {
         Some(CodeRule::Range)
-    } else if is_new && !(routine.is_function && gives(parameter.mode)) {
+    } else if is_new && !(routine.is_function && parameter.mode.gives()) {
         None
     } else {
         Some(CodeRule::Definition)
-    }
-}
-
-// Whether a parameter gives a value back.
-fn gives(mode: ParameterMode) -> bool
-    ensures { result ≡ gives_back mode }
-{
-    match mode {
-        ParameterMode::In => false,
-        ParameterMode::Out | ParameterMode::InOut => true,
     }
 }
 

@@ -5,6 +5,7 @@ use Rattle.std.proofs.lemmas.List.{length-map}
 use Rattle.std.specs.Prelude.{filter, if◌then◌else◌}
 use Rattle.psm_terms.specs.declared.routines.ParameterMode.{ParameterMode}
 use Rattle.psm_terms.specs.declared.routines.ParameterMode.TheVariants as modes
+use Rattle.psm_terms.specs.Modes.{takes}
 use Rattle.psm_exprcode.specs.declared.op.Letter.{Letter}
 use Rattle.psm_exprcode.specs.declared.op.Letter.TheVariants.{N, T, B}
 use Rattle.psm_resolved.specs.declared.expr.ResolvedExpr.{ResolvedExpr}
@@ -13,7 +14,7 @@ use Rattle.psm_resolved.specs.declared.expr.ResolvedOperation.{ResolvedOperation
 use Rattle.psm_resolved.specs.declared.expr.ResolvedWhen.{ResolvedWhen}
 use Rattle.psm_value.specs.declared.sqltype.SqlType.{SqlType}
 use Rattle.psm_resolved.specs.declared.file.ResolvedParameter.{ResolvedParameter}
-use Rattle.psm_simulation.specs.Expressions.{Layer, is_straight, operands_of, wants}
+use Rattle.psm_simulation.specs.Expressions.{Layer, is_straight, operands_of}
 use Rattle.psm_exprgen.specs.declared.known.Known.{Known}
 use Rattle.psm_codegen.specs.Outside as outside
 use Rattle.psm_codegen.specs.Outside.{AllOutside, LayerOutside, ChainLinksOutside, Outside, PerhapsOutside, WhensOutside}
@@ -76,13 +77,13 @@ typed-operands e k (layers.Trim side text) g h = ((T, h.1), tt)
 
 -- ---- the parameters that take an argument
 
-taken-more : (mode : ParameterMode) (t : SqlType) (p : ResolvedParameter) (ps : List ResolvedParameter) (ts : List SqlType) → p.mode ≡ mode → length ts ≡ length (filter (λ p. wants p.mode) ps)
-    → length (with_taken mode t ts) ≡ length (filter (λ p. wants p.mode) (p ∷ ps))
-taken-more modes.In t p ps ts q h = ap suc h ∙ ap (λ m. length (if wants m then p ∷ filter (λ p. wants p.mode) ps else filter (λ p. wants p.mode) ps)) (sym q)
-taken-more modes.Out t p ps ts q h = h ∙ ap (λ m. length (if wants m then p ∷ filter (λ p. wants p.mode) ps else filter (λ p. wants p.mode) ps)) (sym q)
-taken-more modes.InOut t p ps ts q h = ap suc h ∙ ap (λ m. length (if wants m then p ∷ filter (λ p. wants p.mode) ps else filter (λ p. wants p.mode) ps)) (sym q)
+taken-more : (mode : ParameterMode) (t : SqlType) (p : ResolvedParameter) (ps : List ResolvedParameter) (ts : List SqlType) → p.mode ≡ mode → length ts ≡ length (filter (λ p. takes p.mode) ps)
+    → length (with_taken mode t ts) ≡ length (filter (λ p. takes p.mode) (p ∷ ps))
+taken-more modes.In t p ps ts q h = ap suc h ∙ ap (λ m. length (if takes m then p ∷ filter (λ p. takes p.mode) ps else filter (λ p. takes p.mode) ps)) (sym q)
+taken-more modes.Out t p ps ts q h = h ∙ ap (λ m. length (if takes m then p ∷ filter (λ p. takes p.mode) ps else filter (λ p. takes p.mode) ps)) (sym q)
+taken-more modes.InOut t p ps ts q h = ap suc h ∙ ap (λ m. length (if takes m then p ∷ filter (λ p. takes p.mode) ps else filter (λ p. takes p.mode) ps)) (sym q)
 
-count-taken : (ps : List ResolvedParameter) → length (taken_by ps) ≡ length (filter (λ p. wants p.mode) ps)
+count-taken : (ps : List ResolvedParameter) → length (taken_by ps) ≡ length (filter (λ p. takes p.mode) ps)
 count-taken [] = refl
 count-taken (p ∷ ps) = taken-more p.mode p.kind p ps (taken_by ps) refl (count-taken ps)
 

@@ -2,6 +2,7 @@
 -- no two are of one name where that is forbidden, with columns, keys and parameters that may be theirs, and well-formed bodies.
 use Rattle.std.specs.List.{list_all}
 use Rattle.std.specs.Prelude.{◌≡◌, ◌≤◌, ◌&&◌, ◌||◌, ℕ, Bool, true, false, not, List, [], ◌∷◌, ◌++◌, length, map, nat_eq, slice_get, None, Option, Some}
+use Rattle.psm_terms.specs.Modes.{gives}
 use Rattle.psm_exprcode.specs.WellFormed.{is_type}
 use Rattle.psm_table.specs.declared.definition.ForeignKey.{ForeignKey}
 use Rattle.psm_resolved.specs.declared.file.ResolvedFile.{ResolvedFile}
@@ -14,7 +15,7 @@ use Rattle.psm_code.specs.TableRules.{are_in_turn, column_fault, key_fault, pair
 use Rattle.psm_code.specs.declared.rule.CodeRule.{CodeRule}
 use Rattle.psm_simulation.specs.Simulation.{parameter_of}
 use Rattle.psm_exprgen.specs.Queries.{column_letters, is_test}
-use Rattle.psm_codegen.specs.Files.{gives_back, is_function, known_of}
+use Rattle.psm_codegen.specs.Files.{is_function, known_of}
 use Rattle.psm_codegen.specs.Standing.{CountsUp, cursors_of}
 use Rattle.psm_typing.specs.TypingContext.{Begin, Each, TypingContext, Shape}
 use Rattle.psm_typing.specs.Statements.{StatementScope}
@@ -70,7 +71,7 @@ AreApart before (r ∷ rs) = (list_all (is_apart_from r) before ≡ true) × Are
 
 -- a function has IN parameters alone
 abbrev pub is_passed : Bool → ResolvedParameter → Bool
-is_passed of_function p = not (of_function && gives_back p.mode)
+is_passed of_function p = not (of_function && gives p.mode)
 
 -- the body of a routine sees no cursor, and nothing can be left
 abbrev pub body : StatementScope
