@@ -32,7 +32,6 @@ use Rattle.psm_rules.specs.CheckerScope.{Columns}
 use Rattle.psm_rules.proofs.Earliest.{first_of_cons}
 use Rattle.psm_table.specs.Definition.{kinds_of}
 use Rattle.psm_table.specs.declared.definition.Column.{Column}
-use Rattle.psm_tablecode.specs.Codes.{set_function}
 use Rattle.psm_resolved.specs.declared.expr.ResolvedExpr.TheVariants as exprs
 use Rattle.psm_resolved.specs.declared.expr.ResolvedItem.{ResolvedItem, out-roll-ResolvedItem}
 use Rattle.psm_resolved.specs.declared.expr.ResolvedItems.{out-ResolvedItems}
@@ -242,7 +241,7 @@ plain_good e types cs alias a f m p well none =
     (refl, (o.type, ap (λ g. g.shape) o.checked, o.value, tt))
 
 rows_counted : (types : List SqlType) (e : TypingContext) → IsSet (letters_of types) (variables_of e) (rows.set_of (set_item sets.Count None)) N
-rows_counted types e = let r = sym (out-roll-ResolvedItem (record { function = sets.Count; operand = None })) in (N, subst (λ i. IsSetOperand (letters_of types) (variables_of e) i.operand N) r refl, subst (λ i. letter_of_set (set_function i.function) N ≡ N) r refl)
+rows_counted types e = let r = sym (out-roll-ResolvedItem (record { function = sets.Count; operand = None })) in (N, subst (λ i. IsSetOperand (letters_of types) (variables_of e) i.operand N) r refl, subst (λ i. letter_of_set i.function N ≡ N) r refl)
 
 pub count_good : (e : TypingContext) (types : List SqlType) (cs : Columns) (place : Place) (alias : Option Spelling)
     → PickGood e types cs (record { form = Set; checked = well_typed place (Value integer); alias = alias }) (OfAll (set_item sets.Count None) (Value integer))
@@ -255,7 +254,7 @@ set_sane sets.Avg t h = record { typed = refl; small = h.small }
 set_sane sets.Min t h = h
 set_sane sets.Max t h = h
 
-set_letter : (function : SetFunction) (t : Typed) → letter_of_set (set_function function) (letter_in (family_of t.kind)) ≡ letter_in (family_of (set_result function t).kind)
+set_letter : (function : SetFunction) (t : Typed) → letter_of_set function (letter_in (family_of t.kind)) ≡ letter_in (family_of (set_result function t).kind)
 set_letter sets.Count t = refl
 set_letter sets.Sum t = refl
 set_letter sets.Avg t = refl
@@ -274,7 +273,7 @@ set_is : (e : TypingContext) (types : List SqlType) (function : SetFunction) (m 
 set_is e types function m t v = let r = sym (out-roll-ResolvedItem (record { function = function; operand = Some m.expr })) in (
   letter_in (family_of t.kind),
   subst (λ i. IsSetOperand (letters_of types) (variables_of e) i.operand (letter_in (family_of t.kind))) r (row_value_of e types m t v),
-  subst (λ i. letter_of_set (set_function i.function) (letter_in (family_of t.kind)) ≡ letter_in (family_of (set_result function t).kind)) r (set_letter function t),
+  subst (λ i. letter_of_set i.function (letter_in (family_of t.kind)) ≡ letter_in (family_of (set_result function t).kind)) r (set_letter function t),
 )
 
 from_letter : (function : SetFunction) (t : Typed) → letter_from function (letter_in (family_of t.kind)) ≡ letter_in (family_of (set_result function t).kind)

@@ -20,7 +20,6 @@ use Rattle.psm_exprcode.proofs.Stripping.{is_letter-same}
 use Rattle.psm_table.specs.Evaluator.{and_then, mapped}
 use Rattle.psm_table.specs.Queries.{answered, averaged, column, finished, first_by, function_of, in_range, in_walk, is_met, known, operand_of, operands_of, ranged, summed, walked, Answer}
 use Rattle.psm_table.specs.Queries as queries
-use Rattle.psm_tablecode.specs.Codes.{set_function}
 use Rattle.psm_code.specs.Instructions.{end_letter, set_letter}
 use Rattle.psm_code.specs.PlanRules.{is_due}
 
@@ -110,11 +109,11 @@ least_letter k less (w ∷ ws) d f v h n s e =
 count_letter : (n : ℕ) (d : Datum) → ◌≡◌ {A = Result Datum SqlState} (Ok (queries.whole n)) (Ok d) → has_letter N d ≡ true
 count_letter n d e = let same : queries.whole n ≡ d = cc in ap (has_letter N) (sym same)
 
-sum_letter : (vs : List Datum) (d : Datum) → function_of queries.Sum vs ≡ Ok d → has_letter N d ≡ true
+sum_letter : (vs : List Datum) (d : Datum) → function_of sets.Sum vs ≡ Ok d → has_letter N d ≡ true
 sum_letter [] d e = let same : Null ≡ d = cc in ap (has_letter N) (sym same)
 sum_letter (v ∷ vs) d e = summed_number (queries.sum_of (Some (queries.number_of v)) vs) d e
 
-average_letter : (vs : List Datum) (d : Datum) → function_of queries.Avg vs ≡ Ok d → has_letter N d ≡ true
+average_letter : (vs : List Datum) (d : Datum) → function_of sets.Avg vs ≡ Ok d → has_letter N d ≡ true
 average_letter [] d e = let same : Null ≡ d = cc in ap (has_letter N) (sym same)
 average_letter (v ∷ vs) d e = averaged_number (queries.sum_of (Some (queries.number_of v)) vs) (length (v ∷ vs)) d e
 
@@ -127,11 +126,11 @@ max_of columns variables None = refl
 max_of columns variables (Some lines) = refl
 
 pub function_letter : (columns variables : List Letter) (f : SetFunction) (o : Option (List Line)) (vs : List Datum) (d : Datum) → is_value (op_letter columns variables o) ≡ true
-    → All (λ v. has_letter (op_letter columns variables o) v ≡ true) vs → function_of (set_function f) vs ≡ Ok d → has_letter (set_letter columns variables f o) d ≡ true
+    → All (λ v. has_letter (op_letter columns variables o) v ≡ true) vs → function_of f vs ≡ Ok d → has_letter (set_letter columns variables f o) d ≡ true
 function_letter columns variables sets.Count o vs d v h e = count_letter (length vs) d e
 function_letter columns variables sets.Sum o vs d v h e = sum_letter vs d e
 function_letter columns variables sets.Avg o vs d v h e = average_letter vs d e
 function_letter columns variables sets.Min o vs d v h e =
-    ap (λ k. has_letter k d) (min_of columns variables o) ∙ least_letter (op_letter columns variables o) queries.comes_before vs d (function_of queries.Min) v h refl (λ v ws. refl) e
+    ap (λ k. has_letter k d) (min_of columns variables o) ∙ least_letter (op_letter columns variables o) queries.comes_before vs d (function_of sets.Min) v h refl (λ v ws. refl) e
 function_letter columns variables sets.Max o vs d v h e =
-    ap (λ k. has_letter k d) (max_of columns variables o) ∙ least_letter (op_letter columns variables o) queries.comes_after vs d (function_of queries.Max) v h refl (λ v ws. refl) e
+    ap (λ k. has_letter k d) (max_of columns variables o) ∙ least_letter (op_letter columns variables o) queries.comes_after vs d (function_of sets.Max) v h refl (λ v ws. refl) e

@@ -21,7 +21,7 @@ use Rattle.psm_table.specs.Evaluator.{and_then, mapped, test_of, values_of}
 use Rattle.psm_table.specs.Queries.{answered, averaged, column, finished, first_by, function_of, in_range, in_walk, is_met, known, operand_of, operands_of, ranged, summed, walked, Answer}
 use Rattle.psm_table.specs.Queries as queries
 use Rattle.psm_table.specs.Unique.{is_null}
-use Rattle.psm_tablecode.specs.Codes.{items_of, over, set_function, set_of}
+use Rattle.psm_tablecode.specs.Codes.{items_of, over, set_of}
 use Rattle.psm_code.specs.declared.code.RawCode.{RawCode}
 use Rattle.psm_code.specs.declared.code.RawRoutine.{RawRoutine}
 use Rattle.psm_code.specs.Instructions.{columns_at, end_letter, item_letters, set_letter, variables_of}
@@ -143,11 +143,11 @@ module _ (code : RawCode) (r : RawRoutine) (table : ℕ) where
         → ((j : ℕ) (a : Aggregate) → slice_get ags j ≡ Some a → slice_get ks (i + j) ≡ Some (op_letter Columns Variables a.operand)) → SetsFit ags → finished rows i (map set_of ags) ≡ Ok ds
         → are_of (map (λ a. set_letter Columns Variables a.function a.operand) ags) ds ≡ true
     finished_letters ks rows i [] ds h at f e = let none : List Datum = [] in let same : none ≡ ds = cc in ap (are_of []) (sym same)
-    finished_letters ks rows i (a ∷ ags) ds h at f e = by (function_of (set_function a.function) (known (column rows i))) (finished rows (i + 1) (map set_of ags)) refl (λ rest q. finished_letters ks rows (i + 1) ags rest h next f.1 q) e where
+    finished_letters ks rows i (a ∷ ags) ds h at f e = by (function_of a.function (known (column rows i))) (finished rows (i + 1) (map set_of ags)) refl (λ rest q. finished_letters ks rows (i + 1) ags rest h next f.1 q) e where
       next : (j : ℕ) (b : Aggregate) → slice_get ags j ≡ Some b → slice_get ks (i + 1 + j) ≡ Some (op_letter Columns Variables b.operand)
       next j b q = let n : i + suc j ≡ i + 1 + j = omega arith in ap (slice_get ks) (sym n) ∙ at (suc j) b q
 
-      by : (x : Result Datum SqlState) (y : Result (List Datum) SqlState) → function_of (set_function a.function) (known (column rows i)) ≡ x
+      by : (x : Result Datum SqlState) (y : Result (List Datum) SqlState) → function_of a.function (known (column rows i)) ≡ x
           → ((rest : List Datum) → y ≡ Ok rest → are_of (map (λ a. set_letter Columns Variables a.function a.operand) ags) rest ≡ true) → and_then x (λ v. mapped (λ vs. v ∷ vs) y) ≡ Ok ds
           → are_of (set_letter Columns Variables a.function a.operand ∷ map (λ a. set_letter Columns Variables a.function a.operand) ags) ds ≡ true
       by (Ok d) (Ok rest) q k g =

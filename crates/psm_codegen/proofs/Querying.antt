@@ -57,7 +57,7 @@ module _ (vars : List Datum) where
   aggregates-same [] [] h = tt
   aggregates-same [] (a ∷ others) h = absurd h
   aggregates-same (i ∷ is) [] h = absurd h
-  aggregates-same (i ∷ is) (a ∷ others) h = (ap codes.set_function h.0, perhaps-same (out-ResolvedItem i).operand a.operand h.1, aggregates-same is others h.2)
+  aggregates-same (i ∷ is) (a ∷ others) h = (h.0, perhaps-same (out-ResolvedItem i).operand a.operand h.1, aggregates-same is others h.2)
 
   items-same : (layer : Layer) (items : Items) → ItemsAre layer items → SameOf (codes.over vars) (trees.over vars) (codes.items_of items) (trees.items_of layer)
   items-same (layers.Rows es) (coded_items.Rows cs) h = exprs-same es cs h

@@ -14,7 +14,6 @@ use Rattle.psm_value.specs.declared.sqltype.SqlType.{SqlType}
 use Rattle.psm_exprcode.specs.declared.op.Letter.{Letter}
 use Rattle.psm_exprcode.specs.Kinds.{letter_of, some_value}
 use Rattle.psm_exprcode.proofs.Stripping.{is_letter-same}
-use Rattle.psm_tablecode.specs.Codes.{set_function}
 use Rattle.psm_resolved.specs.declared.expr.ResolvedExpr.{ResolvedExpr}
 use Rattle.psm_resolved.specs.declared.expr.ResolvedExpr.TheOpen as layers
 use Rattle.psm_resolved.specs.declared.expr.ResolvedItem.{ResolvedItem, out-ResolvedItem}
@@ -114,7 +113,7 @@ module _ (columns variables : List Letter) where
       let rest = list_all (is_value_of columns variables) es in
       ap₂ (λ i is. i ∷ is) (value-letter (row_type_of columns variables e) k (and_first (is_value_of columns variables e) rest v) h.0.letter) (values-letters es ks (and_second (is_value_of columns variables e) rest v) h.1)
 
-  set-letter : (f : SetFunction) (operand : Option ResolvedExpr) (j k : Letter) → is_value_perhaps columns variables operand ≡ true → IsOperand columns variables operand j → well_typed.letter_of_set (set_function f) j ≡ k
+  set-letter : (f : SetFunction) (operand : Option ResolvedExpr) (j k : Letter) → is_value_perhaps columns variables operand ≡ true → IsOperand columns variables operand j → well_typed.letter_of_set f j ≡ k
       → letter_of_set columns variables f operand ≡ k
   set-letter functions.Count operand j k v h q = q
   set-letter functions.Sum operand j k v h q = q

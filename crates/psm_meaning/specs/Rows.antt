@@ -5,7 +5,7 @@ use Rattle.psm_table.specs.Evaluator.{Evaluator}
 use Rattle.psm_table.specs.Queries.{Aggregate, Answer, Items, Query, answer}
 use Rattle.psm_table.specs.Queries as q
 use Rattle.psm_table.specs.Table.{Contents}
-use Rattle.psm_tablecode.specs.Codes.{set_function, truth_in, value_in}
+use Rattle.psm_tablecode.specs.Codes.{truth_in, value_in}
 use Rattle.psm_resolved.specs.declared.expr.ResolvedExpr.{ResolvedExpr}
 use Rattle.psm_resolved.specs.declared.expr.ResolvedExpr.TheOpen.{ResolvedItems-F}
 use Rattle.psm_resolved.specs.declared.expr.ResolvedExpr.TheOpen as layers
@@ -22,7 +22,7 @@ abbrev pub over : List Datum → Evaluator ResolvedExpr
 over vars = record { value = λ e row. value_in (row_value row vars e); truth = λ e row. truth_in (row_value row vars e) }
 
 abbrev pub set_of : ResolvedItem → Aggregate ResolvedExpr
-set_of i = record { function = set_function (out-ResolvedItem i).function; operand = (out-ResolvedItem i).operand }
+set_of i = record { function = (out-ResolvedItem i).function; operand = (out-ResolvedItem i).operand }
 
 abbrev pub items_of : ResolvedItems-F ResolvedExpr ResolvedItems ResolvedItem ResolvedOperation ResolvedQuery ResolvedWhen → Items ResolvedExpr
 items_of (layers.Rows es) = q.Rows es

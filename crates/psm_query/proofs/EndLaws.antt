@@ -39,7 +39,7 @@ use Rattle.psm_table.specs.Unique.{is_null}
 use Rattle.psm_table.proofs.Filters.{equal_is, filter-whole, filtered, AllPairs-first, AllPairs-rest}
 use Rattle.psm_table.proofs.Rules.{first_true, second_true}
 use Rattle.psm_table.proofs.Walks.{last-cons}
-use Rattle.psm_tablecode.specs.Codes.{over, set_function, set_of, value_in}
+use Rattle.psm_tablecode.specs.Codes.{over, set_of, value_in}
 use Rattle.psm_tablecode.specs.Rows.{values_for}
 use Rattle.psm_tablecode.proofs.Conjunctions.{says}
 use Rattle.psm_query.specs.Ends.{first_like, firsts_of, gathered_from_ends, in_column, is_column_alone, is_of_ends, is_from_ends, rows_beginning, sets_are_from_ends, ends_tally, beginning_for_ends, with_column, with_firsts, IsNext}
@@ -126,12 +126,12 @@ module _ (c : ℕ) where
       ∙ map_same (λ row. get_or (taken_of (before ++ a ∷ sets) row) (length before) Null) (of_row a.operand) (λ row. there (λ (b : Aggregate). of_row b.operand row) before a sets) rows
 
   abbrev tally_over : List (List Datum) → Aggregate → Tally
-  tally_over rows a = tally (set_function a.function) (known (map (of_row a.operand) rows))
+  tally_over rows a = tally a.function (known (map (of_row a.operand) rows))
 
   tallies_over : (before sets : List Aggregate) (rows : List (List Datum)) → tallies sets (length before) (map (taken_of (before ++ sets)) rows) ≡ map (tally_over rows) sets
   tallies_over before [] rows = refl
   tallies_over before (a ∷ sets) rows =
-      let one = ap (λ vs. tally (set_function a.function) (known vs)) (column_there before a sets rows) in
+      let one = ap (λ vs. tally a.function (known vs)) (column_there before a sets rows) in
       let n : length before + 1 ≡ length (before ++ a ∷ []) = sym (length-append before (a ∷ [])) in
       let same : before ++ a ∷ sets ≡ (before ++ a ∷ []) ++ sets = sym (append_assoc before (a ∷ []) sets) in
       ap (λ t. t ∷ tallies sets (length before + 1) (map (taken_of (before ++ a ∷ sets)) rows)) one
@@ -282,7 +282,7 @@ module _ (c : ℕ) where
       greatest (at c r.0) (at c row) (map (at c) rows) h same ∙ sym (tie_rows (at c r.0) (row ∷ rows)) ∙ ap (λ o. in_column c (first_like c o (row ∷ rows))) (sym r.1)
 
   tally_from_ends : (all : Bool) (every : List (List Datum)) (f : SetFunction) (operand : Option (List Line)) (rows : List (List Datum)) → is_from_ends all c f operand ≡ true → (all ≡ true → every ≡ rows) → All (IsFilled c) rows → Rises rows
-      → tally (set_function f) (known (map (of_row c operand) rows)) ≡ ends_tally c every rows f
+      → tally f (known (map (of_row c operand) rows)) ≡ ends_tally c every rows f
   tally_from_ends all every function.Count None rows t same filled h = ap tally_of.Count (known_ones c rows ∙ ap length (sym (same t)))
   tally_from_ends all every function.Count (Some code) rows t same filled h = absurd (cc)
   tally_from_ends all every function.Sum operand rows t same filled h = absurd (cc)
@@ -291,8 +291,8 @@ module _ (c : ℕ) where
   tally_from_ends all every function.Max None rows t same filled h = absurd (cc)
   tally_from_ends all every function.Min (Some code) [] t same filled h = refl
   tally_from_ends all every function.Max (Some code) [] t same filled h = refl
-  tally_from_ends all every function.Min (Some code) (row ∷ rows) t same filled h = ap (tally q.Min) (known_rows c (row ∷ rows) filled) ∙ ap (λ v. tally_of.Min (Some v)) (least_first (at c row) (map (at c) rows) h)
-  tally_from_ends all every function.Max (Some code) (row ∷ rows) t same filled h = ap (tally q.Max) (known_rows c (row ∷ rows) filled) ∙ ap tally_of.Max (greatest_row row rows h)
+  tally_from_ends all every function.Min (Some code) (row ∷ rows) t same filled h = ap (tally function.Min) (known_rows c (row ∷ rows) filled) ∙ ap (λ v. tally_of.Min (Some v)) (least_first (at c row) (map (at c) rows) h)
+  tally_from_ends all every function.Max (Some code) (row ∷ rows) t same filled h = ap (tally function.Max) (known_rows c (row ∷ rows) filled) ∙ ap tally_of.Max (greatest_row row rows h)
 
   module _ (all : Bool) (every rows : List (List Datum)) (same : all ≡ true → every ≡ rows) (filled : All (IsFilled c) rows) (h : Rises rows) where
     tallies_from_ends : (sets : List Aggregate) → AreFromEnds c all sets → map (tally_over c rows) sets ≡ map (λ (a : Aggregate). ends_tally c every rows a.function) sets

@@ -5,6 +5,8 @@ use Rattle.std.specs.List.{list_any}
 use Rattle.std.proofs.lemmas.List.{append-nil, map-append}
 use Rattle.std.proofs.lemmas.List.Elements.{filter-append}
 use Rattle.std.proofs.lemmas.List.Folds.{list_any-append}
+use Rattle.psm_terms.specs.declared.functions.SetFunction.TheVariants as set_functions
+use Rattle.psm_terms.specs.declared.functions.SetFunction.{SetFunction}
 use Rattle.psm_num.specs.Num.{Num}
 use Rattle.psm_value.specs.declared.datum.Datum.{Datum}
 use Rattle.psm_value.specs.declared.datum.Datum.TheVariants.{Null}
@@ -14,7 +16,7 @@ use Rattle.psm_table.specs.Evaluator.{and_then, collected, mapped}
 use Rattle.psm_table.specs.Queries as q
 use Rattle.psm_table.specs.Queries.{averaged, column, comes_before, comes_after, first_by, function_of, has_nulls, known, number_of, plus, sum_of, summed}
 use Rattle.psm_table.specs.Unique.{is_null}
-use Rattle.psm_tablecode.specs.Codes.{set_function, set_of}
+use Rattle.psm_tablecode.specs.Codes.{set_of}
 use Rattle.psm_query.specs.Gathered.{Gathered, nothing, with_rows, with_values}
 use Rattle.psm_query.specs.Tallies.{added, average_in, better, counted, empty, finish, sum_in, with_known, with_number, with_value}
 use Rattle.psm_query.specs.declared.tally.Tally.{Tally}
@@ -32,19 +34,19 @@ abbrev best : (Datum → Datum → Bool) → List Datum → Option Datum
 best less [] = None
 best less (v ∷ vs) = Some (first_by less v vs)
 
-abbrev pub tally : q.SetFunction → List Datum → Tally
-tally q.Count vs = Count (length vs)
-tally q.Sum vs = Sum (sum_after vs)
-tally q.Min vs = Min (best comes_before vs)
-tally q.Max vs = Max (best comes_after vs)
-tally q.Avg vs = Avg (sum_after vs)
+abbrev pub tally : SetFunction → List Datum → Tally
+tally set_functions.Count vs = Count (length vs)
+tally set_functions.Sum vs = Sum (sum_after vs)
+tally set_functions.Min vs = Min (best comes_before vs)
+tally set_functions.Max vs = Max (best comes_after vs)
+tally set_functions.Avg vs = Avg (sum_after vs)
 
-tally_none : (f : q.SetFunction) → tally f [] ≡ empty f
-tally_none q.Count = refl
-tally_none q.Sum = refl
-tally_none q.Min = refl
-tally_none q.Max = refl
-tally_none q.Avg = refl
+tally_none : (f : SetFunction) → tally f [] ≡ empty f
+tally_none set_functions.Count = refl
+tally_none set_functions.Sum = refl
+tally_none set_functions.Min = refl
+tally_none set_functions.Max = refl
+tally_none set_functions.Avg = refl
 
 -- ---- one value more
 
@@ -74,30 +76,30 @@ best-last : (less : Datum → Datum → Bool) (vs : List Datum) (v : Datum) → 
 best-last less [] v = refl
 best-last less (w ∷ vs) v = ap Some (first_by-last less w vs v)
 
-tally-last : (f : q.SetFunction) (vs : List Datum) (v : Datum) → tally f (vs ++ v ∷ []) ≡ with_known (tally f vs) v
-tally-last q.Count vs v = ap Count (length-last vs v)
-tally-last q.Sum vs v = ap Sum (sum_after-last vs v)
-tally-last q.Min vs v = ap Min (best-last comes_before vs v)
-tally-last q.Max vs v = ap Max (best-last comes_after vs v)
-tally-last q.Avg vs v = ap Avg (sum_after-last vs v)
+tally-last : (f : SetFunction) (vs : List Datum) (v : Datum) → tally f (vs ++ v ∷ []) ≡ with_known (tally f vs) v
+tally-last set_functions.Count vs v = ap Count (length-last vs v)
+tally-last set_functions.Sum vs v = ap Sum (sum_after-last vs v)
+tally-last set_functions.Min vs v = ap Min (best-last comes_before vs v)
+tally-last set_functions.Max vs v = ap Max (best-last comes_after vs v)
+tally-last set_functions.Avg vs v = ap Avg (sum_after-last vs v)
 
-tally-skip : (f : q.SetFunction) (vs : List Datum) (v : Datum) (b : Bool) → tally f (vs ++ cond (not b) (v ∷ []) []) ≡ (if b then tally f vs else with_known (tally f vs) v)
+tally-skip : (f : SetFunction) (vs : List Datum) (v : Datum) (b : Bool) → tally f (vs ++ cond (not b) (v ∷ []) []) ≡ (if b then tally f vs else with_known (tally f vs) v)
 tally-skip f vs v true = ap (tally f) (append-nil vs)
 tally-skip f vs v false = tally-last f vs v
 
 -- a null is skipped
-tally-value : (f : q.SetFunction) (vs : List Datum) (v : Datum) → tally f (known (vs ++ v ∷ [])) ≡ with_value (tally f (known vs)) v
+tally-value : (f : SetFunction) (vs : List Datum) (v : Datum) → tally f (known (vs ++ v ∷ [])) ≡ with_value (tally f (known vs)) v
 tally-value f vs v = ap (tally f) (filter-append (λ w. not (is_null w)) vs (v ∷ [])) ∙ tally-skip f (known vs) v (is_null v)
 
 -- ---- the tallies of rows of values
 
 abbrev pub tallies : List Aggregate → ℕ → List (List Datum) → List Tally
 tallies [] i rows = []
-tallies (a ∷ others) i rows = tally (set_function a.function) (known (column rows i)) ∷ tallies others (i + 1) rows
+tallies (a ∷ others) i rows = tally a.function (known (column rows i)) ∷ tallies others (i + 1) rows
 
-tallies_none : (sets : List Aggregate) (i : ℕ) → map (λ a. empty (set_function a.function)) sets ≡ tallies sets i []
+tallies_none : (sets : List Aggregate) (i : ℕ) → map (λ a. empty a.function) sets ≡ tallies sets i []
 tallies_none [] i = refl
-tallies_none (a ∷ sets) i = ap (λ t. t ∷ map (λ b. empty (set_function b.function)) sets) (sym (tally_none (set_function a.function))) ∙ ap (λ ts. tally (set_function a.function) [] ∷ ts) (tallies_none sets (i + 1))
+tallies_none (a ∷ sets) i = ap (λ t. t ∷ map (λ b. empty b.function) sets) (sym (tally_none a.function)) ∙ ap (λ ts. tally a.function [] ∷ ts) (tallies_none sets (i + 1))
 
 added_none : (ts : List Tally) → added ts [] ≡ ts
 added_none [] = refl
@@ -126,7 +128,7 @@ column-last rows vs i = map-append (λ us. get_or us i Null) rows (vs ∷ [])
 tallies-last : (sets : List Aggregate) (i : ℕ) (rows : List (List Datum)) (vs : List Datum) → added (tallies sets i rows) (drop i vs) ≡ tallies sets i (rows ++ vs ∷ [])
 tallies-last [] i rows vs = refl
 tallies-last (a ∷ others) i rows vs =
-    let f = set_function a.function in
+    let f = a.function in
     let one : with_value (tally f (known (column rows i))) (get_or (drop i vs) 0 Null) ≡ tally f (known (column (rows ++ vs ∷ []) i)) =
     ap (with_value (tally f (known (column rows i)))) (value_at vs i) ∙ sym (tally-value f (column rows i) (get_or vs i Null)) ∙ ap (λ c. tally f (known c)) (sym (column-last rows vs i)) in
     let rest : added (tallies others (i + 1) rows) (drop 1 (drop i vs)) ≡ tallies others (i + 1) (rows ++ vs ∷ []) =
@@ -168,19 +170,19 @@ finish-average : (o : Option Num) (n : ℕ) → average_in (counted o n) ≡ ave
 finish-average (Some m) n = refl
 finish-average None n = refl
 
-finish-tally : (f : q.SetFunction) (vs : List Datum) → finish (tally f vs) ≡ function_of f vs
-finish-tally q.Count vs = refl
-finish-tally q.Sum [] = refl
-finish-tally q.Sum (v ∷ vs) = finish-sum (sum_of (Some (number_of v)) vs) (length (v ∷ vs))
-finish-tally q.Min [] = refl
-finish-tally q.Min (v ∷ vs) = refl
-finish-tally q.Max [] = refl
-finish-tally q.Max (v ∷ vs) = refl
-finish-tally q.Avg [] = refl
-finish-tally q.Avg (v ∷ vs) = finish-average (sum_of (Some (number_of v)) vs) (length (v ∷ vs))
+finish-tally : (f : SetFunction) (vs : List Datum) → finish (tally f vs) ≡ function_of f vs
+finish-tally set_functions.Count vs = refl
+finish-tally set_functions.Sum [] = refl
+finish-tally set_functions.Sum (v ∷ vs) = finish-sum (sum_of (Some (number_of v)) vs) (length (v ∷ vs))
+finish-tally set_functions.Min [] = refl
+finish-tally set_functions.Min (v ∷ vs) = refl
+finish-tally set_functions.Max [] = refl
+finish-tally set_functions.Max (v ∷ vs) = refl
+finish-tally set_functions.Avg [] = refl
+finish-tally set_functions.Avg (v ∷ vs) = finish-average (sum_of (Some (number_of v)) vs) (length (v ∷ vs))
 
 pub finish-tallies : (sets : List Aggregate) (i : ℕ) (rows : List (List Datum)) → collected finish (tallies sets i rows) ≡ q.finished rows i (map set_of sets)
 finish-tallies [] i rows = refl
 finish-tallies (a ∷ others) i rows =
-    ap (λ r. and_then r (λ v. mapped (λ vs. v ∷ vs) (collected finish (tallies others (i + 1) rows)))) (finish-tally (set_function a.function) (known (column rows i)))
-    ∙ ap (λ r. and_then (function_of (set_function a.function) (known (column rows i))) (λ v. mapped (λ vs. v ∷ vs) r)) (finish-tallies others (i + 1) rows)
+    ap (λ r. and_then r (λ v. mapped (λ vs. v ∷ vs) (collected finish (tallies others (i + 1) rows)))) (finish-tally a.function (known (column rows i)))
+    ∙ ap (λ r. and_then (function_of a.function (known (column rows i))) (λ v. mapped (λ vs. v ∷ vs) r)) (finish-tallies others (i + 1) rows)

@@ -3,6 +3,8 @@ use Rattle.std.proofs.Common.{◌≡◌, ℕ, ◌+◌, ◌<◌, ◌≤◌, Bool,
 use Rattle.std.specs.Prelude.{All, map, slice_get, if◌then◌else◌}
 use Rattle.std.specs.List.{cons_option}
 use Rattle.std.proofs.lemmas.List.Elements.{All-nil, All-cons, All-head, All-tail}
+use Rattle.psm_terms.specs.declared.functions.SetFunction.TheVariants as set_functions
+use Rattle.psm_terms.specs.declared.functions.SetFunction.{SetFunction}
 use Rattle.psm_sqlstate.specs.declared.state.SqlState.{SqlState}
 use Rattle.psm_num.specs.Num.{Num}
 use Rattle.psm_value.specs.Answer.{Gives}
@@ -13,11 +15,9 @@ use Rattle.psm_exprcode.specs.declared.aggregate.Aggregate.{Aggregate}
 use Rattle.psm_exprcode.specs.declared.items.Items.{Items}
 use Rattle.psm_exprcode.specs.declared.items.Items.TheVariants.{Rows, Sets}
 use Rattle.psm_table.specs.Evaluator.{mapped}
-use Rattle.psm_table.specs.Queries as q
 use Rattle.psm_table.specs.Queries.{plus, taken, walked}
 use Rattle.psm_table.specs.Table.{most_rows}
 use Rattle.psm_table.specs.Unique.{is_null}
-use Rattle.psm_tablecode.specs.Codes.{set_function}
 use Rattle.psm_query.specs.Gathered.{Gathered, nothing, with_rows, with_taken, with_values, AreUpTo}
 use Rattle.psm_query.specs.Tallies.{added, count_in, count_of, counted, empty, with_known, with_number, with_value}
 use Rattle.psm_query.specs.declared.tally.Tally.{Tally}
@@ -96,16 +96,16 @@ pub up_to_taken : (items : Items) (n : ℕ) (g : Gathered) (o : Option (List Dat
 up_to_taken items n g None h = up_to_later n g.tallies h
 up_to_taken items n g (Some vs) h = up_to_values items n g vs h
 
-up_to_empty : (f : q.SetFunction) → count_of (empty f) ≤ 0
-up_to_empty q.Count = omega arith
-up_to_empty q.Sum = omega arith
-up_to_empty q.Min = omega arith
-up_to_empty q.Max = omega arith
-up_to_empty q.Avg = omega arith
+up_to_empty : (f : SetFunction) → count_of (empty f) ≤ 0
+up_to_empty set_functions.Count = omega arith
+up_to_empty set_functions.Sum = omega arith
+up_to_empty set_functions.Min = omega arith
+up_to_empty set_functions.Max = omega arith
+up_to_empty set_functions.Avg = omega arith
 
-up_to_sets : (sets : List Aggregate) → AreUpTo 0 (map (λ a. empty (set_function a.function)) sets)
+up_to_sets : (sets : List Aggregate) → AreUpTo 0 (map (λ a. empty a.function) sets)
 up_to_sets [] = All-nil (UpTo 0)
-up_to_sets (a ∷ sets) = All-cons (UpTo 0) (empty (set_function a.function)) (map (λ b. empty (set_function b.function)) sets) (up_to_empty (set_function a.function)) (up_to_sets sets)
+up_to_sets (a ∷ sets) = All-cons (UpTo 0) (empty a.function) (map (λ b. empty b.function) sets) (up_to_empty a.function) (up_to_sets sets)
 
 pub up_to_nothing : (items : Items) → AreUpTo 0 (nothing items).tallies
 up_to_nothing (Rows codes) = All-nil (UpTo 0)

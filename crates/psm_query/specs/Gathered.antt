@@ -8,7 +8,6 @@ use Rattle.psm_exprcode.specs.declared.items.Items.TheVariants.{Rows, Sets}
 use Rattle.psm_table.specs.Evaluator.{collected, mapped}
 use Rattle.psm_table.specs.Queries.{Answer}
 use Rattle.psm_table.specs.Unique.{is_null}
-use Rattle.psm_tablecode.specs.Codes.{set_function}
 use Rattle.psm_query.specs.Tallies as tallying
 use Rattle.psm_query.specs.Tallies.{added, count_of}
 use Rattle.psm_query.specs.declared.tally.Tally.{Tally}
@@ -22,7 +21,7 @@ pub record Gathered : Type 0 where
 -- before the first row
 abbrev pub nothing : Items → Gathered
 nothing (Rows codes) = record { rows = []; tallies = []; skipped = false }
-nothing (Sets sets) = record { rows = []; tallies = map (λ a. tallying.empty (set_function a.function)) sets; skipped = false }
+nothing (Sets sets) = record { rows = []; tallies = map (λ a. tallying.empty a.function) sets; skipped = false }
 
 -- with the values of one row more
 abbrev pub with_values : Items → Gathered → List Datum → Gathered

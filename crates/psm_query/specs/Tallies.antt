@@ -1,10 +1,11 @@
 -- What is kept of a set function from row to row.
 use Rattle.std.specs.Prelude.{Bool, true, ℕ, ◌+◌, List, [], ◌∷◌, Option, Some, None, Result, Ok, if◌then◌else◌}
+use Rattle.psm_terms.specs.declared.functions.SetFunction.TheVariants as set_functions
+use Rattle.psm_terms.specs.declared.functions.SetFunction.{SetFunction}
 use Rattle.psm_num.specs.Num.{Num}
 use Rattle.psm_sqlstate.specs.declared.state.SqlState.{SqlState}
 use Rattle.psm_value.specs.declared.datum.Datum.{Datum}
 use Rattle.psm_value.specs.declared.datum.Datum.TheVariants.{Null}
-use Rattle.psm_table.specs.Queries as q
 use Rattle.psm_table.specs.Queries.{number_of, plus, sum_of, summed, averaged, comes_before, comes_after, first_by, whole}
 use Rattle.psm_table.specs.Unique.{is_null}
 use Rattle.psm_query.specs.declared.total.Summing.{Summing}
@@ -71,12 +72,12 @@ added (t ∷ ts) [] = t ∷ ts
 added (t ∷ ts) (v ∷ vs) = with_value t v ∷ added ts vs
 
 -- the tally of no value
-abbrev pub empty : q.SetFunction → Tally
-empty q.Count = Count 0
-empty q.Sum = Sum Empty
-empty q.Min = Min None
-empty q.Max = Max None
-empty q.Avg = Avg Empty
+abbrev pub empty : SetFunction → Tally
+empty set_functions.Count = Count 0
+empty set_functions.Sum = Sum Empty
+empty set_functions.Min = Min None
+empty set_functions.Max = Max None
+empty set_functions.Avg = Avg Empty
 
 abbrev pub or_null : Option Datum → Datum
 or_null None = Null

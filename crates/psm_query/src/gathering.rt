@@ -6,7 +6,7 @@ ghost use Rattle.psm_table.specs.Evaluator.{collected, mapped, test_of};
 ghost use Rattle.psm_table.specs.Queries.{in_walk, walked};
 ghost use Rattle.psm_table.specs.Table.{most_rows};
 ghost use Rattle.psm_table.specs.Unique.{is_null as is_null_value};
-ghost use Rattle.psm_tablecode.specs.Codes.{over, set_function};
+ghost use Rattle.psm_tablecode.specs.Codes.{over};
 ghost use Rattle.psm_query.specs.Ends.{gathered_from_ends, IsNext};
 ghost use Rattle.psm_query.specs.Gathered.{finished, nothing, with_rows, with_taken};
 ghost use Rattle.psm_tablecode.specs.Rows.{values_for};
@@ -155,7 +155,7 @@ impl Gathering {
 }
 
 fn empty_tallies(alloc: Global, sets: &[Aggregate]) -> Result<Vec<Tally>, AllocError>
-    ensures { IfOk result (λ tallies. tallies.items ≡ map (λ a. empty (set_function a.function)) sets.now) }
+    ensures { IfOk result (λ tallies. tallies.items ≡ map (λ a. empty a.function) sets.now) }
 {
     let mut tallies = Vec::new(alloc);
     for set in sets {

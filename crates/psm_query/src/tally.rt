@@ -4,7 +4,6 @@ ghost use Rattle.psm_value.specs.Answer.{Gives};
 ghost use Rattle.psm_table.specs.Queries.{comes_before, comes_after, whole as whole_number};
 ghost use Rattle.psm_table.specs.Table.{most_rows};
 ghost use Rattle.psm_table.specs.Unique.{is_null as is_null_value};
-ghost use Rattle.psm_tablecode.specs.Codes.{set_function};
 ghost use Rattle.psm_query.specs.Tallies.{better, count_of, empty as empty_tally, finish as finish_of, or_null, precedes, with_value};
 
 use crate::total::Summing;
@@ -25,7 +24,7 @@ pub(crate) enum Tally {
 impl Tally {
     /// That of no value.
     pub(crate) fn empty(function: SetFunction) -> Tally
-        ensures { result ≡ empty_tally (set_function function) }
+        ensures { result ≡ empty_tally function }
     {
         match function {
             SetFunction::Count => Tally::Count(0),

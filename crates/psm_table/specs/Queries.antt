@@ -3,6 +3,8 @@ use Rattle.std.specs.Prelude.{Bool, true, false, ℕ, ◌+◌, pos, ◌+ℤ◌, 
 use Rattle.std.specs.List.{list_any, cons_option}
 use Rattle.std.specs.Result.{result_ok}
 use Rattle.std.specs.Ordering.{is_lt}
+use Rattle.psm_terms.specs.declared.functions.SetFunction.{SetFunction}
+use Rattle.psm_terms.specs.declared.functions.SetFunction.TheVariants.{Count, Sum, Min, Max, Avg}
 use Rattle.psm_num.specs.Num.{Num, checked}
 use Rattle.psm_sqlstate.specs.declared.state.SqlState.{SqlState}
 use Rattle.psm_num.specs.Arithmetic.{at_scale}
@@ -32,9 +34,6 @@ walked test take [] = Ok []
 walked test take (row ∷ rows) = and_then (taken test take row) (λ a. mapped (λ more. cons_option a more) (walked test take rows))
 
 -- ---- set functions
-
-pub data SetFunction : Type 0 where
-  Count Sum Min Max Avg : SetFunction
 
 -- the values that aren't null
 abbrev pub known : List Datum → List Datum

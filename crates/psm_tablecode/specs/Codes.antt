@@ -1,7 +1,5 @@
 -- Queries whose expressions are code.
 use Rattle.std.specs.Prelude.{List, map, Some, None, Result, Ok, Err}
-use Rattle.psm_terms.specs.declared.functions.SetFunction as set_code_function
-use Rattle.psm_terms.specs.declared.functions.SetFunction.TheVariants as function_code
 use Rattle.psm_sqlstate.specs.declared.state.SqlState.{SqlState}
 use Rattle.psm_value.specs.declared.datum.Datum.{Datum}
 use Rattle.psm_value.specs.declared.datum.Datum.TheVariants.{Null}
@@ -39,15 +37,8 @@ over vars = record { value = λ code row. value_in (evaluated code row vars); tr
 
 -- ---- the parts of a query
 
-abbrev pub set_function : set_code_function.SetFunction → q.SetFunction
-set_function function_code.Count = q.Count
-set_function function_code.Sum = q.Sum
-set_function function_code.Min = q.Min
-set_function function_code.Max = q.Max
-set_function function_code.Avg = q.Avg
-
 abbrev pub set_of : set_code.Aggregate → q.Aggregate (List Line)
-set_of a = record { function = set_function a.function; operand = a.operand }
+set_of a = record { function = a.function; operand = a.operand }
 
 abbrev pub items_of : items_code.Items → q.Items (List Line)
 items_of (items_variant.Rows codes) = q.Rows codes

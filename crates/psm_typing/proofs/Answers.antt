@@ -2,6 +2,8 @@
 use Rattle.std.proofs.Common.{◌≡◌, ℕ, ◌+◌, Bool, true, false, not, cond, List, [], ◌∷◌, ◌++◌, length, filter, Option, Some, None, Result, Ok, Err, refl, ap, sym, subst, ◌∙◌, append_assoc, length-append, slice_index_or, if◌then◌else◌}
 use Rattle.std.specs.List.{cons_option}
 use mathlib.Core.List.{reverse_aux}
+use Rattle.psm_terms.specs.declared.functions.SetFunction.TheVariants as set_functions
+use Rattle.psm_terms.specs.declared.functions.SetFunction.{SetFunction}
 use Rattle.psm_num.specs.Num.{Num}
 use Rattle.psm_num.proofs.Literals.{and_first, and_second}
 use Rattle.psm_sqlstate.specs.declared.state.SqlState.{SqlState}
@@ -144,23 +146,23 @@ averaged-right : (n : Option Num) (count : ℕ) → Right (λ d. has_letter N d 
 averaged-right None count = tt
 averaged-right (Some n) count = refl
 
-pub set-right : (f : q.SetFunction) (k : Letter) (vs : List Datum) → is_value k ≡ true → Each (λ d. has_letter k d ≡ true) vs → Right (λ d. has_letter (letter_of_set f k) d ≡ true) (function_of f vs)
-set-right q.Count k vs v h = refl
-set-right q.Sum k [] v h = refl
-set-right q.Sum k (d ∷ ds) v h = summed-right (q.sum_of (Some (q.number_of d)) ds)
-set-right q.Min k [] v h = null-letter k v
-set-right q.Min k (d ∷ ds) v h = first-letter k _ d ds h.0 h.1
-set-right q.Max k [] v h = null-letter k v
-set-right q.Max k (d ∷ ds) v h = first-letter k _ d ds h.0 h.1
-set-right q.Avg k [] v h = refl
-set-right q.Avg k (d ∷ ds) v h = averaged-right (q.sum_of (Some (q.number_of d)) ds) (length (d ∷ ds))
+pub set-right : (f : SetFunction) (k : Letter) (vs : List Datum) → is_value k ≡ true → Each (λ d. has_letter k d ≡ true) vs → Right (λ d. has_letter (letter_of_set f k) d ≡ true) (function_of f vs)
+set-right set_functions.Count k vs v h = refl
+set-right set_functions.Sum k [] v h = refl
+set-right set_functions.Sum k (d ∷ ds) v h = summed-right (q.sum_of (Some (q.number_of d)) ds)
+set-right set_functions.Min k [] v h = null-letter k v
+set-right set_functions.Min k (d ∷ ds) v h = first-letter k _ d ds h.0 h.1
+set-right set_functions.Max k [] v h = null-letter k v
+set-right set_functions.Max k (d ∷ ds) v h = first-letter k _ d ds h.0 h.1
+set-right set_functions.Avg k [] v h = refl
+set-right set_functions.Avg k (d ∷ ds) v h = averaged-right (q.sum_of (Some (q.number_of d)) ds) (length (d ∷ ds))
 
-pub set-value : (f : q.SetFunction) (k : Letter) → is_value k ≡ true → is_value (letter_of_set f k) ≡ true
-set-value q.Count k v = refl
-set-value q.Sum k v = refl
-set-value q.Min k v = v
-set-value q.Max k v = v
-set-value q.Avg k v = refl
+pub set-value : (f : SetFunction) (k : Letter) → is_value k ≡ true → is_value (letter_of_set f k) ≡ true
+set-value set_functions.Count k v = refl
+set-value set_functions.Sum k v = refl
+set-value set_functions.Min k v = v
+set-value set_functions.Max k v = v
+set-value set_functions.Avg k v = refl
 
 -- the columns of rows, from one on
 abbrev Columns : List (List Datum) → ℕ → List Letter → Type 0

@@ -1,5 +1,7 @@
 -- Well-typed queries: their tables are there, and their row expressions have letters (ISO/IEC 9075:1992, 7.9).
 use Rattle.std.specs.Prelude.{◌≡◌, List, [], ◌∷◌, slice_get, IsTrue, Option, Some, None}
+use Rattle.psm_terms.specs.declared.functions.SetFunction.TheVariants as set_functions
+use Rattle.psm_terms.specs.declared.functions.SetFunction.{SetFunction}
 use Rattle.psm_exprcode.specs.declared.op.Letter.{Letter}
 use Rattle.psm_exprcode.specs.declared.op.Letter.TheVariants.{N, B}
 use Rattle.psm_exprcode.specs.Kinds.{is_value}
@@ -36,12 +38,12 @@ IsOperand columns variables None k = k ≡ N
 IsOperand columns variables (Some x) k = IsRowValue columns variables x k
 
 -- the letter of what it ends in
-abbrev pub letter_of_set : q.SetFunction → Letter → Letter
-letter_of_set q.Count k = N
-letter_of_set q.Sum k = N
-letter_of_set q.Min k = k
-letter_of_set q.Max k = k
-letter_of_set q.Avg k = N
+abbrev pub letter_of_set : SetFunction → Letter → Letter
+letter_of_set set_functions.Count k = N
+letter_of_set set_functions.Sum k = N
+letter_of_set set_functions.Min k = k
+letter_of_set set_functions.Max k = k
+letter_of_set set_functions.Avg k = N
 
 abbrev pub IsSet : List Letter → List Letter → q.Aggregate ResolvedExpr → Letter → Type 0
 IsSet columns variables a k = (j : Letter) × IsOperand columns variables a.operand j × (letter_of_set a.function j ≡ k)
