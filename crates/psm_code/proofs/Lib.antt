@@ -32,3 +32,4 @@ pub mod NeverStuck
 pub mod Guarantees
 pub mod HandlerTables
 pub mod KeysOfTables
+pub mod OwnKeys

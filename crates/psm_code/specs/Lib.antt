@@ -11,6 +11,7 @@ pub mod Signalling
 pub mod Run
 pub mod Rules
 pub mod TableRules
+pub mod OwnKeys
 pub mod PlanRules
 pub mod RoutineRules
 pub mod MachineInvariant

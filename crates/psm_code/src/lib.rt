@@ -5,7 +5,9 @@
 mod code;
 mod instruction;
 mod laws;
+mod letters;
 mod lines;
+mod own_keys;
 mod rule;
 mod writing;
 
@@ -16,6 +18,8 @@ pub use laws::{
     foreign_keys_are_of_tables_that_are_there, runs_have_one_end,
     well_formed_code_never_gets_stuck,
 };
+pub use letters::{condition_letter, statement_letter};
 pub use lines::{CodeLine, Lines};
+pub use own_keys::own_keys;
 pub use rule::CodeRule;
 pub use writing::LinesWriter;

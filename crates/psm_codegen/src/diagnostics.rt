@@ -1,9 +1,8 @@
 //! Items of a diagnostics area that go into variables (ISO/IEC 9075:1992, 18.1).
 ghost use Rattle.std.specs.Prelude.{◌≡◌, IfOk};
-ghost use Rattle.psm_code.specs.Instructions.{condition_letter, statement_letter};
 ghost use Rattle.psm_codegen.specs.Simples.{condition_items, item_stored, statement_items};
 
-use psm_code::Instruction;
+use psm_code::{Instruction, condition_letter, statement_letter};
 use psm_exprcode::{Letter, Op};
 use psm_exprgen::{EmitContext, Writer};
 use psm_list::List;
@@ -70,28 +69,4 @@ fn item_stored(
         condition_letter(item),
     )?;
     out.takes(emit_context, Instruction::Store(slot), 1)
-}
-
-/// The letter of an item of a diagnostics area about the statement.
-fn statement_letter(item: StatementItem) -> Letter
-    ensures { result ≡ statement_letter item }
-{
-    match item {
-        StatementItem::Number | StatementItem::RowCount => Letter::N,
-        StatementItem::More => Letter::T,
-    }
-}
-
-/// The letter of an item of a diagnostics area about a condition.
-fn condition_letter(item: ConditionItem) -> Letter
-    ensures { result ≡ condition_letter item }
-{
-    match item {
-        ConditionItem::ConditionNumber | ConditionItem::MessageLength => Letter::N,
-        ConditionItem::ReturnedSqlstate
-        | ConditionItem::ConditionIdentifier
-        | ConditionItem::MessageText
-        | ConditionItem::TableName
-        | ConditionItem::CursorName => Letter::T,
-    }
 }

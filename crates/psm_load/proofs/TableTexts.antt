@@ -1,18 +1,17 @@
 -- Tables with their FOREIGN KEY constraints: these are kept in one list, in the order of the referencing tables.
-use Rattle.std.proofs.Common.{◌≡◌, ◌<◌, ◌≤◌, ℕ, zero, suc, ◌+◌, Bool, true, false, ◌&&◌, nat_eq, nat_le, nat_lt, List, [], ◌∷◌, ◌++◌, cond, drop, length, map, take, Result, Ok, Err, refl, ap, ap₂, sym, subst, ◌∙◌, append_assoc, arith, inl, inr, length-append}
+use Rattle.std.proofs.Common.{◌≡◌, ◌<◌, ◌≤◌, ℕ, zero, suc, ◌+◌, Bool, true, false, nat_eq, List, [], ◌∷◌, ◌++◌, cond, length, map, take, Result, Ok, Err, refl, ap, ap₂, sym, subst, ◌∙◌, append_assoc, arith, length-append}
 use Rattle.std.specs.List.{flat_map}
 use Rattle.std.specs.Result.{IsErrAnd}
-use Rattle.std.proofs.lemmas.Bool.{cases_lt, eq-eqb, eqb-false, eqb-true, le-leb, leb-true, lt-ltb, ltb-true, ne_eqb}
+use Rattle.std.proofs.lemmas.Bool.{eq-eqb, eqb-true, lt-ltb, ltb-true, ne_eqb}
 use Rattle.std.proofs.lemmas.List.{append-nil, map-append, take-append-drop}
 use Rattle.std.proofs.lemmas.List.Elements.{filter-append}
-use Rattle.psm_num.proofs.Literals.{and_first, and_second}
 use Rattle.psm_table.specs.declared.definition.ForeignKey.{ForeignKey}
 use Rattle.psm_code.specs.declared.code.CodeTable.{CodeTable}
+use Rattle.psm_code.specs.OwnKeys.{count_at_front, others_of, own_of}
 use Rattle.psm_code.specs.TableRules.{are_in_turn, keys_from}
+use Rattle.psm_code.proofs.OwnKeys.{in_turn, others_are, others_turn, own_is, turn_ascends, turn_from, turns}
 use Rattle.psm_object.specs.Expressions.{expression_lines}
-use Rattle.psm_object.specs.OwnKeys.{ascend, count_at_front}
 use Rattle.psm_object.specs.Tables.{column_line, key_line, reference_line, table_line, table_lines, tables_lines, unique_line}
-use Rattle.psm_object.proofs.OwnKeys.{others_are, own_is}
 use Rattle.psm_load_line.specs.Said.{key_from}
 use Rattle.psm_load_line.specs.declared.head.Reference.{Reference}
 use Rattle.psm_load.specs.Left.{Gives, Left, Repeated, TablesRead}
@@ -98,26 +97,6 @@ texts_lines keys n (t ∷ ts) = ap₂ (λ a b. a ++ b) (own_lines (keys_from key
 
 -- ---- the constraints stand in turn
 
-record Turns (at count : ℕ) (key : ForeignKey) (keys : List ForeignKey) : Type 0 where
-  low : at ≤ key.from
-  high : nat_lt key.from count ≡ true
-  rest : are_in_turn key.from count keys ≡ true
-
-turns : (at count : ℕ) (key : ForeignKey) (keys : List ForeignKey) → are_in_turn at count (key ∷ keys) ≡ true → Turns at count key keys
-turns at count key keys h =
-    let low = nat_le at key.from in
-    let high = nat_lt key.from count in
-    let rest = are_in_turn key.from count keys in
-    let both = and_first (low && high) rest h in
-    record { low = leb-true at key.from (and_first low high both); high = and_second low high both; rest = and_second (low && high) rest h }
-
-in_turn : (at count : ℕ) (key : ForeignKey) (keys : List ForeignKey) → at ≤ key.from → nat_lt key.from count ≡ true → are_in_turn key.from count keys ≡ true → are_in_turn at count (key ∷ keys) ≡ true
-in_turn at count key keys l h r = ap (λ b. (b && nat_lt key.from count) && are_in_turn key.from count keys) (le-leb at key.from l) ∙ ap (λ b. b && are_in_turn key.from count keys) h ∙ r
-
-turn_from : (at n count : ℕ) (keys : List ForeignKey) → are_in_turn at count keys ≡ true → n ≤ at → are_in_turn n count keys ≡ true
-turn_from at n count [] h l = refl
-turn_from at n count (key ∷ keys) h l = let p = turns at count key keys h in let low : n ≤ key.from = (let q = p.low in omega (arith, l, q)) in in_turn n count key keys low p.high p.rest
-
 turn_all : (at n count : ℕ) (rs : List Reference) (keys : List ForeignKey) → at ≤ n → n < count → are_in_turn n count keys ≡ true → are_in_turn at count (map (key_from n) rs ++ keys) ≡ true
 turn_all at n count [] keys l b h = turn_from n at count keys h l
 turn_all at n count (r ∷ rs) keys l b h = in_turn at count (key_from n r) (map (key_from n) rs ++ keys) l (lt-ltb n count b) (turn_all n n count rs keys (omega arith) b h)
@@ -133,40 +112,13 @@ turn_again xs = turn_of 0 (length xs) xs (omega arith)
 
 -- ---- constraints in turn are those of the tables with their constraints
 
-turn_ascends : (at count : ℕ) (keys : List ForeignKey) → are_in_turn at count keys ≡ true → ascend at keys ≡ true
-turn_ascends at count [] h = refl
-turn_ascends at count (key ∷ keys) h = let p = turns at count key keys h in ap (λ b. b && ascend key.from keys) (le-leb at key.from p.low) ∙ turn_ascends key.from count keys p.rest
-
-abbrev own_of : ℕ → List ForeignKey → List ForeignKey
-own_of n keys = take (count_at_front n keys) keys
-
-abbrev others_of : ℕ → List ForeignKey → List ForeignKey
-others_of n keys = drop (count_at_front n keys) keys
-
-own_from : (n : ℕ) (keys : List ForeignKey) → (keys_from (own_of n keys) n ≡ own_of n keys) × (map (key_from n) (map reference_in (own_of n keys)) ≡ own_of n keys)
-own_from n [] = (refl, refl)
+own_from : (n : ℕ) (keys : List ForeignKey) → map (key_from n) (map reference_in (own_of n keys)) ≡ own_of n keys
+own_from n [] = refl
 own_from n (key ∷ keys) = by (nat_eq key.from n) refl (own_from n keys) where
-  by : (b : Bool) → nat_eq key.from n ≡ b → (keys_from (own_of n keys) n ≡ own_of n keys) × (map (key_from n) (map reference_in (own_of n keys)) ≡ own_of n keys)
-      → (keys_from (take (cond b (suc (count_at_front n keys)) 0) (key ∷ keys)) n ≡ take (cond b (suc (count_at_front n keys)) 0) (key ∷ keys))
-      × (map (key_from n) (map reference_in (take (cond b (suc (count_at_front n keys)) 0) (key ∷ keys))) ≡ take (cond b (suc (count_at_front n keys)) 0) (key ∷ keys))
-  by true e h = (
-    ap (λ b. cond b (key ∷ keys_from (own_of n keys) n) (keys_from (own_of n keys) n)) e ∙ ap (λ ks. key ∷ ks) h.0,
-    ap₂ (λ (k : ForeignKey) (ks : List ForeignKey). k ∷ ks) (ap (λ m. record key { from = m }) (sym (eqb-true key.from n e))) h.1,
-  )
-  by false e h = (refl, refl)
-
-above : (n m : ℕ) → n ≤ m → nat_eq m n ≡ false → suc n ≤ m
-above n m l e = elim (cases_lt n m) [ inl h ↦ omega (arith, h) | inr h ↦ absurd (eqb-false m n e (omega (arith, l, h))) ]
-
-others_turn : (n count : ℕ) (keys : List ForeignKey) → are_in_turn n count keys ≡ true → are_in_turn (suc n) count (others_of n keys) ≡ true
-others_turn n count [] h = refl
-others_turn n count (key ∷ keys) h =
-    let p = turns n count key keys h in
-    let low : n ≤ key.from = p.low in
-    by (nat_eq key.from n) (others_turn n count keys (turn_from key.from n count keys p.rest low)) (λ e. in_turn (suc n) count key keys (above n key.from low e) p.high p.rest) refl where
-      by : (b : Bool) → are_in_turn (suc n) count (others_of n keys) ≡ true → (nat_eq key.from n ≡ false → are_in_turn (suc n) count (key ∷ keys) ≡ true) → nat_eq key.from n ≡ b → are_in_turn (suc n) count (drop (cond b (suc (count_at_front n keys)) 0) (key ∷ keys)) ≡ true
-      by true q later e = q
-      by false q later e = later e
+  by : (b : Bool) → nat_eq key.from n ≡ b → map (key_from n) (map reference_in (own_of n keys)) ≡ own_of n keys
+      → map (key_from n) (map reference_in (take (cond b (suc (count_at_front n keys)) 0) (key ∷ keys))) ≡ take (cond b (suc (count_at_front n keys)) 0) (key ∷ keys)
+  by true e h = ap₂ (λ (k : ForeignKey) (ks : List ForeignKey). k ∷ ks) (ap (λ m. record key { from = m }) (sym (eqb-true key.from n e))) h
+  by false e h = refl
 
 texts_same : (n k : ℕ) (keys : List ForeignKey) (ts : List CodeTable) → n < k → texts_of (others_of n keys) k ts ≡ texts_of keys k ts
 texts_same n k keys [] l = refl
@@ -180,9 +132,9 @@ keys_by n count (key ∷ keys) [] e h =
     let high : key.from < count = ltb-true key.from count p.high in
     absurd (omega (arith, e, low, high))
 keys_by n count keys (t ∷ ts) e h =
-    let own : keys_from keys n ≡ own_of n keys = sym (own_is n keys (turn_ascends n count keys h)) ∙ (own_from n keys).0 in
+    let own : keys_from keys n ≡ own_of n keys = sym (own_is n keys (turn_ascends n count keys h)) in
     ap₂ (λ (a : List ForeignKey) (b : List ForeignKey). a ++ b)
-    (ap (λ ks. map (key_from n) (map reference_in ks)) own ∙ (own_from n keys).1)
+    (ap (λ ks. map (key_from n) (map reference_in ks)) own ∙ own_from n keys)
     (ap (keys_of (suc n)) (sym (texts_same n (suc n) keys ts (omega arith))) ∙ keys_by (suc n) count (others_of n keys) ts (omega (arith, e)) (others_turn n count keys h))
     ∙ take-append-drop (count_at_front n keys) keys
 

@@ -2,6 +2,5 @@ pub mod Characters
 pub mod LineCounts
 pub mod LinesInOrder
 pub mod Mnemonics
-pub mod OwnKeys
 pub mod Pieces
 pub mod TableLines

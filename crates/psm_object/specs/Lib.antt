@@ -8,4 +8,3 @@ pub mod Handlers
 pub mod Routines
 pub mod Listing
 pub mod StatedLines
-pub mod OwnKeys

@@ -1,17 +1,18 @@
 //! The lines of FOREIGN KEY constraints, each after those of the referencing table.
 ghost use Rattle.std.specs.Prelude.{◌≡◌, ◌++◌, ◌<◌, ℕ, suc, true, length, map, OnOk};
+ghost use Rattle.psm_code.specs.OwnKeys.{ascend};
 ghost use Rattle.psm_code.specs.TableRules.{keys_from};
-ghost use Rattle.psm_object.specs.OwnKeys as order;
 ghost use Rattle.psm_object.specs.Tables.{reference_line, referred_words};
 ghost use Rattle.psm_object.specs.Words.{ended, further, text};
 
 use crate::words::{end_line, put_index, put_indices, put_word};
+use psm_code::own_keys;
 use psm_table::ForeignKey;
 use std::alloc::AllocError;
 
 /// Whether constraints stand in the order of the referencing tables.
 pub(crate) fn ascend(keys: &[ForeignKey]) -> bool
-    ensures { result ≡ order.ascend 0 keys.now }
+    ensures { result ≡ ascend 0 keys.now }
 {
     let mut at = 0;
     let mut rest = keys;
@@ -32,29 +33,16 @@ pub(crate) fn parted(
     table: usize,
     in_order: bool,
 ) -> (&[ForeignKey], &[ForeignKey])
-    requires { in_order ≡ true → order.ascend table keys.now ≡ true }
+    requires { in_order ≡ true → ascend table keys.now ≡ true }
     ensures own { keys_from result.0.now table ≡ keys_from keys.now table }
     ensures others { (m : ℕ) → table < m → keys_from result.1.now m ≡ keys_from keys.now m }
-    ensures order { in_order ≡ true → order.ascend (suc table) result.1.now ≡ true }
+    ensures order { in_order ≡ true → ascend (suc table) result.1.now ≡ true }
 {
     if in_order {
-        keys.split_at(count_at_front(keys, table))
+        own_keys(keys, table)
     } else {
         (keys, keys)
     }
-}
-
-fn count_at_front(keys: &[ForeignKey], table: usize) -> usize
-    ensures { result ≡ order.count_at_front table keys.now }
-{
-    let mut count = 0;
-    for key in keys {
-        if key.from as usize != table {
-            return count;
-        }
-        count += 1;
-    }
-    count
 }
 
 /// How many constraints a table has.

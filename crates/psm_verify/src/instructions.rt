@@ -9,9 +9,8 @@ ghost use Rattle.psm_verify.specs.Moves.{fall_through_of, branch_of, effect_of, 
 
 use crate::effects::{Effect, Run};
 use crate::verify_context::VerifyContext;
-use psm_code::Instruction;
+use psm_code::{Instruction, condition_letter, statement_letter};
 use psm_exprcode::{Entry, Letter, Letters, Op};
-use psm_terms::{ConditionItem, StatementItem};
 
 pub(crate) fn none() -> Run<'static>
     ensures { run_of result ≡ [] }
@@ -261,27 +260,5 @@ fn few_branch(jump: Option<(u32, Letters)>) -> Option<(u32, Run<'static>)>
     match jump {
         Some((index, letters)) => Some((index, Run::Few(letters))),
         None => None,
-    }
-}
-
-fn statement_letter(item: StatementItem) -> Letter
-    ensures { result ≡ table.statement_letter item }
-{
-    match item {
-        StatementItem::More => Letter::T,
-        StatementItem::Number | StatementItem::RowCount => Letter::N,
-    }
-}
-
-fn condition_letter(item: ConditionItem) -> Letter
-    ensures { result ≡ table.condition_letter item }
-{
-    match item {
-        ConditionItem::ConditionNumber | ConditionItem::MessageLength => Letter::N,
-        ConditionItem::ReturnedSqlstate
-        | ConditionItem::ConditionIdentifier
-        | ConditionItem::MessageText
-        | ConditionItem::TableName
-        | ConditionItem::CursorName => Letter::T,
     }
 }

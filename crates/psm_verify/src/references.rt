@@ -4,7 +4,6 @@ ghost use Rattle.std.specs.Cmp.Lexicographic.{pointwise};
 ghost use Rattle.std.specs.List.{list_all, list_any, zip};
 ghost use Rattle.psm_code.specs.TableRules as rules;
 ghost use Rattle.psm_verify.specs.Checked.{Finds, checked};
-ghost use Rattle.psm_verify.specs.InTurn.{count_of, others_of, own_of};
 
 use crate::fault::Stop;
 use crate::listing::passed;
@@ -30,28 +29,6 @@ pub(crate) fn are_in_turn(keys: &[ForeignKey], count: usize) -> bool
         rest = others;
     }
     true
-}
-
-/// Those at the front that are of a table, and the others.
-#[tactic(auto, using(crate::proofs::InTurn::count_within))]
-pub(crate) fn of_table(keys: &[ForeignKey], table: usize) -> (&[ForeignKey], &[ForeignKey])
-    ensures own { result.0.now ≡ own_of table keys.now }
-    ensures others { result.1.now ≡ others_of table keys.now }
-{
-    keys.split_at(count_at_front(keys, table))
-}
-
-fn count_at_front(keys: &[ForeignKey], table: usize) -> usize
-    ensures { result ≡ count_of table keys.now }
-{
-    let mut count = 0;
-    for key in keys {
-        if key.from as usize != table {
-            return count;
-        }
-        count += 1;
-    }
-    count
 }
 
 /// The lines of the constraints of a table.

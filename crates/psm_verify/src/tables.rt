@@ -15,9 +15,9 @@ use crate::expressions::{Due, expression};
 use crate::fault::Stop;
 use crate::listing::passed;
 use crate::numbers::are_there;
-use crate::references::{of_table, references};
+use crate::references::references;
 use crate::types::is_type;
-use psm_code::{CodeRule, CodeTable};
+use psm_code::{CodeRule, CodeTable, own_keys};
 use psm_exprcode::{ExprCode, Letter};
 use psm_keys::{NameSet, are_distinct};
 use psm_list::List;
@@ -42,7 +42,7 @@ pub(crate) fn tables(
     let mut left = keys;
     for at in 0..tables.len() {
         let is_new = names.add(&tables[at].definition.name)?;
-        let (own, others) = of_table(left, at);
+        let (own, others) = own_keys(left, at);
         line = table_at(alloc, line, own, tables, letters, at, is_new)?;
         left = others;
     }

@@ -1,5 +1,5 @@
 use Rattle.std.proofs.Common.{◌≡◌, length}
-use Rattle.psm_object.specs.OwnKeys.{ascend}
+use Rattle.psm_code.specs.OwnKeys.{ascend}
 use Rattle.psm_object.proofs.references.ascend.Given as goal
 
 abbrev pub invariant-loop-key : goal.invariant-loop-key

@@ -1,5 +1,5 @@
 use Rattle.std.proofs.Common.{◌≡◌, ◌+◌, ℕ, suc, ap, arith, ◌∙◌, sym}
-use Rattle.psm_object.specs.OwnKeys.{ascend}
+use Rattle.psm_code.specs.OwnKeys.{ascend}
 use Rattle.psm_object.proofs.TableLines.{next_table}
 use Rattle.psm_object.proofs.tables.put_tables.Goals as goal
 

@@ -1,5 +1,5 @@
 use Rattle.std.proofs.Common.{◌≡◌, ◌++◌, drop, true}
-use Rattle.psm_object.specs.OwnKeys.{ascend}
+use Rattle.psm_code.specs.OwnKeys.{ascend}
 use Rattle.psm_object.specs.Tables.{tables_lines}
 use Rattle.psm_object.specs.Words.{text}
 use Rattle.psm_object.proofs.tables.put_tables.Given as goal
