@@ -2,15 +2,16 @@
 ghost use Rattle.std.specs.Prelude.{◌≡◌, ◌<◌, Some, IfSome, IfOk, All, length, map, slice_get};
 ghost use Rattle.psm_store.specs.Kept.{contents_of};
 ghost use Rattle.psm_store.specs.Marks.{defs_of};
-ghost use Rattle.psm_store.specs.RowCalls.{AnswersFound, AnswersInsert, after, row_after};
+ghost use Rattle.psm_store.specs.RowCalls.{AnswersFound, AnswersInsert, after};
 ghost use Rattle.psm_table.specs.Definition.{IsDefinition, IsRow, IsKey};
 ghost use Rattle.psm_table.specs.Table.{empty_table, keyed, namesake, with_row, without_row};
 
 use crate::indexes::index_keys;
-use psm_table::{ForeignKey, Key, Row, RowFault, Steps, Table, TableDef};
+use crate::uncounted::{change_row, erase_row, insert_row};
+use psm_table::{ForeignKey, Key, Row, RowFault, Table, TableDef};
 use std::alloc::{AllocError, Global};
 use std::marker::{Brand, Model};
-use std::sync::ledger::{Blank, Ledger};
+use std::sync::ledger::Blank;
 
 /// Tables, seen as what is in them, whatever else they keep. No call changes their definitions.
 #[derive(Drop)]
@@ -96,51 +97,5 @@ impl Tables {
         ensures defs { defs_of self.new ≡ defs_of self.old }
     {
         change_row::<Brand>(&mut self.tables[t as usize], row, Blank::new(1))
-    }
-}
-
-/// Puts a row into a table. The step isn't counted.
-fn insert_row<L: Ledger>(table: &mut Table, row: Row, blank: Blank) -> Result<(), RowFault>
-    requires name { blank.name ≡ L.name }
-    requires parts { blank.parts ≡ L.parts }
-    requires some { 0 < blank.parts }
-    requires fits { IsRow table.old.contents.def row }
-    ensures answer { AnswersInsert row result table.old.contents }
-    ensures table { table.new.contents ≡ row_after result (λ c. with_row c row) table.old.contents }
-{
-    let mut steps: Steps<L> = Steps::open(blank);
-    table.insert(row, &mut steps)
-}
-
-/// Takes the row that has the key out of a table. The step isn't counted.
-fn erase_row<L: Ledger>(table: &mut Table, key: &Key, blank: Blank) -> Result<(), RowFault>
-    requires name { blank.name ≡ L.name }
-    requires parts { blank.parts ≡ L.parts }
-    requires some { 0 < blank.parts }
-    requires fits { IsKey table.old.contents.def key.now }
-    ensures answer { AnswersFound (keyed table.old.contents key.now) result }
-    ensures table { table.new.contents ≡ row_after result (without_row key.now) table.old.contents }
-{
-    if table.get(key).is_none() {
-        return Err(RowFault::Absent);
-    }
-    let mut steps: Steps<L> = Steps::open(blank);
-    let _row = table.erase(key, &mut steps);
-    Ok(())
-}
-
-/// Puts a row in the place of the row that has its key. The step isn't counted.
-fn change_row<L: Ledger>(table: &mut Table, row: Row, blank: Blank) -> Result<(), RowFault>
-    requires name { blank.name ≡ L.name }
-    requires parts { blank.parts ≡ L.parts }
-    requires some { 0 < blank.parts }
-    requires fits { IsRow table.old.contents.def row }
-    ensures answer { AnswersFound (namesake table.old.contents row) result }
-    ensures table { table.new.contents ≡ row_after result (λ c. with_row c row) table.old.contents }
-{
-    let mut steps: Steps<L> = Steps::open(blank);
-    match table.change(row, &mut steps) {
-        Ok(_) => Ok(()),
-        Err(fault) => Err(fault),
     }
 }

@@ -4,16 +4,15 @@ use Rattle.std.specs.Prelude.{slice_get, All, IfSome, Option, Result, Ok, Err, i
 use Rattle.std.proofs.lemmas.List.{get_or-map, get_or_default, drop_all, map-set, set-get_or, take_all, take_at}
 use Rattle.std.proofs.lemmas.List.Elements.{All-set}
 use Rattle.std.proofs.lemmas.Option.{slice_get-get_or}
-use Rattle.psm_value.specs.declared.datum.Datum.{Datum}
 use Rattle.psm_table.specs.declared.fault.RowFault.{RowFault}
-use Rattle.psm_table.specs.declared.fault.RowFault.TheVariants.{Duplicate, Absent, Full, Memory}
-use Rattle.psm_table.specs.State.{Changes, IsTidy, State}
+use Rattle.psm_table.specs.State.{IsTidy, State}
 use Rattle.psm_table.specs.Table.{Contents}
+use Rattle.psm_store.specs.Kept.{contents_of}
 use Rattle.psm_store.specs.RowCalls.{after, row_after}
 use Rattle.psm_store.proofs.Changes.{set-after}
 use Rattle.psm_undostore.specs.declared.entry.Entry.{Entry}
 use Rattle.psm_undostore.specs.Journal.{AreUndoable, Extends, Records}
-use Rattle.psm_undostore.specs.Undone.{before, contents_of}
+use Rattle.psm_undostore.specs.Undone.{before}
 use Rattle.psm_undostore.proofs.Undoable.{added_undoable, added_extends}
 use Rattle.psm_undostore.proofs.UndoneLaws.{length-contents}
 
@@ -83,10 +82,3 @@ same_contents (s ∷ states) (suc t) d w e = ap (λ l. s.contents ∷ l) (same_c
 -- tables of which one was called and stays tidy
 pub tidy_called : (states : List State) (t : ℕ) (d w : State) → t < length states → (IsTidy (get_or states t d) → IsTidy w) → All IsTidy states → All IsTidy (set states t w)
 tidy_called states t d w inside f h = All-set IsTidy states t w (f (h t d inside)) h
-
--- a refused change of a row leaves the table as it was
-pub refused_same : (old new : State) (row : List Datum) (first last : ℕ) (fault : RowFault) → Changes old new row first last (Err fault) → new ≡ old
-refused_same old new row first last Absent h = h.1
-refused_same old new row first last Memory h = h.0
-refused_same old new row first last Duplicate h = absurd h
-refused_same old new row first last Full h = absurd h

@@ -5,6 +5,7 @@ use Rattle.std.proofs.lemmas.List.{drop-append-le, length-take, take-append-drop
 use Rattle.psm_table.specs.declared.fault.RowFault.{RowFault}
 use Rattle.psm_table.specs.State.{State}
 use Rattle.psm_table.specs.Table.{Contents}
+use Rattle.psm_store.specs.Kept.{contents_of}
 use Rattle.psm_store.specs.declared.store.Mark.{Mark}
 use Rattle.psm_store.specs.Marks.{IsNewMark, defs_of, most_marks}
 use Rattle.psm_store.specs.RowCalls.{after}
@@ -12,7 +13,7 @@ use Rattle.psm_store.proofs.Changes.{defs-after}
 use Rattle.psm_undostore.specs.declared.entry.Entry.{Entry}
 use Rattle.psm_undostore.specs.Journal.{AreUndoable}
 use Rattle.psm_undostore.specs.Undo.{IsHeld, IsUndo, Undo, stands_for, tables_of}
-use Rattle.psm_undostore.specs.Undone.{before, contents_of, undone_from}
+use Rattle.psm_undostore.specs.Undone.{before, undone_from}
 use Rattle.psm_undostore.proofs.UndoneLaws.{defs-undone_from, length-contents, undone_from-append}
 use Rattle.psm_undostore.proofs.Undoings.{nothing_left}
 

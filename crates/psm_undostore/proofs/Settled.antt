@@ -6,8 +6,8 @@ use Rattle.std.proofs.lemmas.List.{get_or_default, get_or-set_other, get_or-set_
 use Rattle.std.proofs.lemmas.List.Elements.{All-nil, All-pop, All-push}
 use Rattle.std.proofs.lemmas.List.Sums.{sum_by-le, sum_by-set}
 use Rattle.psm_table.specs.State.{IsTidy, State}
+use Rattle.psm_store.specs.Kept.{contents_of}
 use Rattle.psm_undostore.specs.Touched.{AreListed, AreOnce, AreTidyOrTouched, IsNoneTouched, is_touched}
-use Rattle.psm_undostore.specs.Undone.{contents_of}
 use Rattle.psm_undostore.proofs.Calls.{same_contents}
 
 -- table t is noted

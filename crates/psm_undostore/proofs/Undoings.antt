@@ -5,9 +5,10 @@ use Rattle.std.proofs.lemmas.List.{drop-append-le, drop_all, get_or-set_other, l
 use Rattle.std.proofs.lemmas.List.Elements.{All-pop}
 use Rattle.psm_table.specs.State.{State}
 use Rattle.psm_table.specs.Table.{IsTable}
+use Rattle.psm_store.specs.Kept.{contents_of}
 use Rattle.psm_undostore.specs.declared.entry.Entry.{Entry}
 use Rattle.psm_undostore.specs.Journal.{AreUndoable, IsReady, Takes}
-use Rattle.psm_undostore.specs.Undone.{before, contents_of, undone, undone_from}
+use Rattle.psm_undostore.specs.Undone.{before, undone, undone_from}
 use Rattle.psm_undostore.proofs.UndoneLaws.{undone_from-nil}
 use Rattle.psm_undostore.proofs.Undoable.{good_last, last_is_ready, taken_before, taken_undoable}
 

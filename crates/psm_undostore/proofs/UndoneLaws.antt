@@ -5,11 +5,12 @@ use Rattle.std.proofs.lemmas.Bool.{eq-eqb, ne_eqb}
 use Rattle.std.proofs.lemmas.List.{drop-append-le, get_or-map, length-map, map-set}
 use Rattle.psm_table.specs.State.{State}
 use Rattle.psm_table.specs.Table.{Contents}
+use Rattle.psm_store.specs.Kept.{contents_of}
 use Rattle.psm_store.specs.Marks.{defs_of}
 use Rattle.psm_undostore.specs.declared.entry.Change.{Change}
 use Rattle.psm_undostore.specs.declared.entry.Change.TheVariants.{Inserted, Erased, Changed}
 use Rattle.psm_undostore.specs.declared.entry.Entry.{Entry}
-use Rattle.psm_undostore.specs.Undone.{before, contents_of, undone, undone_at, undone_from, undone_in}
+use Rattle.psm_undostore.specs.Undone.{before, undone, undone_at, undone_from, undone_in}
 
 -- an entry about the table, and one about another
 pub undone_at-same : (t : ℕ) (e : Entry) (c : Contents) → e.table ≡ t → undone_at t e c ≡ undone e.change c

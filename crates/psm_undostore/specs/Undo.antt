@@ -2,11 +2,12 @@
 use Rattle.std.specs.Prelude.{◌≡◌, ℕ, ◌+◌, ◌-◌, ◌<◌, ◌≤◌, List, [], length, All}
 use Rattle.psm_table.specs.State.{State, IsTidy}
 use Rattle.psm_table.specs.Table.{Contents}
+use Rattle.psm_store.specs.Kept.{contents_of}
 use Rattle.psm_store.specs.declared.store.Mark.{Mark}
 use Rattle.psm_store.specs.Marks.{IsOutside, most_marks}
 use Rattle.psm_undostore.specs.declared.entry.Entry.{Entry}
 use Rattle.psm_undostore.specs.Journal.{AreUndoable}
-use Rattle.psm_undostore.specs.Undone.{before, contents_of}
+use Rattle.psm_undostore.specs.Undone.{before}
 
 -- the tables, the changes since the outermost open mark, and how many marks are open
 pub record Undo : Type 0 where

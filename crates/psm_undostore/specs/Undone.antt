@@ -1,7 +1,8 @@
 -- Changes of rows, and the tables in which they are undone.
-use Rattle.std.specs.Prelude.{ℕ, suc, nat_eq, if◌then◌else◌, List, [], ◌∷◌, map, drop}
+use Rattle.std.specs.Prelude.{ℕ, suc, nat_eq, if◌then◌else◌, List, [], ◌∷◌, drop}
 use Rattle.psm_table.specs.State.{State}
 use Rattle.psm_table.specs.Table.{Contents, with_row, without_row}
+use Rattle.psm_store.specs.Kept.{contents_of}
 use Rattle.psm_undostore.specs.declared.entry.Change.{Change}
 use Rattle.psm_undostore.specs.declared.entry.Change.TheVariants.{Inserted, Erased, Changed}
 use Rattle.psm_undostore.specs.declared.entry.Entry.{Entry}
@@ -25,10 +26,6 @@ undone_in t (e ∷ es) contents = undone_at t e (undone_in t es contents)
 abbrev pub undone_from : ℕ → List Entry → List Contents → List Contents
 undone_from t entries [] = []
 undone_from t entries (c ∷ cs) = undone_in t entries c ∷ undone_from (suc t) entries cs
-
--- what is in the tables
-abbrev pub contents_of : List State → List Contents
-contents_of states = map (λ s. s.contents) states
 
 -- the tables as they were before the entries from a position on
 abbrev pub before : ℕ → List Entry → List State → List Contents

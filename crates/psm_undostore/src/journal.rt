@@ -3,9 +3,10 @@ ghost use Rattle.std.specs.Prelude.{◌≡◌, ◌+◌, ◌-◌, ◌*◌, ◌<�
 ghost use Rattle.psm_table.specs.Definition.{IsRow, IsKey};
 ghost use Rattle.psm_table.specs.State.{State, StillKeeps};
 ghost use Rattle.psm_table.specs.Table.{IsTable, keyed, namesake, with_row, without_row};
+ghost use Rattle.psm_store.specs.Kept.{contents_of};
 ghost use Rattle.psm_store.specs.RowCalls.{AnswersFound, AnswersInsert, after};
 ghost use Rattle.psm_undostore.specs.Journal.{AreUndoable, CanUndo, Extends, IsReady, OthersStay, Takes};
-ghost use Rattle.psm_undostore.specs.Undone.{before, contents_of, undone};
+ghost use Rattle.psm_undostore.specs.Undone.{before, undone};
 
 use crate::entry::{Change, Entry};
 use crate::journaled::{change_row, erase_row, insert_row};

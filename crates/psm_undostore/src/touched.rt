@@ -1,8 +1,8 @@
 //! Which tables a store has to settle.
 ghost use Rattle.std.specs.Prelude.{◌≡◌, ◌<◌, All, true, [], length, slice_set, IfOk, OnOk, OnErr};
 ghost use Rattle.psm_table.specs.State.{IsTidy};
+ghost use Rattle.psm_store.specs.Kept.{contents_of};
 ghost use Rattle.psm_undostore.specs.Touched.{AreListed, AreTidyOrTouched, IsNoneTouched};
-ghost use Rattle.psm_undostore.specs.Undone.{contents_of};
 
 use psm_table::Table;
 use std::alloc::{AllocError, Global};

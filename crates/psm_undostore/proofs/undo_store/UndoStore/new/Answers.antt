@@ -4,9 +4,9 @@ use Rattle.std.proofs.lemmas.List.{map_push}
 use Rattle.std.proofs.lemmas.List.Elements.{All-push}
 use Rattle.psm_table.specs.State.{IsTidy, State}
 use Rattle.psm_table.specs.Table.{empty_table}
+use Rattle.psm_store.specs.Kept.{contents_of}
 use Rattle.psm_store.specs.Kept.{AreEmpty}
 use Rattle.psm_store.proofs.Indexed.{empty-tables}
-use Rattle.psm_undostore.specs.Undone.{contents_of}
 use Rattle.psm_undostore.proofs.undo_store.UndoStore.new.Goals as goal
 
 pub loop-def-preserved : goal.loop-def-preserved

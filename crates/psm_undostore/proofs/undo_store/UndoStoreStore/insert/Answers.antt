@@ -3,8 +3,8 @@ use Rattle.std.specs.Prelude.{if◌then◌else◌, is_ok}
 use Rattle.psm_table.specs.Definition.{IsRow}
 use Rattle.psm_table.specs.State.{State}
 use Rattle.psm_table.specs.Table.{with_row}
+use Rattle.psm_store.specs.Kept.{contents_of}
 use Rattle.psm_store.specs.Marks.{defs_of}
-use Rattle.psm_undostore.specs.Undone.{contents_of}
 use Rattle.psm_undostore.proofs.Calls.{written}
 use Rattle.psm_undostore.proofs.Held.{defs_called, exists_in, fits_in}
 use Rattle.psm_undostore.proofs.Noted.{kept_call}

@@ -1,10 +1,10 @@
 use Rattle.std.proofs.Common.{◌≡◌, ◌+◌, ◌∙◌, List, ap, arith, drop, length, subst, sym}
 use Rattle.psm_table.specs.State.{State}
+use Rattle.psm_store.specs.Kept.{contents_of}
 use Rattle.psm_store.specs.Marks.{defs_of}
 use Rattle.psm_undostore.specs.Journal.{OthersStay}
 use Rattle.psm_undostore.specs.Touched.{IsNoted}
 use Rattle.psm_undostore.specs.Undo.{IsHeld, IsUndo, stands_for}
-use Rattle.psm_undostore.specs.Undone.{contents_of}
 use Rattle.psm_undostore.proofs.Calls.{written}
 use Rattle.psm_undostore.proofs.Held.{position_in, rolled_defs, rolled_held, rolled_keeps, rolled_undo, undo_of}
 use Rattle.psm_undostore.proofs.Noted.{noted_back}
