@@ -1,5 +1,5 @@
 -- A procedure of code is that of the file with its number, since no two procedures of one name have as many parameters.
-use Rattle.std.proofs.Common.{◌≡◌, ◌≢◌, ℕ, zero, suc, Bool, true, false, not, ◌&&◌, List, [], ◌∷◌, ◌++◌, map, length, Some, refl, sym, ap, ◌∙◌, subst, eq-eqb, cond}
+use Rattle.std.proofs.Common.{◌≡◌, ◌≢◌, ℕ, zero, suc, Bool, true, false, not, ◌&&◌, List, [], ◌∷◌, ◌++◌, length, Some, refl, sym, ap, ◌∙◌, subst, eq-eqb, cond}
 use Rattle.std.specs.Cmp.Lexicographic.{pointwise, told_text}
 use Rattle.std.specs.List.{list_all}
 use Rattle.std.specs.Prelude.{MatchBool, filter, nat_eq, slice_get}
@@ -10,13 +10,14 @@ use Rattle.psm_code.specs.declared.code.RawCode.{RawCode}
 use Rattle.psm_code.specs.declared.code.RawRoutine.{RawRoutine}
 use Rattle.psm_code.specs.Parts.{routine_at}
 use Rattle.psm_resolved.specs.declared.file.ResolvedFile.{ResolvedFile}
-use Rattle.psm_resolved.specs.declared.file.ResolvedParameter.{ResolvedParameter}
 use Rattle.psm_resolved.specs.declared.file.ResolvedRoutine.{ResolvedRoutine}
 use Rattle.psm_meaning.specs.Calls.{returns}
-use Rattle.psm_simulation.specs.Simulation.{parameter_of}
 use Rattle.psm_codegen.specs.Files.{FileWritten, is_function}
 use Rattle.psm_wellformed.specs.Files.{WellFormedFile, AreApart, are_distinct, is_apart_from}
+use Rattle.psm_wellformed.proofs.Definitions.{both}
 use Rattle.psm_check_script.specs.There.{procedures_in}
+use Rattle.psm_check_script.proofs.Numbers.{last_there}
+use Rattle.psm_codegen_wellformed.proofs.HeadsWellFormed.{length-parameters}
 use Rattle.psm_script_code.proofs.Heads.{SameHead, SameHeads, written_heads}
 use Rattle.psm_script_code.proofs.There.{procedures_there}
 use Rattle.psm_session_simulation.specs.Standing.{CallStands}
@@ -53,14 +54,6 @@ there_more : {A : Type 0} (xs ys : List A) (i : ℕ) (x : A) → slice_get xs i 
 there_more [] ys i x e = absurd cc
 there_more (z ∷ zs) ys zero x e = e
 there_more (z ∷ zs) ys (suc i) x e = there_more zs ys i x e
-
-last_there : {A : Type 0} (xs : List A) (x : A) → slice_get (xs ++ x ∷ []) (length xs) ≡ Some x
-last_there [] x = refl
-last_there (z ∷ zs) x = last_there zs x
-
-both : (a b : Bool) → (a && b) ≡ true → (a ≡ true) × (b ≡ true)
-both true b h = (refl, h)
-both false b h = absurd (false≢true h)
 
 holds_at : {A : Type 0} (f : A → Bool) (xs : List A) (i : ℕ) (x : A) → list_all f xs ≡ true → slice_get xs i ≡ Some x → f x ≡ true
 holds_at f [] i x h e = absurd cc
@@ -121,12 +114,8 @@ passing test (x ∷ routines) n r h = by (test x) refl n h (λ k e. later test x
     by true e (suc n) h more = more n h
     by false e n h more = more n h
 
-counted : (ps : List ResolvedParameter) → length (map parameter_of ps) ≡ length ps
-counted [] = refl
-counted (p ∷ ps) = ap suc (counted ps)
-
 many_in : (routine : ResolvedRoutine) (r : RawRoutine) → SameHead routine r → length routine.parameters ≡ length r.parameters
-many_in routine r h = sym (ap length h.parameters ∙ counted routine.parameters)
+many_in routine r h = sym (ap length h.parameters ∙ length-parameters routine.parameters)
 
 not_true : (b : Bool) → not b ≡ true → b ≡ false
 not_true true h = absurd (false≢true h)

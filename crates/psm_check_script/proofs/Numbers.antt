@@ -21,7 +21,7 @@ there_more [] ys i x e = cc
 there_more (z ∷ zs) ys zero x e = e
 there_more (z ∷ zs) ys (suc i) x e = there_more zs ys i x e
 
-last_there : {A : Type 0} (xs : List A) (x : A) → slice_get (xs ++ x ∷ []) (length xs) ≡ Some x
+pub last_there : {A : Type 0} (xs : List A) (x : A) → slice_get (xs ++ x ∷ []) (length xs) ≡ Some x
 last_there [] x = refl
 last_there (z ∷ zs) x = last_there zs x
 

@@ -125,11 +125,6 @@ delete_well_typed e s checker_scope resolver_scope a m table which well none =
 
 -- ---- VALUES
 
-letter_of_source : Shape → Letter
-letter_of_source (Value t) = letter_in (family_of t.kind)
-letter_of_source Untyped = N
-letter_of_source Condition = N
-
 record IsOfSome (e : TypingContext) (x : ResolvedExpr) : Type 0 where
   letter : Letter
   value : IsTrue (is_value letter)

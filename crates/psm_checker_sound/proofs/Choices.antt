@@ -8,7 +8,7 @@ use Rattle.psm_value.specs.declared.sqltype.SqlType.{SqlType}
 use Rattle.psm_value.specs.declared.sqltype.SqlType.TheVariants as types
 use Rattle.psm_exprcode.specs.declared.op.Letter.{Letter}
 use Rattle.psm_exprcode.specs.declared.op.Letter.TheVariants.{B}
-use Rattle.psm_exprcode.specs.Kinds.{is_value, letter_of}
+use Rattle.psm_exprcode.specs.Kinds.{letter_of}
 use Rattle.psm_exprcode.specs.WellFormed.{is_type}
 use Rattle.psm_scope.proofs.Lists.{both}
 use Rattle.psm_scope.specs.Choice as choice
@@ -55,7 +55,7 @@ use Rattle.psm_resolved.specs.declared.expr.ResolvedExpr.TheOpen as layers
 use Rattle.psm_wellformed.specs.Expressions as well_formed
 use Rattle.psm_checker_sound.proofs.WellFormedParts.{AllFit, Fit, more_fit, none_fit, null_fit, well_formed_as, widened_fit}
 use Rattle.psm_checker_sound.proofs.Choosing.{IsCallee, chosen_called}
-use Rattle.psm_checker_sound.proofs.Judging.{AllSources, ElseJudged, Judged, Source, WhensJudged, Where, Control, cast-judged, cast_null-judged, coalesce-judged, compared-judged, judged-source, null-source, searched-judged}
+use Rattle.psm_checker_sound.proofs.Judging.{AllSources, Control, ElseJudged, Judged, Source, WhensJudged, Where, cast-judged, cast_null-judged, coalesce-judged, compared-judged, judged-source, null-source, searched-judged, value_letter}
 use Rattle.psm_checker_sound.proofs.Parts.{AllResults, Clean, Good, IsResolved, IsNullAlone, IsOperand, IsResult, IsSane, IsSourceOf, IsValue, Part, Parts, all_shaped, as_condition-clean, as_value-clean, compares_clean, compares_judged, combined-clean, combined-parts, neither, operand, operand_source, operands, result, results, same_family, sources_clean, tested, value_of_family, compared_shape}
 use Rattle.psm_checker_sound.proofs.Results.{Agrees, IsResultOf, SaneShape, letter_of_result, results-clean, results_value, scale_of_sane}
 use Rattle.psm_checker_sound.proofs.Forms.{resolved_value, shape_some, type_good, typed_value}
@@ -480,13 +480,6 @@ letter_goes kind.VarChar (types.Numeric p s) h g = absurd cc
 letter_goes kind.VarChar (types.Char n) h g = refl
 letter_goes kind.VarChar (types.VarChar n) h g = refl
 letter_goes kind.Null t h g = absurd cc
-
-value_letter : (t : SqlType) → is_value (letter_of t) ≡ true
-value_letter types.SmallInt = refl
-value_letter types.Integer = refl
-value_letter (types.Numeric p s) = refl
-value_letter (types.Char n) = refl
-value_letter (types.VarChar n) = refl
 
 source_goes : (e : TypingContext) (m : Resolved) (s : Shape) (t : SqlType) → IsSourceOf e Control m s → goes_to (shapes.kind_of s) (kind_of t) ≡ true → IsExpr e m.expr (letter_of t)
 source_goes e m (Value u) t h g = subst (IsExpr e m.expr) (letter_goes u.kind t h.sane.typed g) h.judged.0

@@ -87,7 +87,7 @@ meant_alike n s fs gs e = sym (meant_kinds n s fs) ∙ ap (meant n s) e ∙ mean
 
 -- ---- what is meant is one of those that are declared
 
-some_step : {A : Type 0} (P : A → Type 0) (b : Bool) (x : A) (o : Option A) → P x → IfSome o P → IfSome (if b then Some x else o) P
+pub some_step : {A : Type 0} (P : A → Type 0) (b : Bool) (x : A) (o : Option A) → P x → IfSome o P → IfSome (if b then Some x else o) P
 some_step P true x o h k = h
 some_step P false x o h k = k
 

@@ -57,6 +57,7 @@ use Rattle.psm_wellformed.specs.Expressions as well_formed
 use Rattle.psm_wellformed.specs.Queries.{WellFormedQuery, are_well_formed, has_rows}
 use Rattle.psm_wellformed.specs.Queries.{items_of as items_at}
 use Rattle.psm_resolved.specs.declared.expr.ResolvedExpr.TheOpen as layers
+use Rattle.psm_checker_sound.proofs.Names.{some_step}
 use Rattle.psm_checker_sound.proofs.WellFormedParts.{HaveColumns, known_in, well_formed_as}
 use Rattle.psm_checker_sound.proofs.WellFormedItems.{AreKnown, AreSetsOf, AreValuesOf, IsSetOf, IsValueOf, count_is, each_at, letter_from, query_is, query_letters, query_well_formed, rows_known, set_is_of, sets_known, sets_well_formed, table_in}
 use Rattle.psm_checker_sound.proofs.Judging.{Control, OnRow, column-judged, goes_as_row_type, row_type_at}
@@ -71,10 +72,6 @@ pub record IsTable (tables : List ResolvedTable) (i : ℕ) (p : ℕ × Columns) 
   pub from : p.0 ≡ i + place
   pub there : slice_get tables place ≡ Some table
   pub types : HaveTypes p.1 (kinds_of table.definition.columns)
-
-some_step : {A : Type 0} (P : A → Type 0) (b : Bool) (x : A) (o : Option A) → P x → IfSome o P → IfSome (if b then Some x else o) P
-some_step P true x o h k = h
-some_step P false x o h k = k
 
 next_table : (t : ResolvedTable) (tables : List ResolvedTable) (i : ℕ) (o : Option (ℕ × Columns)) → IfSome o (IsTable tables (suc i)) → IfSome o (IsTable (t ∷ tables) i)
 next_table t tables i None h = tt

@@ -255,7 +255,7 @@ given_letters (p ∷ ps) more (v ∷ vs) h = by p.mode (given_letters ps more vs
   by Out rest = both_true (has_letter (letter_of p.kind) v) (are_of (parameter_letters (giving ps)) (given_back ps vs)) letter rest
   by InOut rest = both_true (has_letter (letter_of p.kind) v) (are_of (parameter_letters (giving ps)) (given_back ps vs)) letter rest
 
-not_true : (b : Bool) → not b ≡ true → b ≡ false
+pub not_true : (b : Bool) → not b ≡ true → b ≡ false
 not_true true h = absurd (cc)
 not_true false h = refl
 

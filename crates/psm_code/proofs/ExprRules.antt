@@ -14,12 +14,13 @@ use Rattle.psm_exprcode.specs.declared.op.Op.TheVariants as op
 use Rattle.psm_exprcode.specs.Kinds.{is_value, some_letter, some_value}
 use Rattle.psm_exprcode.specs.Operations.{Effect, effect}
 use Rattle.psm_exprcode.specs.WellFormed.{are_lines, are_stated, branches, does_fit, falls_through, goes_on_with, is_bounded, is_known, is_line, is_of_kind, is_type, lands, leads, left_of, same_stack}
+use Rattle.psm_exprcode.proofs.Running.{letter_found}
 use Rattle.psm_exprcode.proofs.Standing.{both_true}
 use Rattle.psm_code.specs.declared.rule.CodeRule.TheVariants.{Range, Target, Stack, Turn}
 use Rattle.psm_code.specs.Rules.{first_of, there, unless, where_there}
 use Rattle.psm_code.specs.TableRules.{all_bring, are_stated_after, are_stated_at, at_ends, ends_due, expr_faults, expr_line_faults, falls_on, is_at, is_bare_first, is_in_bounds, is_of_letter, jumps_on, names_there, op_fault, operands_follow, reaches_end, target_of}
 use Rattle.psm_code.proofs.Faults.{clean_head, clean_tail, four_hold, Clean}
-use Rattle.psm_code.proofs.NextLines.{letter_found, value_found}
+use Rattle.psm_code.proofs.NextLines.{value_found}
 use Rattle.psm_code.proofs.Raises.{where_some}
 
 -- ---- tests

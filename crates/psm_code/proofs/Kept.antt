@@ -34,9 +34,3 @@ stated_there stacks lines at l h k e = let P : NumberedLine → Type 0 = λ x. x
 
 abbrev written : List CodeLine → List Letter → Writing
 written lines stack = record { lines = lines; stack = stack }
-
-pub written_put : (old new : List (List Letter)) (lines : List NumberedLine) (s more letters : List Letter) (w : Writing) → written (lines_of old lines) s ≡ w → Extends old new → AreStatedIn old lines → more ≡ letters ++ s
-    → written (lines_of new lines) more ≡ written w.lines (letters ++ w.stack)
-written_put old new lines s more letters w e h k g =
-    let kept : lines_of new lines ≡ w.lines = lines_kept old new lines h k ∙ ap (λ x. x.lines) e in
-    ap (λ x. written x more) kept ∙ ap (written w.lines) (g ∙ ap (λ x. letters ++ x.stack) e)

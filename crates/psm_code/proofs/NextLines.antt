@@ -5,12 +5,13 @@ use Rattle.psm_num.proofs.Literals.{and_first, and_second}
 use Rattle.psm_value.specs.declared.sqltype.SqlType.{SqlType}
 use Rattle.psm_cond.specs.Condition.{Entries}
 use Rattle.psm_exprcode.specs.declared.op.Letter.{Letter}
-use Rattle.psm_exprcode.specs.declared.op.Letter.TheVariants.{N, T, B}
+use Rattle.psm_exprcode.specs.declared.op.Letter.TheVariants.{N, T}
 use Rattle.psm_exprcode.specs.declared.op.Op.TheVariants as op
-use Rattle.psm_exprcode.specs.Kinds.{have, is_letter, is_value, letter_of, some_letter, some_value}
+use Rattle.psm_exprcode.specs.Kinds.{have, is_value, letter_of, some_letter, some_value}
 use Rattle.psm_exprcode.specs.Operations.{Effect}
-use Rattle.psm_exprcode.specs.WellFormed.{left_of, same_stack}
-use Rattle.psm_exprcode.proofs.Stripping.{is_letter-same, left_of-some}
+use Rattle.psm_exprcode.specs.WellFormed.{left_of}
+use Rattle.psm_exprcode.proofs.Running.{letter_found, same_stack-same}
+use Rattle.psm_exprcode.proofs.Stripping.{left_of-some}
 use Rattle.psm_code.specs.declared.code.RawCode.{RawCode}
 use Rattle.psm_code.specs.declared.code.RawRoutine.{RawRoutine}
 use Rattle.psm_code.specs.declared.lines.CodeLine.{CodeLine}
@@ -38,19 +39,6 @@ or_cases false b h = inr h
 
 pub value_found : (test : Letter → Bool) → some_value test ≡ true → (k : Letter) × (is_value k ≡ true) × (test k ≡ true)
 value_found test h = elim (or_cases (test N) (test T) h) as (λ _. (k : Letter) × (is_value k ≡ true) × (test k ≡ true)) [ inl p ↦ (N, refl, p) | inr p ↦ (T, refl, p) ]
-
-pub letter_found : (test : Letter → Bool) → some_letter test ≡ true → (x : Letter) × (test x ≡ true)
-letter_found test h = elim (or_cases (test N) (test T || test B) h) as (λ _. (x : Letter) × (test x ≡ true)) [
-  | inl p ↦ (N, p)
-  | inr q ↦ elim (or_cases (test T) (test B) q) as (λ _. (x : Letter) × (test x ≡ true)) [ inl p ↦ (T, p) | inr p ↦ (B, p) ]
-]
-
-pub same_stack-same : (s t : List Letter) → same_stack s t ≡ true → s ≡ t
-same_stack-same [] [] h = refl
-same_stack-same [] (l ∷ t) h = absurd (cc)
-same_stack-same (k ∷ s) [] h = absurd (cc)
-same_stack-same (k ∷ s) (l ∷ t) h =
-    ap (λ j. j ∷ s) (is_letter-same k l (and_first (is_letter k l) (same_stack s t) h)) ∙ ap (λ u. l ∷ u) (same_stack-same s t (and_second (is_letter k l) (same_stack s t) h))
 
 -- ---- lines
 

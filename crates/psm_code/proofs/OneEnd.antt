@@ -11,9 +11,10 @@ use Rattle.psm_exprcode.specs.declared.op.Op.TheVariants as op
 use Rattle.psm_exprcode.specs.Kinds.{letter_of, some_letter, some_value}
 use Rattle.psm_exprcode.specs.Operations.{Effect, effect}
 use Rattle.psm_exprcode.specs.WellFormed.{are_lines, does_fit, falls_through, branches, goes_on_with, is_bounded, is_known, is_line, is_of_kind, lands, leads, left_of, same_stack}
+use Rattle.psm_exprcode.proofs.Running.{letter_found, same_stack-same}
 use Rattle.psm_exprcode.proofs.Stripping.{is_letter-same, left_of-some}
 use Rattle.psm_code.specs.Instructions.{known_end, letter_that}
-use Rattle.psm_code.proofs.NextLines.{letter_found, same_stack-same, value_found}
+use Rattle.psm_code.proofs.NextLines.{value_found}
 
 -- ---- the first letter that passes a test which one letter passes alone
 

@@ -37,7 +37,7 @@ kept_set (u ∷ ts) [] i t c h e k = absurd h
 kept_set (u ∷ ts) (d ∷ cs) zero t c h e k = let same : u ≡ t = cc in (subst (λ (x : CodeTable). IsKept x c) (sym same) k, h.1)
 kept_set (u ∷ ts) (d ∷ cs) (suc i) t c h e k = (h.0, kept_set ts cs i t c h.1 e k)
 
-schema_there : (keyed : List (List Datum) → Bool) (ts : List CodeTable) (i : ℕ) (t : CodeTable) → slice_get ts i ≡ Some t → slice_get (map (schema_of keyed) ts) i ≡ Some (schema_of keyed t)
+pub schema_there : (keyed : List (List Datum) → Bool) (ts : List CodeTable) (i : ℕ) (t : CodeTable) → slice_get ts i ≡ Some t → slice_get (map (schema_of keyed) ts) i ≡ Some (schema_of keyed t)
 schema_there keyed [] i t e = absurd (cc)
 schema_there keyed (u ∷ ts) zero t e = let same : u ≡ t = cc in ap (λ (x : CodeTable). Some (schema_of keyed x)) same
 schema_there keyed (u ∷ ts) (suc i) t e = schema_there keyed ts i t e

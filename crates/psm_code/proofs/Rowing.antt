@@ -23,6 +23,7 @@ use Rattle.psm_table.specs.Key.{row_order, values_at}
 use Rattle.psm_table.specs.Unique.{has_null, is_null}
 use Rattle.psm_table.proofs.Legal.{by_division, ended_is, left_all}
 use Rattle.psm_tablecode.specs.NewRows.{new_row, row_from}
+use Rattle.psm_code.proofs.Calls.{not_true}
 
 abbrev Row : Type 0
 Row = List Datum
@@ -38,10 +39,6 @@ none_null [] h = All-nil (λ d. d ≡ Null → ⊥)
 none_null (Null ∷ vs) h = absurd (cc)
 none_null (Num n ∷ vs) h = All-cons (λ d. d ≡ Null → ⊥) (Num n) vs (λ e. cc) (none_null vs h)
 none_null (Text t ∷ vs) h = All-cons (λ d. d ≡ Null → ⊥) (Text t) vs (λ e. cc) (none_null vs h)
-
-not_true : (b : Bool) → not b ≡ true → b ≡ false
-not_true true h = absurd (cc)
-not_true false h = refl
 
 is_row : (def : TableDef) (row : Row) → Whole def row → is_filled def row ≡ true → IsRow def row
 is_row def row w f = record {

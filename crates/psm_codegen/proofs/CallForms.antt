@@ -1,7 +1,5 @@
 -- What is evaluated before a statement does its work, from what was written one after another.
 use Rattle.std.proofs.Common.{◌≡◌, ℕ, suc, ◌+◌, List, ◌∷◌, Option, Some, None, ap, sym, subst, ◌∙◌, arith}
-use Rattle.std.specs.Prelude.{Result, Ok, Err, IfOk}
-use Rattle.std.specs.declared.alloc.AllocError.{AllocError}
 use Rattle.psm_value.specs.declared.datum.Datum.TheVariants as data_of
 use Rattle.psm_exprcode.specs.declared.op.Letter.{Letter}
 use Rattle.psm_exprcode.specs.declared.op.Letter.TheVariants.{T}
@@ -15,11 +13,6 @@ use Rattle.psm_exprgen.specs.declared.known.Known.{Known}
 use Rattle.psm_exprgen.specs.Exprs.{Arguments, Writes}
 use Rattle.psm_exprgen.specs.Written.{Written, applied, letter_at, takes}
 use Rattle.psm_codegen.specs.Simples.{CallArguments, in_argument, out_argument, inout_argument, Declares, declaration, Default, default, no_default, Signals, message, no_message, WritesRows, row, copied, letter_of_slots}
-
--- what is written goes on, where the other thing is known
-pub ok_as : {P Q : Type 0} (r : Result (Unit {0}) AllocError) → (P → Q) → IfOk r (λ _. P) → IfOk r (λ _. Q)
-ok_as (Ok u) f h = f h
-ok_as (Err x) f h = h
 
 -- ---- an argument, and those after it
 

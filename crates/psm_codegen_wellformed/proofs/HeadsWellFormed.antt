@@ -68,7 +68,7 @@ variables-well_formed file routine r well_formed w =
 
 -- ---- routines that are distinguished
 
-length-parameters : (ps : List ResolvedParameter) → length (map parameter_of ps) ≡ length ps
+pub length-parameters : (ps : List ResolvedParameter) → length (map parameter_of ps) ≡ length ps
 length-parameters [] = refl
 length-parameters (p ∷ ps) = ap suc (length-parameters ps)
 

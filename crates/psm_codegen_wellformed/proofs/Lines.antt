@@ -10,6 +10,7 @@ use Rattle.psm_exprcode.specs.Kinds.{is_value, some_letter, some_value}
 use Rattle.psm_exprcode.specs.Operations.{Effect}
 use Rattle.psm_exprcode.specs.WellFormed.{left_of, same_stack}
 use Rattle.psm_exprcode.proofs.Stripping.{is_letter-self, same_stack-self}
+use Rattle.psm_resolved.proofs.Lines.{letter_some}
 use Rattle.psm_code.specs.declared.code.RawCode.{RawCode}
 use Rattle.psm_code.specs.declared.code.RawRoutine.{RawRoutine}
 use Rattle.psm_code.specs.declared.instruction.Instruction.{Instruction}
@@ -38,11 +39,6 @@ some_value-has : (test : Letter → Bool) (k : Letter) → is_value k ≡ true �
 some_value-has test N v h = or_first (test N) (test T) h
 some_value-has test T v h = or_second (test N) (test T) h
 some_value-has test B v h = absurd (false≢true v)
-
-some_letter-has : (test : Letter → Bool) (k : Letter) → test k ≡ true → some_letter test ≡ true
-some_letter-has test N h = or_first (test N) (test T || test B) h
-some_letter-has test T h = or_second (test N) (test T || test B) (or_first (test T) (test B) h)
-some_letter-has test B h = or_second (test N) (test T || test B) (or_second (test T) (test B) h)
 
 rules_hold : (range target stack context resume turn place : Bool) → range ≡ true → target ≡ true → stack ≡ true → context ≡ true → resume ≡ true → turn ≡ true → place ≡ true
     → first_of (unless range Range ∷ unless target Target ∷ unless stack Stack ∷ unless context InContext ∷ unless resume Resume ∷ unless turn Turn ∷ unless place Place ∷ []) ≡ None
@@ -189,7 +185,7 @@ stack-follows : {code : RawCode} {r : RawRoutine} (at : ℕ) (l : CodeLine) (e :
     → stated_fall_through r at e.fall_through rest ≡ true → stated_branch r e.branching rest ≡ true → stack_follows code r at l ≡ true
 stack-follows {code} {r} at l e rest d s a b =
     let test : Letter → Letter → Bool = λ k x. follows_with r at (reverse l.stack) (instruction_effect code r l.instruction k x) in
-    both d.fits (or_second (lacks_result code r (reverse l.stack) l.instruction) (some_value (λ k. some_letter (test k))) (some_value-has (λ k. some_letter (test k)) d.value d.is_value (some_letter-has (test d.value) d.other
+    both d.fits (or_second (lacks_result code r (reverse l.stack) l.instruction) (some_value (λ k. some_letter (test k))) (some_value-has (λ k. some_letter (test k)) d.value d.is_value (letter_some (test d.value) d.other
     (ap (follows_with r at (reverse l.stack)) d.effect ∙ ap (λ t. follows_with r at t (Some e)) s ∙ ap (λ o. stated_after r at e o) (left_of-taken e.takes rest) ∙ both a b))))
 
 -- a line is free of faults

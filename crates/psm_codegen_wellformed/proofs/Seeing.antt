@@ -1,5 +1,5 @@
 -- What a statement sees, in the tree and in the code: the cursors, with the letters of their items, and what LEAVE and ITERATE can name.
-use Rattle.std.proofs.Common.{◌≡◌, ◌||◌, ℕ, zero, suc, Bool, true, false, inl, inr, nat_eq, List, [], ◌∷◌, ◌++◌, find, length, if◌then◌else◌, Some, option_map, ap, refl, sym, subst, ◌∙◌, append-nil}
+use Rattle.std.proofs.Common.{◌≡◌, ◌||◌, ℕ, suc, Bool, true, false, inl, inr, nat_eq, List, [], ◌∷◌, ◌++◌, find, length, if◌then◌else◌, Some, option_map, ap, refl, sym, subst, ◌∙◌, append-nil}
 use Rattle.std.specs.Prelude.{slice_get}
 use Rattle.std.proofs.lemmas.Bool.{eq-eqb}
 use Rattle.std.proofs.lemmas.Bool.Decides.{eqb_tells}
@@ -14,6 +14,7 @@ use Rattle.psm_exprgen.specs.declared.known.Known.{Known}
 use Rattle.psm_exprgen.specs.Queries.{cursor_of, item_letters}
 use Rattle.psm_exprgen.specs.Writing.{BeginsWith}
 use Rattle.psm_exprgen.specs.Written.{letters_at, letters_or}
+use Rattle.psm_exprgen.proofs.Drafts.{still-there}
 use Rattle.psm_codegen.specs.declared.enclosing.EnclosingBlock.{EnclosingBlock}
 use Rattle.psm_codegen.specs.FunctionBuilder.{FunctionBuilder}
 use Rattle.psm_codegen.specs.Standing.{CountsUp, is_among, numbers_of}
@@ -63,11 +64,6 @@ pub record Seeing (code : RawCode) (r : RawRoutine) (letters : Letters) (made : 
 
 abbrev pub Sees : RawCode → RawRoutine → Letters → FunctionBuilder → List ResolvedCursor → Type 0
 Sees code r letters p cursors = Seeing code r letters p.letters p.cursors cursors
-
-still-there : {A : Type 0} (xs ys : List A) (n : ℕ) (x : A) → slice_get xs n ≡ Some x → slice_get (xs ++ ys) n ≡ Some x
-still-there [] ys n x h = absurd (cc)
-still-there (y ∷ xs) ys zero x h = h
-still-there (y ∷ xs) ys (suc n) x h = still-there xs ys n x h
 
 begins-there : {A : Type 0} {xs ys : List A} (n : ℕ) (x : A) → BeginsWith xs ys → slice_get xs n ≡ Some x → slice_get ys n ≡ Some x
 begins-there {xs = xs} n x b h = ap (λ l. slice_get l n) b.is ∙ still-there xs b.more n x h

@@ -94,10 +94,6 @@ module _ (fetches : Fetches) (stays : NoneFailed fetches) (calls : ℕ) where
 
 -- ---- sessions
 
-last_of_cut : (first piece : List ℕ) (pieces : List (List ℕ)) → last_or first (pieces ++ piece ∷ []) ≡ piece
-last_of_cut first piece [] = refl
-last_of_cut first piece (p ∷ ps) = last_of_cut p piece ps
-
 module _ (code : RawCode) (commands : List ScriptCommand) (calls : ℕ) (script : IsScriptOf code (generated_script calls) commands)
     (over_file : (u : Session) → CodeEndsIn code (generated_script calls) generated_turns u → EndsIn generated_module (generated_script calls) generated_turns u) where
   in_session : (u : Session) → EndIn code commands generated_turns u → EndsIn generated_module (generated_script calls) generated_turns u

@@ -1,5 +1,5 @@
 -- The status of a run over the tables of code says how its session ends.
-use Rattle.std.proofs.Common.{◌≡◌, ℕ, zero, suc, ◌+◌, List, [], ◌∷◌, ◌++◌, length, take, refl, sym, ap, ◌∙◌, subst, append_assoc, arith}
+use Rattle.std.proofs.Common.{◌≡◌, ℕ, zero, suc, ◌+◌, List, [], ◌∷◌, ◌++◌, length, take, refl, sym, ap, ◌∙◌, subst, arith}
 use Rattle.std.proofs.lemmas.List.{take_at}
 use Rattle.psm_io.specs.Sink.{Grew}
 use Rattle.psm_table.specs.Table.{Contents}
@@ -10,14 +10,11 @@ use Rattle.psm_session.specs.Put.{Sunk, PutAll, PutFirst, PutSome, PutUpTo, join
 use Rattle.psm_session.specs.declared.command.ScriptCommand.{ScriptCommand}
 use Rattle.psm_session.specs.declared.script.ScriptEnd.{ScriptEnd}
 use Rattle.psm_session.specs.declared.script.ScriptEnd.TheVariants as ends
+use Rattle.psm_session.proofs.Puts.{joined-append}
 use Rattle.psm_build.specs.Outcome.{RunsAs, Shows, empty_tables}
 use Rattle.psm_commands.specs.Report.{Runs, status_of_end}
 
 -- ---- pieces that stand before others
-
-joined-append : (ps qs : List (List ℕ)) → joined (ps ++ qs) ≡ joined ps ++ joined qs
-joined-append [] qs = refl
-joined-append (p ∷ ps) qs = ap (λ (x : List ℕ). p ++ x) (joined-append ps qs) ∙ sym (append_assoc p (joined ps) (joined qs))
 
 take_nothing : (n : ℕ) → let none : List ℕ = [] in take n none ≡ none
 take_nothing zero = refl

@@ -37,7 +37,7 @@ landed end None is_end os = is_end && have (end ∷ []) os
 abbrev pub stands : Letter → List Line → ℕ → List Operand → Bool
 stands end lines distance os = landed end (slice_get lines distance) (nat_eq distance (length lines)) os
 
-same_stack-same : (s t : List Letter) → same_stack s t ≡ true → s ≡ t
+pub same_stack-same : (s t : List Letter) → same_stack s t ≡ true → s ≡ t
 same_stack-same [] [] h = refl
 same_stack-same [] (l ∷ t) h = absurd (cc)
 same_stack-same (k ∷ s) [] h = absurd (cc)
@@ -65,7 +65,7 @@ or_cases false b h = inr h
 value_found : (test : Letter → Bool) → some_value test ≡ true → (k : Letter) × (is_value k ≡ true) × (test k ≡ true)
 value_found test h = elim (or_cases (test N) (test T) h) as (λ _. (k : Letter) × (is_value k ≡ true) × (test k ≡ true)) [ inl p ↦ (N, refl, p) | inr p ↦ (T, refl, p) ]
 
-letter_found : (test : Letter → Bool) → some_letter test ≡ true → (x : Letter) × (test x ≡ true)
+pub letter_found : (test : Letter → Bool) → some_letter test ≡ true → (x : Letter) × (test x ≡ true)
 letter_found test h = elim (or_cases (test N) (test T || test B) h) as (λ _. (x : Letter) × (test x ≡ true)) [
   | inl p ↦ (N, p)
   | inr q ↦ elim (or_cases (test T) (test B) q) as (λ _. (x : Letter) × (test x ≡ true)) [ inl p ↦ (T, p) | inr p ↦ (B, p) ]
@@ -183,7 +183,7 @@ line_goes row vars end at pc l after os us next h e g =
     let F : Applied → Type 0 = λ a. StepsTo (Lands end at after) a in
     line_next row vars end at pc l after os us next h (subst F g (line_leads row vars end at pc l after os h e))
 
-eq-suc : (m n : ℕ) (b : Bool) → nat_eq m n ≡ b → nat_eq (suc m) (suc n) ≡ b
+pub eq-suc : (m n : ℕ) (b : Bool) → nat_eq m n ≡ b → nat_eq (suc m) (suc n) ≡ b
 eq-suc m n true h = eq-eqb (suc m) (suc n) (ap suc (eqb-true m n h))
 eq-suc m n false h = ne_eqb (suc m) (suc n) (λ q. let e : m ≡ n = omega (arith, q) in let r = eq-eqb m n e in cc)
 

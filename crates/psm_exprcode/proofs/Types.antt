@@ -1,11 +1,12 @@
 -- Types within bounds.
-use Rattle.std.proofs.Common.{◌≡◌, Bool, true, false, ◌&&◌, nat_le, refl, ap, sym, ◌∙◌, le-leb, leb-true}
+use Rattle.std.proofs.Common.{◌≡◌, Bool, true, false, ◌&&◌, nat_le, refl, sym, le-leb, leb-true}
 use Rattle.std.specs.Prelude.{◌↔◌, IsTrue}
 use Rattle.psm_num.proofs.Literals.{and_first, and_second}
 use Rattle.psm_value.specs.declared.sqltype.SqlType.{SqlType}
 use Rattle.psm_value.specs.declared.sqltype.SqlType.TheVariants.{SmallInt, Integer, Numeric, Char, VarChar}
 use Rattle.psm_value.specs.SqlType.{IsType}
 use Rattle.psm_exprcode.specs.WellFormed.{is_type}
+use Rattle.psm_exprcode.proofs.Standing.{both_true}
 
 pub type_within : (to : SqlType) → is_type to ≡ true → IsType to
 type_within SmallInt h = tt
@@ -15,9 +16,6 @@ type_within (Numeric p s) h =
     (leb-true 1 p (and_first (nat_le 1 p) (nat_le p 18 && nat_le s p) h), leb-true p 18 (and_first (nat_le p 18) (nat_le s p) r), leb-true s p (and_second (nat_le p 18) (nat_le s p) r))
 type_within (Char n) h = (leb-true 1 n (and_first (nat_le 1 n) (nat_le n 4000) h), leb-true n 4000 (and_second (nat_le 1 n) (nat_le n 4000) h))
 type_within (VarChar n) h = (leb-true 1 n (and_first (nat_le 1 n) (nat_le n 4000) h), leb-true n 4000 (and_second (nat_le 1 n) (nat_le n 4000) h))
-
-both_true : (a b : Bool) → a ≡ true → b ≡ true → (a && b) ≡ true
-both_true a b p q = ap (λ c. c && b) p ∙ q
 
 type_test : (to : SqlType) → IsType to → is_type to ≡ true
 type_test SmallInt h = refl

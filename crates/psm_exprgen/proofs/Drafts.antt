@@ -9,7 +9,7 @@ use Rattle.psm_exprgen.proofs.Growth.{begins-before, begins-here}
 
 -- ---- labels
 
-still-there : {A : Type 0} (xs ys : List A) (n : ℕ) (x : A) → slice_get xs n ≡ Some x → slice_get (xs ++ ys) n ≡ Some x
+pub still-there : {A : Type 0} (xs ys : List A) (n : ℕ) (x : A) → slice_get xs n ≡ Some x → slice_get (xs ++ ys) n ≡ Some x
 still-there [] ys n x h = absurd (cc)
 still-there (y ∷ xs) ys zero x h = h
 still-there (y ∷ xs) ys (suc n) x h = still-there xs ys n x h

@@ -1,5 +1,5 @@
 -- Statements that leave a table with other rows, as parts of an instruction.
-use Rattle.std.proofs.Common.{◌≡◌, ◌<◌, ℕ, zero, suc, length, Bool, List, [], ◌∷◌, map, slice_get, Option, Some, IfSome, IsErrAnd, Result, Ok, Err, refl, ap, sym, subst, ◌∙◌, arith}
+use Rattle.std.proofs.Common.{◌≡◌, ◌<◌, ℕ, length, Bool, List, [], ◌∷◌, map, slice_get, Option, Some, IfSome, IsErrAnd, Result, Ok, Err, refl, ap, sym, subst, ◌∙◌, arith}
 use Rattle.psm_cond.specs.Condition.{Entries}
 use Rattle.psm_cond.specs.declared.fault.DataFault.{DataFault}
 use Rattle.psm_cond.specs.declared.fault.DataFault.TheVariants as fault
@@ -21,7 +21,7 @@ use Rattle.psm_code.specs.declared.code.RawCode.{RawCode}
 use Rattle.psm_code.specs.Plans.{delete_rows, leaves, plain, put_in, schema_of, set_item, some_row, some_rows, unless_failed, update_rows}
 use Rattle.psm_code.specs.State.{Machine}
 use Rattle.psm_code.specs.Steps.{Act, Came, Raises, go_on, got, raises, ◌>>=◌, ◌>>◌}
-use Rattle.psm_code.proofs.Planning.{any_rows}
+use Rattle.psm_code.proofs.Planning.{any_rows, schema_there}
 use Rattle.psm_unwind.specs.declared.run.Run.{Run}
 use Rattle.psm_unwind.specs.View.{machine_of}
 use Rattle.psm_machine.specs.declared.stop.Stop.{Stop}
@@ -95,11 +95,6 @@ put_by t c expected n old at r new (Err (fault.Raised e)) h =
 put_by t c expected n old at r new (Err fault.Memory) h = tt
 
 -- ---- what is there
-
-pub schema_there : (keyed : List (List Datum) → Bool) (ts : List CodeTable) (i : ℕ) (t : CodeTable) → slice_get ts i ≡ Some t → slice_get (map (schema_of keyed) ts) i ≡ Some (schema_of keyed t)
-schema_there keyed [] i t e = absurd (cc)
-schema_there keyed (u ∷ ts) zero t e = let same : u ≡ t = cc in ap (λ (x : CodeTable). Some (schema_of keyed x)) same
-schema_there keyed (u ∷ ts) (suc i) t e = schema_there keyed ts i t e
 
 -- the schema of a table among others is that of the code
 pub schema_same : (keys : List ForeignKey) (old : List Contents) (n : ℕ) (t : CodeTable) (def : TableDef) → def ≡ t.definition → ends.keyed_schema keys old n def t.checks ≡ schema_of (are_keyed_with keys (rows_in old) n) t

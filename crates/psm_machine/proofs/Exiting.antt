@@ -16,7 +16,7 @@ use Rattle.psm_unwind.specs.declared.run.Frame.TheVariants.{Block, Action}
 use Rattle.psm_unwind.specs.Leaving.{cursors_by}
 use Rattle.psm_unwind.specs.View.{frame_of, frames_of}
 use Rattle.psm_unwind.proofs.Arriving.{with_parts}
-use Rattle.psm_unwind.proofs.Lasts.{first_of, last_is}
+use Rattle.psm_unwind.proofs.Lasts.{first_of, first_view, last_is}
 use Rattle.psm_machine.specs.Innermost.{is_innermost}
 
 -- ---- the frame that was read as the last one
@@ -29,12 +29,8 @@ first_block : (k : ℕ) (frames : List code.Frame) → is_innermost k frames ≡
 first_block k [] = refl
 first_block k (f ∷ frames) = refl
 
-first_seen : (at : Mark → List Contents) (frames : List Frame) (o : Option Frame) → o ≡ first_of frames → first_of (frames_of at frames) ≡ option_map (frame_of at) o
-first_seen at [] o e = ap (λ x. option_map (frame_of at) x) (sym e)
-first_seen at (f ∷ frames) o e = ap (λ x. option_map (frame_of at) x) (sym e)
-
 pub last_block : (at : Mark → List Contents) (k : ℕ) (frames : List Frame) (o : Option Frame) → o ≡ slice_get frames (length frames - 1) → block_in (option_map (frame_of at) o) k ≡ is_innermost k (frames_of at (reverse frames))
-last_block at k frames o e = sym (first_block k (frames_of at (reverse frames)) ∙ ap (λ x. block_in x k) (first_seen at (reverse frames) o (e ∙ last_is frames)))
+last_block at k frames o e = sym (first_block k (frames_of at (reverse frames)) ∙ ap (λ x. block_in x k) (first_view at (reverse frames) o (e ∙ last_is frames)))
 
 pub popped_block : (k : ℕ) (xs ys : List Frame) (o : Option Frame) → xs ≡ ys ++ option_to_list o → ((at : Mark → List Contents) → is_innermost k (frames_of at (reverse xs)) ≡ true) →
     IfSome o (λ f. (at : Mark → List Contents) → is_block k (frame_of at f) ≡ true)

@@ -14,6 +14,7 @@ use Rattle.psm_table.specs.Keyed.{are_keyed_with, rows_in}
 use Rattle.psm_table.specs.Table.{keyed, Contents}
 use Rattle.psm_tablecode.specs.Codes.{over}
 use Rattle.psm_store.specs.declared.store.Mark.{Mark}
+use Rattle.psm_code.proofs.Planning.{schema_there}
 use Rattle.psm_dml.specs.Ends as ends
 use Rattle.psm_dml.specs.Ends.{EndsAt, EndsAtRow, EndsErased, ErasesByRules}
 use Rattle.psm_cursor.specs.Current.{current_key, current_row, off_row}
@@ -33,7 +34,7 @@ use Rattle.psm_machine.specs.Allowed.{HasTable, OfCursor, OverQuery}
 use Rattle.psm_machine.specs.ActResults.{Evaluates}
 use Rattle.psm_machine.specs.Over.{part_of}
 use Rattle.psm_machine.proofs.Asking.{of_some}
-use Rattle.psm_machine.proofs.Counting.{counting, schema_alone, schema_same, schema_there, stopped_by}
+use Rattle.psm_machine.proofs.Counting.{counting, schema_alone, schema_same, stopped_by}
 
 -- ---- cursors
 

@@ -74,7 +74,7 @@ for_cursor-opens : (symbols : SymbolTable) (p : Point) (cursor : Option ForCurso
 for_cursor-opens symbols p None = opens-own_cursor symbols p
 for_cursor-opens symbols p (Some cursor) = opens-cursor symbols p cursor.name.name
 
-same-variables : (p : Point) (cursor : Option ForCursor) → (with_for_cursor p cursor).1.variables ≡ p.1.variables
+pub same-variables : (p : Point) (cursor : Option ForCursor) → (with_for_cursor p cursor).1.variables ≡ p.1.variables
 same-variables p None = refl
 same-variables p (Some cursor) = refl
 

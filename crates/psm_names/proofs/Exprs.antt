@@ -333,7 +333,7 @@ pub together-append : {A B : Type 0} (g : A → List B) (xs ys : List A) → tog
 together-append g [] ys = refl
 together-append g (x ∷ xs) ys = ap (λ l. g x ++ l) (together-append g xs ys) ∙ sym (append_assoc (g x) (together (map g xs)) (together (map g ys)))
 
-map-append : {A B : Type 0} (g : A → B) (xs ys : List A) → map g (xs ++ ys) ≡ map g xs ++ map g ys
+pub map-append : {A B : Type 0} (g : A → B) (xs ys : List A) → map g (xs ++ ys) ≡ map g xs ++ map g ys
 map-append g [] ys = refl
 map-append g (x ∷ xs) ys = ap (λ l. g x ∷ l) (map-append g xs ys)
 

@@ -199,7 +199,7 @@ tables-known f h = routines-tables (with_known_tables no_symbols f.tables) 0 f.�
 
 -- ---- files
 
-each-same : {A B C : Type 0} (g : B → C) (f : A → B) (h : A → C) → ((x : A) → g (f x) ≡ h x) → (xs : List A) → map g (map f xs) ≡ map h xs
+pub each-same : {A B C : Type 0} (g : B → C) (f : A → B) (h : A → C) → ((x : A) → g (f x) ≡ h x) → (xs : List A) → map g (map f xs) ≡ map h xs
 each-same g f h same [] = refl
 each-same g f h same (x ∷ xs) = ap (λ y. y ∷ map g (map f xs)) (same x) ∙ ap (λ l. h x ∷ l) (each-same g f h same xs)
 

@@ -34,7 +34,7 @@ use Rattle.psm_resolve.specs.Files.{defined_from, key_of, resolve_table, resolve
 use Rattle.psm_resolve.specs.SymbolTables.{known_symbols}
 use Rattle.psm_names.specs.FileOccurrences.{AreNew, before, functions_in, known_table, or_next, procedure_from, result_of, results_in, signature_of}
 use Rattle.psm_names.specs.DeclaredInFiles.{IsFunction, IsProcedure, NamesEachOnce, columns_declared, function_routines, procedures_in, resolved_names, table_declared, table_names}
-use Rattle.psm_names.proofs.Files.{functions-known, procedures-known, results-known, tables-known}
+use Rattle.psm_names.proofs.Files.{each-same, functions-known, procedures-known, results-known, tables-known}
 
 -- ---- no fault
 
@@ -136,10 +136,6 @@ defined-names : (key : List ℕ) (place : ℕ) (es : List Element) → map (λ c
 defined-names key place [] = refl
 defined-names key place (elements.Column name kind default rules ∷ es) = ap (λ l. name.name ∷ l) (defined-names key (suc place) es)
 defined-names key place (elements.Rule r ∷ es) = defined-names key place es
-
-pub each-same : {A B C : Type 0} (g : B → C) (f : A → B) (h : A → C) → ((x : A) → g (f x) ≡ h x) → (xs : List A) → map g (map f xs) ≡ map h xs
-each-same g f h same [] = refl
-each-same g f h same (x ∷ xs) = ap (λ y. y ∷ map g (map f xs)) (same x) ∙ ap (λ l. h x ∷ l) (each-same g f h same xs)
 
 pub resolved-columns : (f : FileTree) → map resolved_names (resolved_file f).tables ≡ map table_names f.tables
 resolved-columns f = each-same resolved_names resolve_table table_names (λ t. ap (λ l. (t.name.name, l)) (defined-names (key_of (columns_of (table_elements t)) (table_elements t)) 0 (table_elements t))) f.tables

@@ -34,8 +34,9 @@ use Rattle.psm_names.specs.DeclaredInFiles.{columns_declared}
 use Rattle.psm_names.specs.KeyOccurrences.{in_foreign_keys, in_key_of, in_references, in_target, named_columns, of_foreign_key, reference_in_column_rule, reference_in_table_rule, references_in_element, references_in_table}
 use Rattle.psm_names.specs.Occurrences.{Occurrence, TableName, looked_up, place_of}
 use Rattle.psm_names.specs.Referents.{Column, Table, together}
+use Rattle.psm_names.proofs.Exprs.{map-append}
 use Rattle.psm_names.proofs.FilesDeclared.{FileParts, Knows, file-parts, knows-more, no-repeat, none-first, table-columns, unbroken}
-use Rattle.psm_names.proofs.Keys.{index-at, key-gives, longer, map-append}
+use Rattle.psm_names.proofs.Keys.{index-at, key-gives, longer}
 use Rattle.psm_names.proofs.LookedUp.{Gives, gives-both, gives-none, gives-one}
 use Rattle.psm_names.proofs.Simples.{columns-give}
 

@@ -29,6 +29,7 @@ use Rattle.psm_names.specs.Declaring.{Item, Ordinals, Point, as_state, condition
 use Rattle.psm_names.specs.DeclaredNames.{Holds, condition_named, cursor_named, first_in, variable_named}
 use Rattle.psm_names.specs.StatementOccurrences.{begin, parameter_names, with_parameters}
 use Rattle.psm_names.proofs.AtScopes.{AllAt, AtScopes, EachAt, optional-at, query-all_at}
+use Rattle.psm_names.proofs.DeclaredBefore.{same-variables}
 
 -- ---- look-up
 
@@ -272,10 +273,6 @@ into-items p (i ∷ is) = into-item p i is (subst (λ n. Into (with_item p i).0 
 into-for_cursor : (p : Point) (cursor : Option ForCursor) → Into p.0 (occurring.Declared (cursor_name cursor) (Cursor p.1.cursors) ∷ []) (with_for_cursor p cursor).0
 into-for_cursor p None = λ can. here-unnamed p.0 (Cursor p.1.cursors) (λ n. (refl, refl, refl))
 into-for_cursor p (Some cursor) = into-cursor p cursor.name.name
-
-same-variables : (p : Point) (cursor : Option ForCursor) → (with_for_cursor p cursor).1.variables ≡ p.1.variables
-same-variables p None = refl
-same-variables p (Some cursor) = refl
 
 into-head : (label : Option Spelling) (site : Site) (head : ForHead) (n : Ordinals) → Into (For label head.name.name undeclared ∷ site.scopes) (in_head site head n) (in_for site label head n).0
 into-head label site head n =

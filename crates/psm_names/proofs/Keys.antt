@@ -28,7 +28,9 @@ use Rattle.psm_names.specs.DeclaredInFiles.{columns_declared}
 use Rattle.psm_names.specs.KeyOccurrences.{first_key, in_key, in_uniques, key_in_column_rule, key_in_table_rule, keys_in_element, named_columns, of_key, of_uniques, unique_in_column_rule, unique_in_table_rule, uniques_in_element}
 use Rattle.psm_names.specs.Occurrences.{Occurrence, looked_up, place_of}
 use Rattle.psm_names.specs.Referents.{Column, together}
-use Rattle.psm_names.proofs.FilesDeclared.{FileParts, Knows, each-same, file-parts, knows-more, no-repeat, none-first, table-columns, unbroken}
+use Rattle.psm_names.proofs.Exprs.{map-append}
+use Rattle.psm_names.proofs.Files.{each-same}
+use Rattle.psm_names.proofs.FilesDeclared.{FileParts, Knows, file-parts, knows-more, no-repeat, none-first, table-columns, unbroken}
 use Rattle.psm_names.proofs.LookedUp.{Gives, gives-none}
 use Rattle.psm_names.proofs.Simples.{columns-give}
 
@@ -89,10 +91,6 @@ keys-resolved f = each-same of_key resolve_table (λ t. looked_up no_symbols (in
 
 abbrev Alike : List (List ℕ) → List (List Occurrence) → Type 0
 Alike xs os = map (map (λ i. Column i)) xs ≡ map (looked_up no_symbols) os
-
-pub map-append : {A B : Type 0} (g : A → B) (xs ys : List A) → map g (xs ++ ys) ≡ map g xs ++ map g ys
-map-append g [] ys = refl
-map-append g (x ∷ xs) ys = ap (λ l. g x ∷ l) (map-append g xs ys)
 
 alike-both : (xs ys : List (List ℕ)) (os ps : List (List Occurrence)) → Alike xs os → Alike ys ps → Alike (xs ++ ys) (os ++ ps)
 alike-both xs ys os ps h k =

@@ -12,6 +12,7 @@ use Rattle.psm_tree.specs.declared.types.State.{State}
 use Rattle.psm_resolved.specs.declared.statement.ResolvedCondition.{ResolvedCondition}
 use Rattle.psm_resolved.specs.declared.statement.ResolvedCondition.TheVariants as conditions
 use Rattle.psm_resolve.specs.OwnNumbers.{CountsUp, with_own_name}
+use Rattle.psm_resolve.proofs.Counted.{counts-append}
 use Rattle.psm_names.specs.Referents.{Null, Variable, Cursor, Condition, Block, together}
 use Rattle.psm_names.specs.Occurrences.{EnclosingScopes, KnownVariable, Occurrence, NullLiteral, Name, EachColumn, Assigned, NoTarget, ColumnName, TableName, CursorName, Label, ConditionName, StateName, ProcedureName, FunctionName, Declared}
 use Rattle.psm_names.specs.Declaring.{Ordinals, Point, as_state, condition_declared, naming_condition, stated, with_condition, with_cursor, with_variable, one_variable, one_cursor}
@@ -29,10 +30,6 @@ slot_in o = []
 abbrev pub cursor_in : Occurrence → List ℕ
 cursor_in (Declared name (Cursor k)) = k ∷ []
 cursor_in o = []
-
-counts-append : (a b c : ℕ) (xs ys : List ℕ) → CountsUp a xs b → CountsUp b ys c → CountsUp a (xs ++ ys) c
-counts-append a b c [] ys h k = subst (λ z. CountsUp z ys c) (sym h) k
-counts-append a b c (x ∷ xs) ys h k = (h.0, counts-append (suc a) b c xs ys h.1 k)
 
 order-append : (k : ℕ) (a b : List Spelling) → in_order k (a ++ b) ≡ in_order k a ++ in_order (k + length a) b
 order-append k [] b = let e : k ≡ k + 0 = omega arith in ap (λ m. in_order m b) e

@@ -1,5 +1,5 @@
 -- What is declared up to a point, as the resolver numbers it and as it is counted.
-use Rattle.std.proofs.Common.{◌≡◌, ℕ, suc, List, [], ◌∷◌, ◌++◌, length, map, Option, Some, None, refl, ap, ◌∙◌}
+use Rattle.std.proofs.Common.{◌≡◌, ℕ, List, [], ◌∷◌, ◌++◌, length, map, Option, Some, None, refl, ap, ◌∙◌}
 use Rattle.psm_value.specs.declared.sqltype.SqlType.{SqlType}
 use Rattle.psm_scope.specs.Scopes.{Spelling, Declared, Scope, Routine, Compound, Loop, For, Action, undeclared}
 use Rattle.psm_scope.specs.Scopes as scope
@@ -41,6 +41,7 @@ use Rattle.psm_declare.specs.Declarations.{Numbered, numbered_after, numbered_by
 use Rattle.psm_resolve.specs.Blocks as blocks
 use Rattle.psm_resolve.specs.Blocks.{ForItem, items_in, items_of_pick, item_of, numbered_for_cursor, numbered_head, numbered_item, numbered_items, own_name, column_items}
 use Rattle.psm_resolve.specs.Files.{nothing_numbered, numbered_parameter, numbered_parameters, routine_numbered}
+use Rattle.psm_resolve.proofs.Counted.{length-snoc}
 use Rattle.psm_names.specs.Occurrences.{EnclosingScopes}
 use Rattle.psm_names.specs.ExprOccurrences.{expr_seen}
 use Rattle.psm_names.specs.Declaring.{Ordinals, Point, naming_variable, naming_condition, naming_cursor, with_variable, with_variables, with_declaration, with_declarations, with_cursors, with_item, with_items, with_for_cursor, in_for, item_name, items_of, named_column, pick_items, one_variable, one_cursor, one_condition, as_state}
@@ -55,10 +56,6 @@ ordinals n = record { variables = length n.slots; cursors = n.cursors; condition
 
 abbrev pub point : Numbered → Point
 point numbered = (known numbered.0, ordinals numbered.1)
-
-length-snoc : {A : Type 0} (xs : List A) (x : A) → length (xs ++ x ∷ []) ≡ suc (length xs)
-length-snoc [] x = refl
-length-snoc (y ∷ ys) x = ap suc (length-snoc ys x)
 
 pub slot-more : (t : SqlType) (n : Numbering) → ordinals (with_slot t n) ≡ one_variable (ordinals n)
 slot-more t n = ap (λ k. record { variables = k; cursors = n.cursors; conditions = length n.conditions }) (length-snoc n.slots t)

@@ -26,11 +26,11 @@ pub record Counted (x : Numbers) (names : List Spelling) (n m : Numbering) : Typ
   pub cursors : CountsUp n.cursors x.cursors m.cursors
   pub conditions : m.conditions ≡ n.conditions ++ names
 
-counts-append : (a b c : ℕ) (xs ys : List ℕ) → CountsUp a xs b → CountsUp b ys c → CountsUp a (xs ++ ys) c
+pub counts-append : (a b c : ℕ) (xs ys : List ℕ) → CountsUp a xs b → CountsUp b ys c → CountsUp a (xs ++ ys) c
 counts-append a b c [] ys h k = subst (λ z. CountsUp z ys c) (sym h) k
 counts-append a b c (x ∷ xs) ys h k = (h.0, counts-append (suc a) b c xs ys h.1 k)
 
-length-snoc : {A : Type 0} (xs : List A) (x : A) → length (xs ++ x ∷ []) ≡ suc (length xs)
+pub length-snoc : {A : Type 0} (xs : List A) (x : A) → length (xs ++ x ∷ []) ≡ suc (length xs)
 length-snoc [] x = refl
 length-snoc (y ∷ ys) x = ap suc (length-snoc ys x)
 

@@ -1,5 +1,5 @@
 -- Lines with jumps whose target isn't known yet: open blocks, which a block after them closes.
-use Rattle.std.proofs.Common.{◌≡◌, ℕ, suc, ◌+◌, ◌-◌, ◌<◌, ◌≤◌, Bool, true, false, ◌&&◌, List, [], ◌∷◌, ◌++◌, length, nat_eq, nat_lt, refl, ap, sym, subst, ◌∙◌, arith, Some, None, Ok, append_assoc, length-append, eq-eqb, eqb-true}
+use Rattle.std.proofs.Common.{◌≡◌, ℕ, suc, ◌+◌, ◌-◌, ◌<◌, ◌≤◌, Bool, true, false, ◌&&◌, List, [], ◌∷◌, ◌++◌, length, nat_eq, nat_lt, refl, ap, sym, subst, ◌∙◌, arith, Some, None, Ok, append_assoc, length-append}
 use Rattle.std.specs.Prelude.{reverse, slice_get, if◌then◌else◌}
 use Rattle.std.proofs.lemmas.Bool.{ne_eqb, lt-ltb}
 use Rattle.psm_value.specs.declared.datum.Datum.{Datum}
@@ -17,6 +17,7 @@ use Rattle.psm_exprcode.specs.Comparison.{is_null}
 use Rattle.psm_exprcode.specs.Evaluated.{Outcome, line_after, goes_on, ran}
 use Rattle.psm_exprcode.specs.Kinds.{is_value}
 use Rattle.psm_exprcode.specs.WellFormed.{are_stated, lands, is_line, are_lines}
+use Rattle.psm_exprcode.proofs.Running.{eq-suc}
 use Rattle.psm_exprcode.proofs.Standing.{both_true}
 use Rattle.psm_resolved.specs.Blocks.{Moved, Move, after, Block}
 use Rattle.psm_resolved.specs.Open.{Open, branch_move, then_move}
@@ -24,14 +25,10 @@ use Rattle.psm_resolved.proofs.Lines.{after_same, stated_here, Rule, line_right,
 
 -- ---- lines that are passed over
 
-eq_suc : (m n : ℕ) (b : Bool) → nat_eq m n ≡ b → nat_eq (suc m) (suc n) ≡ b
-eq_suc m n true h = eq-eqb (suc m) (suc n) (ap suc (eqb-true m n h))
-eq_suc m n false h = ne_eqb (suc m) (suc n) (λ q. let e : m ≡ n = omega (arith, q) in let r = eq-eqb m n e in cc)
-
 lands_past : (end : Letter) (ls more : List Line) (s : List Letter) → lands end (ls ++ more) (length ls) s ≡ lands end more 0 s
 lands_past end [] more s = refl
 lands_past end (l ∷ ls) more s =
-    ap (λ b. are_stated end (slice_get (ls ++ more) (length ls)) b s) (eq_suc (length ls) (length (ls ++ more)) (nat_eq (length ls) (length (ls ++ more))) refl) ∙ lands_past end ls more s
+    ap (λ b. are_stated end (slice_get (ls ++ more) (length ls)) b s) (eq-suc (length ls) (length (ls ++ more)) (nat_eq (length ls) (length (ls ++ more))) refl) ∙ lands_past end ls more s
 
 -- the index that stands n lines after
 pub lands_at : (end : Letter) (ls more : List Line) (n : ℕ) (s : List Letter) → n ≡ length ls → lands end more 0 s ≡ true → lands end (ls ++ more) n s ≡ true

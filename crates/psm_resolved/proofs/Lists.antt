@@ -39,7 +39,7 @@ use Rattle.psm_resolved.proofs.Several.{all_one_more}
 
 -- ---- a value is among others in any order
 
-either-false : (a : Answer) → either a truths.False ≡ a
+pub either-false : (a : Answer) → either a truths.False ≡ a
 either-false truths.True = refl
 either-false truths.False = refl
 either-false truths.Unknown = refl
@@ -110,7 +110,7 @@ put_collected (Some (Ok x) ∷ vs) go os = put_collected vs (λ xs. go (x ∷ xs
 
 -- ---- IN over operands that are there
 
-abbrev values_of : List Operand → Option (List Datum)
+abbrev pub values_of : List Operand → Option (List Datum)
 values_of [] = Some []
 values_of (Value a ∷ xs) = option_map (λ ds. a ∷ ds) (values_of xs)
 values_of (Truth t ∷ xs) = None
@@ -149,7 +149,7 @@ values-reverse (Value a ∷ xs) =
 values-reverse (Truth t ∷ xs) =
     ap values_of (reverse-append (Truth t ∷ []) xs) ∙ values-append (reverse xs) (Truth t ∷ []) ∙ joined_stuck (values_of (reverse xs))
 
-abbrev with_many : Option (List Datum) → (List Datum → List Operand → Applied) → List Operand → Applied
+abbrev pub with_many : Option (List Datum) → (List Datum → List Operand → Applied) → List Operand → Applied
 with_many None f os = Stuck
 with_many (Some ds) f os = f ds os
 
@@ -164,15 +164,15 @@ many_over (suc n) f [] os e = absurd (omega (arith, e))
 many_over (suc n) f (Value a ∷ xs) os e = many_over n (λ ds. f (a ∷ ds)) xs os (omega (arith, e)) ∙ many_first a (values_of xs) f os
 many_over (suc n) f (Truth t ∷ xs) os e = refl
 
-abbrev from_values : Option (List Datum) → (List Datum → Outcome) → Outcome
+abbrev pub from_values : Option (List Datum) → (List Datum → Outcome) → Outcome
 from_values None f = None
 from_values (Some ds) f = f ds
 
-values_first : (a : Datum) (v : Option (List Datum)) (f : List Datum → Outcome) → from_values v (λ ds. f (a ∷ ds)) ≡ from_values (option_map (λ ds. a ∷ ds) v) f
+pub values_first : (a : Datum) (v : Option (List Datum)) (f : List Datum → Outcome) → from_values v (λ ds. f (a ∷ ds)) ≡ from_values (option_map (λ ds. a ∷ ds) v) f
 values_first a None f = refl
 values_first a (Some ds) f = refl
 
-on_values-from : (f : List Datum → Outcome) (xs : List Operand) → on_values f xs ≡ from_values (values_of xs) f
+pub on_values-from : (f : List Datum → Outcome) (xs : List Operand) → on_values f xs ≡ from_values (values_of xs) f
 on_values-from f [] = refl
 on_values-from f (Value a ∷ xs) = on_values-from (λ ds. f (a ∷ ds)) xs ∙ values_first a (values_of xs) f
 on_values-from f (Truth t ∷ xs) = refl
@@ -183,7 +183,7 @@ stepped (Went next os) = Some (Ok os)
 stepped (Raised state) = Some (Err state)
 stepped Stuck = None
 
-abbrev finds : List Datum → List Operand → Applied
+abbrev pub finds : List Datum → List Operand → Applied
 finds ds os = taking.on_value (λ a below. with_truth below (Ok (among a ds))) os
 
 finds_fall_through : (ds : List Datum) (os : List Operand) → finds ds os ≡ fall_through (stepped (finds ds os))
@@ -203,7 +203,7 @@ among_found None (Truth t) os = refl
 among_found (Some ds) (Value c) os = ap (λ t. Some (Ok (Truth t ∷ os))) (among-reverse c ds)
 among_found (Some ds) (Truth t) os = refl
 
-on_value_same : (f g : Datum → Outcome) (x : Operand) → ((c : Datum) → f c ≡ g c) → on_value f x ≡ on_value g x
+pub on_value_same : (f g : Datum → Outcome) (x : Operand) → ((c : Datum) → f c ≡ g c) → on_value f x ≡ on_value g x
 on_value_same f g (Value c) h = h c
 on_value_same f g (Truth t) h = refl
 

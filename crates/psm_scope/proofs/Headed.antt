@@ -7,7 +7,8 @@ use Rattle.std.proofs.lemmas.Option.{slice_get-map}
 use Rattle.psm_scope.specs.declared.key.CallKey.{CallKey}
 use Rattle.psm_scope.specs.Scopes.{Spelling, is_spelled}
 use Rattle.psm_scope.specs.Routines.{Header, headed, procedure}
-use Rattle.psm_scope.proofs.Named.{is_none, map_last}
+use Rattle.psm_scope.proofs.Found.{map_last}
+use Rattle.psm_scope.proofs.Named.{is_none}
 
 abbrev pub is_key : Spelling → ℕ → CallKey → Bool
 is_key n count k = is_spelled n k.name.name.now && nat_eq count k.count

@@ -10,6 +10,7 @@ use Rattle.psm_scope.specs.declared.key.NameKey.{NameKey}
 use Rattle.psm_scope.specs.Scopes.{Spelling, is_spelled}
 use Rattle.psm_scope.specs.Lookup.{named, index_named}
 use Rattle.psm_scope.specs.Names.{spelled}
+use Rattle.psm_scope.proofs.Found.{map_last}
 
 abbrev pub is_key : Spelling → NameKey → Bool
 is_key n k = is_spelled n k.name.now
@@ -17,10 +18,6 @@ is_key n k = is_spelled n k.name.now
 pub looked_up : {A : Type 0} (n : Spelling) (es : List (NameKey × A)) → lookup (is_key n) es ≡ named n (map spelled es)
 looked_up n [] = refl
 looked_up n (e ∷ es) = ap (λ o. if is_key n e.0 then Some e.1 else o) (looked_up n es)
-
-pub map_last : {A B : Type 0} (f : A → B) (xs : List A) (x : A) → map f (xs ++ x ∷ []) ≡ map f xs ++ f x ∷ []
-map_last f [] x = refl
-map_last f (y ∷ ys) x = ap (λ l. f y ∷ l) (map_last f ys x)
 
 pub is_none : {A : Type 0} (o : Option A) → is_some o ≡ false → o ≡ None
 is_none None e = refl

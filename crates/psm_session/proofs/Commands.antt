@@ -38,7 +38,7 @@ module _ (cs : List ScriptCommand) (i : ℕ) (c : ScriptCommand) (lt : i < lengt
 
 -- ---- commands that put nothing
 
-last_of_more : (first piece : List ℕ) (pieces : List (List ℕ)) → last_or first (pieces ++ piece ∷ []) ≡ piece
+pub last_of_more : (first piece : List ℕ) (pieces : List (List ℕ)) → last_or first (pieces ++ piece ∷ []) ≡ piece
 last_of_more first piece [] = refl
 last_of_more first piece (p ∷ ps) = last_of_more p piece ps
 

@@ -21,7 +21,7 @@ pub Grew-nothing : (a : Option (List ℕ)) → Grew a a []
 Grew-nothing (Some h) = ap Some (sym (append-nil h))
 Grew-nothing None = refl
 
-joined-append : (ps qs : List (List ℕ)) → joined (ps ++ qs) ≡ joined ps ++ joined qs
+pub joined-append : (ps qs : List (List ℕ)) → joined (ps ++ qs) ≡ joined ps ++ joined qs
 joined-append [] qs = refl
 joined-append (p ∷ ps) qs = ap (λ (x : List ℕ). p ++ x) (joined-append ps qs) ∙ sym (append_assoc p (joined ps) (joined qs))
 

@@ -1,15 +1,14 @@
 -- What a script runs over code, from empty tables on, is what its module and the script mean together.
-use Rattle.std.proofs.Common.{arith, ◌≡◌, ◌≤◌, ◌+◌, ◌++◌, ℕ, suc, List, [], ◌∷◌, length, map, refl, ap, sym, subst, ◌∙◌}
+use Rattle.std.proofs.Common.{arith, ◌≡◌, ◌≤◌, ◌+◌, ◌++◌, ℕ, suc, List, [], ◌∷◌, length, refl, ap, sym, subst, ◌∙◌}
 use Rattle.std.proofs.lemmas.List.{append-nil}
-use Rattle.psm_table.specs.Table.{empty_table}
 use Rattle.psm_resolved.specs.declared.file.ResolvedFile.{ResolvedFile}
-use Rattle.psm_resolved.specs.declared.file.ResolvedTable.{ResolvedTable}
 use Rattle.psm_meaning.specs.Acts.{NoTurns}
 use Rattle.psm_meaning.specs.Fuel.{fuel_for, session}
 use Rattle.psm_meaning.specs.Lines.{first_line}
 use Rattle.psm_meaning.specs.Meaning.{meaning}
 use Rattle.psm_meaning.specs.Session.{Command, Cut, Done, CommandResult, Standing, Stopped, at_start, command_name, commands_from, going_on, command_result}
 use Rattle.psm_code.specs.declared.code.RawCode.{RawCode}
+use Rattle.psm_typing.proofs.Scripting.{empty-filled}
 use Rattle.psm_simulation.specs.Simulation.{FileStands}
 use Rattle.psm_typing.specs.Files.{IsWellTyped}
 use Rattle.psm_typing.specs.States.{AreFilled}
@@ -39,10 +38,6 @@ parts-of file code (c ∷ cs) (d ∷ first) later q =
     record { begin = c ∷ p.begin; rest = p.rest; are = ap (λ xs. c ∷ xs) p.are; begins = (q.0, p.begins); rests = p.rests; many = ap suc p.many }
 
 -- ---- scripts
-
-empty-filled : (ts : List ResolvedTable) → AreFilled ts (map (λ t. empty_table t.definition) ts)
-empty-filled [] = tt
-empty-filled (t ∷ ts) = (tt, empty-filled ts)
 
 module _ (file : ResolvedFile) (code : RawCode) (stands : FileStands file code) (well_typed : IsWellTyped file) (cs : List Command) (ds : List ScriptCommand) (q : CommandsStand file code cs ds) (turns : ℕ) where
   abbrev h : ℕ

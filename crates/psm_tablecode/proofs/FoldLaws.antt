@@ -20,6 +20,7 @@ use Rattle.psm_exprcode.specs.Values.{concatenated, length_of, on_text, part_fro
 use Rattle.psm_exprcode.specs.Evaluated.{ended, evaluated, goes_on, line_after, ran, Outcome}
 use Rattle.psm_exprcode.specs.Fits.{are_values, finds, Fits, IsNamed, IsWithin}
 use Rattle.psm_exprcode.specs.WellFormed.{is_type}
+use Rattle.psm_exprcode.proofs.Standing.{both_true}
 use Rattle.psm_exprcode.proofs.Types.{type_within}
 use Rattle.psm_table.specs.Evaluator.{test_of}
 use Rattle.psm_tablecode.specs.Codes.{over, truth_in}
@@ -99,9 +100,6 @@ three_straight f (Value c ∷ Value b ∷ Value a ∷ os) = with_straight os (f 
 is_one : (n : ℕ) (b : Bool) → (if b then 1 else 0) ≡ suc n → (b ≡ true) × (1 ≡ suc n)
 is_one n true e = (refl, e)
 is_one n false e = absurd cc
-
-both_true : (a b : Bool) → a ≡ true → b ≡ true → (a && b) ≡ true
-both_true a b p q = ap (λ c. c && b) p ∙ q
 
 module _ (row vars : List Datum) where
   -- what is known of an operation that folds values

@@ -138,7 +138,7 @@ from-well : (file : ResolvedFile) (m : Meaning) → Calls (outside file) m → (
 from-well file m c k [] s f h = tt
 from-well file m c k (x ∷ cs) s f h = on-well file s (command_result file m (first_line k (command_name file x)) s x) (commands_from file m (suc k) cs) (command_result-well file m c (first_line k (command_name file x)) s x f h.0) (λ next g. from-well file m c (suc k) cs next g h.1)
 
-empty-filled : (ts : List ResolvedTable) → AreFilled ts (map (λ t. empty_table t.definition) ts)
+pub empty-filled : (ts : List ResolvedTable) → AreFilled ts (map (λ t. empty_table t.definition) ts)
 empty-filled [] = tt
 empty-filled (t ∷ ts) = (tt, empty-filled ts)
 

@@ -44,7 +44,7 @@ first_inside : (stop : Option ℕ) (frames : List code.Frame) → is_innermost_i
 first_inside stop [] = refl
 first_inside stop (f ∷ frames) = refl
 
-first_view : (at : Mark → List Contents) (frames : List Frame) (o : Option Frame) → o ≡ first_of frames → first_of (frames_of at frames) ≡ option_map (frame_of at) o
+pub first_view : (at : Mark → List Contents) (frames : List Frame) (o : Option Frame) → o ≡ first_of frames → first_of (frames_of at frames) ≡ option_map (frame_of at) o
 first_view at [] o e = ap (λ x. option_map (frame_of at) x) (sym e)
 first_view at (f ∷ frames) o e = ap (λ x. option_map (frame_of at) x) (sym e)
 

@@ -27,6 +27,7 @@ use Rattle.psm_code.specs.TableRules.{column_fault, is_as_stored, name_fault, ta
 use Rattle.psm_code.proofs.Faults.{four_hold, three_hold, two_hold}
 use Rattle.psm_keys.specs.Fresh.{is_new, with_new}
 use Rattle.psm_keys.specs.Handled.{are_all_new, handled_by}
+use Rattle.psm_keys.proofs.Added.{map_last}
 use Rattle.psm_keys.proofs.Apart.{all_apart}
 use Rattle.psm_keys.proofs.Distinct.{new_number}
 use Rattle.psm_verify.specs.Checked.{checked, item_at, item_in}
@@ -99,10 +100,6 @@ handler_passed r before h n m e =
     new_values before h ∙ and_second right new (and_second undo (right && new) f.3)
 
 -- ---- one after another
-
-map_last : {A B : Type 0} (f : A → B) (xs : List A) (x : A) → map f (xs ++ x ∷ []) ≡ map f xs ++ f x ∷ []
-map_last f [] x = refl
-map_last f (y ∷ ys) x = ap (λ l. f y ∷ l) (map_last f ys x)
 
 module _ {A : Type 0} (xs : List A) (at : ℕ) (x : A) (here : slice_get xs at ≡ Some x) where
   taken_next : take at xs ++ x ∷ [] ≡ take (at + 1) xs

@@ -26,7 +26,7 @@ held : (b : Bool) (q : CodeRule) (others : List (Option CodeRule)) → first_of 
 held true q others e = (refl, e)
 held false q others e = absurd (cc)
 
-both : (a b : Bool) → (a && b) ≡ true → (a ≡ true) × (b ≡ true)
+pub both : (a b : Bool) → (a && b) ≡ true → (a ≡ true) × (b ≡ true)
 both true b h = (refl, h)
 both false b h = absurd (false≢true h)
 

@@ -1,5 +1,6 @@
 use Rattle.psm_exprgen.proofs.Drafts.{one}
-use Rattle.psm_codegen.proofs.CallForms.{default_value, ok_as}
+use Rattle.psm_exprgen.proofs.Forms.{ok_as}
+use Rattle.psm_codegen.proofs.CallForms.{default_value}
 use Rattle.psm_codegen.proofs.DraftCalls.{default_null_drafted}
 use Rattle.psm_codegen.proofs.calling.default.Goals as goal
 

@@ -1,4 +1,4 @@
-use Rattle.psm_codegen.proofs.CallForms.{ok_as}
+use Rattle.psm_exprgen.proofs.Forms.{ok_as}
 use Rattle.psm_codegen.proofs.DraftCalls.{signals_with_drafted, signals_without_drafted}
 use Rattle.psm_codegen.proofs.calling.signals.Goals as goal
 

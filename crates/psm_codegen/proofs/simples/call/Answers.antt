@@ -2,7 +2,7 @@ use Rattle.std.proofs.Common.{rules}
 use Rattle.std.proofs.Common.{ap, ◌∙◌}
 use Rattle.std.specs.Prelude.{slice_get}
 use Rattle.psm_exprgen.specs.Written.{letters_at, number_at}
-use Rattle.psm_codegen.proofs.CallForms.{ok_as}
+use Rattle.psm_exprgen.proofs.Forms.{ok_as}
 use Rattle.psm_codegen.proofs.DraftSimples.{call_drafted}
 use Rattle.psm_codegen.proofs.simples.call.Goals as goal
 

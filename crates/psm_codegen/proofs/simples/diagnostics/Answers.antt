@@ -1,4 +1,4 @@
-use Rattle.psm_codegen.proofs.CallForms.{ok_as}
+use Rattle.psm_exprgen.proofs.Forms.{ok_as}
 use Rattle.psm_codegen.proofs.DraftSimples.{condition_read_drafted, statement_read_drafted}
 use Rattle.psm_codegen.proofs.simples.diagnostics.Goals as goal
 

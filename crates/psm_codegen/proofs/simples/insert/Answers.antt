@@ -1,7 +1,7 @@
 use Rattle.std.proofs.Common.{ap, sym, ◌∙◌}
 use Rattle.psm_resolved.specs.declared.statement.ResolvedRows.TheVariants as given
 use Rattle.psm_resolved.specs.declared.statement.ResolvedSimple.TheVariants as simples
-use Rattle.psm_codegen.proofs.CallForms.{ok_as}
+use Rattle.psm_exprgen.proofs.Forms.{ok_as}
 use Rattle.psm_codegen.proofs.DraftSimples.{same_drafted}
 use Rattle.psm_codegen.proofs.simples.insert.Goals as goal
 

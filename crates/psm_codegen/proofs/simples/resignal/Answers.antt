@@ -1,6 +1,6 @@
 use Rattle.std.proofs.Common.{Some, ap, sym, ◌∙◌}
 use Rattle.psm_resolved.specs.declared.statement.ResolvedSimple.TheVariants as simples
-use Rattle.psm_codegen.proofs.CallForms.{ok_as}
+use Rattle.psm_exprgen.proofs.Forms.{ok_as}
 use Rattle.psm_codegen.proofs.DraftSimples.{resignal_drafted, same_drafted}
 use Rattle.psm_codegen.proofs.simples.resignal.Goals as goal
 

@@ -1,4 +1,4 @@
-use Rattle.psm_codegen.proofs.CallForms.{ok_as}
+use Rattle.psm_exprgen.proofs.Forms.{ok_as}
 use Rattle.psm_codegen.proofs.DraftSimples.{return_drafted}
 use Rattle.psm_codegen.proofs.simples.returned.Goals as goal
 

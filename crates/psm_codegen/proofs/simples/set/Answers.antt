@@ -1,6 +1,6 @@
 use Rattle.std.proofs.Common.{ap, ◌∙◌}
 use Rattle.psm_exprgen.specs.Written.{letter_at}
-use Rattle.psm_codegen.proofs.CallForms.{ok_as}
+use Rattle.psm_exprgen.proofs.Forms.{ok_as}
 use Rattle.psm_codegen.proofs.DraftSimples.{set_drafted}
 use Rattle.psm_codegen.proofs.simples.set.Goals as goal
 

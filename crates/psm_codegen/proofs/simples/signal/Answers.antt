@@ -1,5 +1,5 @@
 use Rattle.std.proofs.Common.{◌∙◌}
-use Rattle.psm_codegen.proofs.CallForms.{ok_as}
+use Rattle.psm_exprgen.proofs.Forms.{ok_as}
 use Rattle.psm_codegen.proofs.DraftSimples.{signal_drafted}
 use Rattle.psm_codegen.proofs.simples.signal.Goals as goal
 

@@ -2,10 +2,10 @@ use Rattle.std.proofs.Common.{◌∷◌, ap, map, sym, ◌∙◌, None, Some}
 use Rattle.psm_resolved.specs.declared.statement.ResolvedStatement.{ResolvedStatement, out-ResolvedStatement}
 use Rattle.psm_resolved.specs.declared.statement.ResolvedStatement.TheVariants as statements
 use Rattle.psm_exprgen.proofs.Drafts.{one, two}
+use Rattle.psm_exprgen.proofs.Forms.{ok_as}
 use Rattle.psm_codegen.specs.declared.enclosing.EnclosingBlock.TheVariants.{Loop}
 use Rattle.psm_codegen.specs.Labels.{patched_block}
 use Rattle.psm_codegen.specs.Statements.{WritesBranches, WritesComparisons, WritesHandlers, WritesStatements, more, none, no_branch, no_comparison, no_handler}
-use Rattle.psm_codegen.proofs.CallForms.{ok_as}
 use Rattle.psm_codegen.proofs.DraftLists.{all_left, next_left, none_left}
 use Rattle.psm_codegen.proofs.DraftStatements.{branch_drafted, compared_drafted, comparison_drafted, compound_drafted, for_drafted, handler_drafted, loop_drafted, repeat_drafted, statement_drafted, while_drafted}
 use Rattle.psm_codegen.proofs.StatementForms.{case_written, else_none, else_some, if_written, simple_written, within_same}

@@ -1,6 +1,6 @@
 use Rattle.std.proofs.Common.{ap, ◌∙◌}
 use Rattle.psm_exprgen.specs.Queries.{item_letters}
-use Rattle.psm_codegen.proofs.CallForms.{ok_as}
+use Rattle.psm_exprgen.proofs.Forms.{ok_as}
 use Rattle.psm_codegen.proofs.StatementForms.{cursor_written}
 use Rattle.psm_codegen.proofs.steps.cursor.Goals as goal
 

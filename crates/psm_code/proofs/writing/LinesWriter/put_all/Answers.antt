@@ -1,6 +1,6 @@
 use Rattle.std.proofs.lemmas.Result.{IfOk-weaker}
 use Rattle.psm_exprcode.specs.Writing.{letters_now}
-use Rattle.psm_code.proofs.Kept.{written_put}
+use Rattle.psm_exprcode.proofs.Changing.{written_put}
 use Rattle.psm_code.proofs.writing.LinesWriter.put_all.Goals as goal
 
 pub returns : goal.returns
