@@ -18,17 +18,10 @@ joined_three xs None b = refl
 joined_three xs (Some ys) None = refl
 joined_three xs (Some ys) (Some zs) = ap Some (sym (append_assoc xs ys zs))
 
-joined_nothing : (a : Option (List Item)) → joined_items (Some []) a ≡ a
-joined_nothing None = refl
-joined_nothing (Some xs) = refl
-
 -- ---- the items of the picks that are left, after those that are there
 
 pub record ItemsLeft (columns : Option Columns) (items : List Item) (left : List PickChecked) (whole : Option (List Item)) : Type 0 where
   pub joined : joined_items (Some items) (items_in columns left) ≡ whole
-
-pub items_begin : (columns : Option Columns) (picks : List PickChecked) → ItemsLeft columns [] picks (items_in columns picks)
-items_begin columns picks = record { joined = joined_nothing (items_in columns picks) }
 
 pub items_step : (columns : Option Columns) (old new : List Item) (p : PickChecked) (ps : List PickChecked) (whole : Option (List Item))
     → joined_items (Some old) (items_of_pick columns p) ≡ Some new → ItemsLeft columns old (p ∷ ps) whole → ItemsLeft columns new ps whole

@@ -3,7 +3,7 @@ use Rattle.std.proofs.Common.{◌≡◌, ℕ, zero, suc, ◌+◌, ◌-◌, ◌<�
 use Rattle.std.specs.Prelude.{Option, Some, None, slice_get}
 use Rattle.std.specs.List.{list_all}
 use Rattle.psm_num.proofs.Literals.{and_first, and_second}
-use Rattle.psm_cond.specs.declared.choice.Asked.TheVariants.{Chosen, Outward}
+use Rattle.psm_cond.specs.declared.choice.Asked.TheVariants.{Outward}
 use Rattle.psm_cond.specs.declared.entry.Entry.{Entry}
 use Rattle.psm_cond.specs.declared.handlers.Context.{Context}
 use Rattle.psm_cond.specs.declared.handlers.ContextKind.{ContextKind}
@@ -98,10 +98,6 @@ same t s (suc n) (suc m) k p q = same_at t n m k (context_at t k) s p q refl (λ
 
 -- ---- the scopes of a context
 
-pub scopes_none : (t : HandlerTable) (k : ℕ) → context_at t k ≡ None → scopes t k ≡ []
-scopes_none t zero e = refl
-scopes_none t (suc n) e = ap (scopes_from t (scopes_within t n) (suc n)) e
-
 pub scopes_block : (t : HandlerTable) (k : ℕ) (c : Context) (b : _) → is_well_formed_table t ≡ true → context_at t k ≡ Some c → c.kind ≡ Block b
     → scopes t k ≡ own_handlers t k ∷ scopes t c.parent
 scopes_block t zero c b s e f = cc
@@ -125,22 +121,9 @@ scopes_action t (suc n) c handler s e f =
 choice_at : (t : HandlerTable) (k : ℕ) (e : Entry) (s : List (List Numbered)) → scopes t k ≡ s → choice t k e ≡ number_of (chosen (handler_rank e) s)
 choice_at t k e s p = ap (λ s. number_of (chosen (handler_rank e) s)) p
 
-pub asks_nowhere : (t : HandlerTable) (k : ℕ) (e : Entry) → 0 < k → context_at t k ≡ None → Asks t k e (Outward 0)
-asks_nowhere t k e p h = (p, choice_at t k e [] (scopes_none t k h))
-
 nothing : (o : Option Numbered) → number_of o ≡ None → o ≡ None
 nothing None h = refl
 nothing (Some p) h = cc
-
-something : (o other : Option Numbered) (handler : ℕ) → number_of o ≡ Some handler → number_of (or_else o other) ≡ Some handler
-something None other handler h = cc
-something (Some p) other handler h = h
-
-pub asks_own : (t : HandlerTable) (k : ℕ) (e : Entry) (c : Context) (b : _) (handler : ℕ) → is_well_formed_table t ≡ true → context_at t k ≡ Some c → c.kind ≡ Block b
-    → number_of (chosen_in (handler_rank e) (own_handlers t k)) ≡ Some handler → Asks t k e (Chosen handler)
-asks_own t k e c b handler s p f h =
-    choice_at t k e (own_handlers t k ∷ scopes t c.parent) (scopes_block t k c b s p f)
-    ∙ something (chosen_in (handler_rank e) (own_handlers t k)) (chosen (handler_rank e) (scopes t c.parent)) handler h
 
 pub asks_parent : (t : HandlerTable) (k : ℕ) (e : Entry) (c : Context) (b : _) → is_well_formed_table t ≡ true → context_at t k ≡ Some c → c.kind ≡ Block b
     → number_of (chosen_in (handler_rank e) (own_handlers t k)) ≡ None → Asks t k e (Outward c.parent)

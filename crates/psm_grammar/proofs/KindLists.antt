@@ -65,12 +65,6 @@ has_none n ms ns h = (
   elim (decide (has n ns)) [ inl t ↦ absurd (true_false (has n (ms ++ ns)) (has_right n ms ns t) h) | inr f ↦ f ],
 )
 
-pub has_neither : (n : ℕ) (ms ns : List ℕ) → has n ms ≡ false → has n ns ≡ false → has n (ms ++ ns) ≡ false
-has_neither n ms ns h k = elim (decide (has n (ms ++ ns))) [
-  | inl t ↦ absurd (elim (has_either n ms ns t) [ inl a ↦ true_false (has n ms) a h | inr b ↦ true_false (has n ns) b k ])
-  | inr f ↦ f
-]
-
 pub apart_none : (n : ℕ) (ms ns : List ℕ) → apart ms ns ≡ true → has n ms ≡ true → has n ns ≡ false
 apart_none n [] ns a h = absurd cc
 apart_none n (m ∷ ms) ns a h = elim (decide (has m ns)) [

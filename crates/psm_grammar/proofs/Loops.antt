@@ -1,15 +1,9 @@
 -- Steps that the proofs of parsers in Rust cite.
-use Rattle.std.proofs.Common.{◌≡◌, ℕ, Bool, cond, zero, suc, ◌-◌, ◌<◌, ◌≢◌, true, false, List, [], ◌∷◌, ◌++◌, length, Some, Ok, Err, refl, sym, ap, ◌∙◌, append_assoc, arith}
+use Rattle.std.proofs.Common.{◌≡◌, ℕ, Bool, cond, zero, suc, ◌-◌, ◌<◌, true, false, List, [], ◌∷◌, ◌++◌, length, Ok, Err, refl, sym, ap, ◌∙◌, append_assoc, arith}
 use Rattle.std.proofs.lemmas.List.{append-nil, length-append}
-use Rattle.psm_grammar.specs.Grammar.{Productions}
 use Rattle.psm_grammar.specs.Language.{has, Test}
-use Rattle.psm_grammar.specs.Readers.{Stop, Wrong, Out, Reader, Deeper, and_then, starts, one, enter, opened, entered, repeat, deeper, reads}
+use Rattle.psm_grammar.specs.Readers.{Stop, Wrong, Out, Reader, Deeper, and_then, starts, one, enter, opened, entered, repeat, deeper}
 use Rattle.psm_grammar.specs.Loop.{following, Looping}
-
--- where a level is left, the readers of the nonterminals read with one less
-pub deeper_some : {T N : Type 0} {kind : T → ℕ} {V : N → Type 0} (prods : Productions kind V) (n : ℕ) → n ≢ 0 → deeper prods n ≡ Some (λ k. reads prods (n - 1) (prods k))
-deeper_some prods zero h = absurd (h refl)
-deeper_some prods (suc n) h = let e : n ≡ suc n - 1 = omega arith in ap (λ m. Some (λ k. reads prods m (prods k))) e
 
 after_one : {T X : Type 0} (items : List X) (x : X) (o : Out T (List X)) → following items (and_then o (λ xs end. Ok (x ∷ xs, end))) ≡ following (items ++ x ∷ []) o
 after_one items x (Ok r) = ap (λ xs. Ok (xs, r.1)) (sym (append_assoc items (x ∷ []) r.0))

@@ -62,10 +62,6 @@ module _ {T N : Type 0} {kind : T → ℕ} {V : N → Type 0} (prods : Productio
 
 -- ---- one word
 
-tail : {A : Type 0} → List A → List A
-tail [] = []
-tail (x ∷ xs) = xs
-
 tail_same : {A : Type 0} (x y : A) (xs ys : List A) → x ∷ xs ≡ y ∷ ys → xs ≡ ys
 tail_same x y xs ys e = cc
 

@@ -41,9 +41,6 @@ use Rattle.psm_object.specs.Tables.{column_line, key_line, reference_line, table
 abbrev Alike : {A B : Type 0} → List A → List B → Type 0
 Alike xs ys = length xs ≡ length ys
 
-also : {A B : Type 0} (x : A) (y : B) (xs : List A) (ys : List B) → Alike xs ys → Alike (x ∷ xs) (y ∷ ys)
-also x y xs ys h = ap suc h
-
 both : {A B : Type 0} (xs : List A) (ys : List B) (us : List A) (vs : List B) → Alike xs ys → Alike us vs → Alike (xs ++ us) (ys ++ vs)
 both xs ys us vs h g = length-append xs us ∙ ap (λ n. n + length us) h ∙ ap (λ n. length ys + n) g ∙ sym (length-append ys vs)
 

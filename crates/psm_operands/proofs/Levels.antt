@@ -113,10 +113,3 @@ ended old_bases new_bases base old new e n f =
       ap (stacked (reverse new_bases)) low ∙ ap (λ bs. record { own = first_of (callers_of bs (reverse old)); callers = drop 1 (callers_of bs (reverse old)) }) (sym turned_bases),
       subst (λ k. Falls k (reverse new_bases)) (sym many) falls.1,
     )
-
--- without a caller there is no operand
-pub ended_last : (old_bases new_bases : List ℕ) (old new : List Operand) → old_bases ≡ [] → new_bases ≡ [] → new ≡ [] →
-    stacked (reverse new_bases) (reverse new) ≡ record { own = first_of (callers_of (reverse old_bases) (reverse old)); callers = drop 1 (callers_of (reverse old_bases) (reverse old)) }
-ended_last old_bases new_bases old new e n m =
-    ap (λ bs. stacked (reverse bs) (reverse new)) n ∙ ap (λ os. stacked [] (reverse os)) m
-    ∙ ap (λ bs. record { own = first_of (callers_of (reverse bs) (reverse old)); callers = drop 1 (callers_of (reverse bs) (reverse old)) }) (sym e)

@@ -155,11 +155,3 @@ pub commands_ask : (file : ResolvedFile) (code : RawCode) → WellFormedFile fil
 commands_ask file code h written = accepted_ask file code (written_heads file code written).tables (tables_of_file file h)
 
 -- ---- as the checker answers
-
--- what is asked of the commands that the checker answers where they are made into others
-pub checked_there : (code : RawCode) (s : ScriptTree) (cs : List Command) → script_fault (checked_known.known_of code) s ≡ None → cs ≡ script_of (checked_known.known_of code) s → All (checked.IsThere code) cs
-checked_there code s cs none is = subst (All (checked.IsThere code)) (sym is) (All-from_recursion (checked.IsThere code) (script_of (checked_known.known_of code) s) (commands_there code s.commands none))
-
-pub checked_fit : (file : ResolvedFile) (code : RawCode) → WellFormedFile file → FileWritten file code → (s : ScriptTree) → ScriptStands s → script_fault (checked_known.known_of code) s ≡ None
-    → (cs : List Command) → cs ≡ script_of (checked_known.known_of code) s → (ms : List ScriptCommand) → CommandsMade code cs ms → All (FitsCommand code) ms
-checked_fit file code h written s well none cs is ms made = commands_fit file code h written s well none ms (subst (λ l. CommandsMade code l ms) is made)

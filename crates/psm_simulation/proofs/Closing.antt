@@ -15,10 +15,6 @@ use Rattle.psm_simulation.specs.Agreement.{AllKept, AreOwned, HasAll, IsClosed, 
 
 -- ---- one of two
 
-or-first : (a b : Bool) → (a || b) ≡ false → a ≡ false
-or-first false b e = refl
-or-first true b e = e
-
 or-second : (a b : Bool) → (a || b) ≡ false → b ≡ false
 or-second false b e = e
 or-second true b e = absurd (cc (e))

@@ -70,9 +70,6 @@ evals-variable {code = code} {r = r} {k = k} {following = following} {spot = spo
 counts : (mode other : ParameterMode) (p : ResolvedParameter) (n : ℕ) (ps : List ResolvedParameter) → mode ≡ other → length (if takes other then p ∷ ps else ps) ≡ n → length (if takes mode then p ∷ ps else ps) ≡ n
 counts mode other p n ps e h = ap (λ x. length (if takes x then p ∷ ps else ps)) e ∙ h
 
-wanted : List ResolvedParameter → List ResolvedParameter
-wanted ps = filter (λ p. takes p.mode) ps
-
 pub evals-arguments : {file : ResolvedFile} {code : RawCode} {r : RawRoutine} {k following : ℕ} {spot : Spot} {m : Meaning} {B : Type 0} → Simulates file code m → routine_at code spot.number ≡ Some r → (args : List ResolvedArgument) (ps : List ResolvedParameter) → AreFor args ps → {pc mid : ℕ} → Arguments file code r k following args pc mid
     → (below : List Operand) (go : List Datum → Act B) (to : B → State → Stepped) → ((ds : List Datum) → length ds ≡ length (filter (λ p. takes p.mode) ps) → Evals code r k following spot m (go ds) (at_line spot mid (stacked ds below)) to)
     → Evals code r k following spot m (◌>>=◌ (arguments_given args) go) (at_line spot pc below) to

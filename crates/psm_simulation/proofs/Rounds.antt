@@ -84,9 +84,6 @@ site-sees x owned site = record {
 
 -- ---- a round
 
-abbrev with_row : RawCode → Spot → ℕ → ℕ → Option (List Datum) → State → Stepped
-with_row code spot pc exit row st = let c = code_rows.row_or_end exit row (machine spot pc [] st) in code_rows.settled code c.given c.machine
-
 abbrev after_row : Spot → ℕ → ℕ → Option (List Datum) → State → Stepped
 after_row spot mid exit None st = at_line spot exit [] st
 after_row spot mid exit (Some ds) st = at_line spot mid [] st

@@ -4,10 +4,8 @@ use Rattle.psm_code.specs.declared.code.RawCode.{RawCode}
 use Rattle.psm_code.specs.declared.code.RawRoutine.{RawRoutine}
 use Rattle.psm_code.specs.declared.lines.CodeLine.{CodeLine}
 use Rattle.psm_code.specs.Parts.{line_at, routine_at}
-use Rattle.psm_cond.specs.Condition.{Entries}
-use Rattle.psm_code.specs.Raising.{raised}
 use Rattle.psm_code.specs.Run.{Successor, done, line_done, routine_done, step, steps, settled, then_fall_through}
-use Rattle.psm_code.specs.Steps.{Act, Got, Raises}
+use Rattle.psm_code.specs.Steps.{Act, Got}
 use Rattle.psm_code.specs.State.{Machine, Stepped, More}
 use Rattle.psm_code.proofs.Ending.{rows-more}
 use Rattle.psm_simulation.specs.Agreement.{Leads}
@@ -41,10 +39,6 @@ after_line code act m = settled code (then_fall_through act m).given (then_fall_
 pub leads-successor : (code : RawCode) (m n : Machine) (r : RawRoutine) (l : CodeLine) (successor : Successor) → routine_at code m.running.routine ≡ Some r → line_at r m.running.line ≡ Some l
     → done code r l.instruction m ≡ record { given = Got successor; machine = n } → Leads code (More m) (successor n)
 leads-successor code m n r l successor p q e = leads-row (row-at code m r l p q ∙ ap (λ x. settled code x.given x.machine) e)
-
-pub leads-raised : (code : RawCode) (m n : Machine) (r : RawRoutine) (l : CodeLine) (c : Entries) → routine_at code m.running.routine ≡ Some r → line_at r m.running.line ≡ Some l
-    → done code r l.instruction m ≡ record { given = Raises c; machine = n } → Leads code (More m) (raised code c n)
-leads-raised code m n r l c p q e = leads-row (row-at code m r l p q ∙ ap (λ x. settled code x.given x.machine) e)
 
 -- ---- numbers
 

@@ -34,10 +34,6 @@ use Rattle.psm_simulation.proofs.Runs.{after_line, leads-here, leads-line, leads
 use Rattle.psm_simulation.proofs.Simples.{does-stated, evals-cleared, evals-end}
 use Rattle.psm_simulation.proofs.SimplesInto.{evals-retrieve_all, evals-warned, pending_at, put-values}
 
--- the cursor with a number, and what is done with it and its state
-abbrev coded_with : ℕ → (CodeCursor → steps.Act (Unit {0})) → Option CodeCursor → steps.Act (Unit {0})
-coded_with n go c = steps.◌>>=◌ (steps.present c) go
-
 abbrev meant_with : ℕ → List ResolvedCursor → (ResolvedCursor → acts.Act (Unit {0})) → acts.Act (Unit {0})
 meant_with n xs go = acts.◌>>=◌ (acts.present (find (λ y. nat_eq y.number n) xs)) go
 

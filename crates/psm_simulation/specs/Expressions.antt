@@ -57,10 +57,6 @@ is_straight (layers.Substring text from length) = true
 is_straight (layers.Trim side text) = true
 is_straight layer = false
 
-abbrev pub some_operand : Option ResolvedExpr → List ResolvedExpr
-some_operand None = []
-some_operand (Some e) = e ∷ []
-
 abbrev pub operands_of : Layer → List ResolvedExpr
 operands_of (layers.Not condition) = condition ∷ []
 operands_of (layers.Compare operator left right) = left ∷ right ∷ []

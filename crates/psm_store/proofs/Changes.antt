@@ -1,6 +1,6 @@
 -- Lists of tables after a row call.
 use Rattle.std.proofs.Common.{◌≡◌, ℕ, zero, suc, ◌<◌, List, [], ◌∷◌, length, get_or, set, refl, ap, sym, ◌∙◌, Some, None}
-use Rattle.std.specs.Prelude.{slice_get, Option, option_map, Result, Ok, Err, OnOk}
+use Rattle.std.specs.Prelude.{slice_get, Option, option_map, Result, Ok, Err}
 use Rattle.std.proofs.lemmas.List.{set-get_or, length-map}
 use Rattle.std.proofs.lemmas.Option.{slice_get_read}
 use Rattle.psm_table.specs.declared.fault.RowFault.{RowFault}
@@ -55,9 +55,3 @@ changed_twice first second (x ∷ xs) (suc t) =
     ∙ changed_next second x (changed_at first xs t) t
     ∙ ap (λ l. x ∷ l) (changed_twice first second xs t)
     ∙ sym (changed_next (λ c. second (first c)) x xs t)
-
--- two row calls on one table
-pub after_twice : (first second : Contents → Contents) (r : Result (Unit {0}) RowFault) (tables between new : List Contents) (t : ℕ) →
-    between ≡ changed_at first tables t → new ≡ after r second between t → OnOk r (new ≡ after r (λ c. second (first c)) tables t)
-after_twice first second (Ok u) tables between new t e f = f ∙ ap (λ l. changed_at second l t) e ∙ changed_twice first second tables t
-after_twice first second (Err x) tables between new t e f = tt

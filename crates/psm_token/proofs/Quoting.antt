@@ -2,7 +2,7 @@
 use Rattle.std.proofs.Common.{◌≡◌, ℕ, ◌+◌, ◌<◌, Bool, true, false, cond, eqb, List, [], ◌∷◌, ◌++◌, length, ltb, zero, suc, ◌≤◌, take, drop, Option, Some, None, refl, sym, ap, ◌∙◌, append_assoc, arith}
 use Rattle.std.proofs.lemmas.Bool.{eqb-true}
 use Rattle.std.proofs.lemmas.Bool.Decides.{nat_tests}
-use Rattle.std.proofs.lemmas.List.{append-nil, length-append, length_push, length-take, take_all, take-append-le, nil_from_length}
+use Rattle.std.proofs.lemmas.List.{append-nil, length-append, length_push, length-take, take_all, take-append-le}
 use Rattle.std.specs.Prelude.{Result, Ok, Err, IfOk, String}
 use Rattle.std.specs.declared.alloc.AllocError.{AllocError}
 use Rattle.std.specs.Global.{Global}
@@ -189,19 +189,8 @@ kept_next quote limit rest kept after left following size n c k r step e =
         let ge : limit ≤ size = grind (arith, nat_tests, f) in
         r.first ∙ sym (take-append-le limit r.all (c ∷ []) (omega (arith, r.counted)))
 
-pub kept_open : (quote limit : ℕ) (rest kept : List ℕ) (size n : ℕ) (left : List ℕ) → KeptSo quote limit rest kept size n left → left ≡ [] → read_inside quote [] 1 rest ≡ None
-kept_open quote limit rest kept size n left r e = r.reading ∙ ap (read_inside quote r.all n) e
-
-pub kept_close : (quote limit : ℕ) (rest kept : List ℕ) (size n m : ℕ) (left : List ℕ) → KeptSo quote limit rest kept size n left
-    → ((all : List ℕ) (j : ℕ) → read_inside quote all j left ≡ Some (all, j + 1)) → m ≡ n + 1
-    → (all : List ℕ) × (read_inside quote [] 1 rest ≡ Some (all, m)) × (kept ≡ take limit all)
-kept_close quote limit rest kept size n m left r h e = (r.all, r.reading ∙ h r.all n ∙ same_end r.all r.all (n + 1) m refl (sym e), r.first)
-
 pub kept_whole : (n : ℕ) (xs : List ℕ) → length (take (suc n) xs) ≤ n → take (suc n) xs ≡ xs
 kept_whole n xs h = take_all (suc n) xs (omega (arith, h, length-take (suc n) xs))
 
 pub kept_long : (n : ℕ) (xs : List ℕ) → n < length (take (suc n) xs) → n < length xs
 kept_long n xs h = omega (arith, h, length-take (suc n) xs)
-
-pub kept_none : (n : ℕ) (xs : List ℕ) → length (take (suc n) xs) ≡ 0 → xs ≡ []
-kept_none n xs h = nil_from_length xs (omega (arith, h, length-take (suc n) xs))

@@ -5,8 +5,6 @@ use Rattle.std.specs.Char.{is_ascii_digit, is_ascii_alphabetic}
 use Rattle.std.specs.Str.{IsUtf8, chars}
 use Rattle.std.proofs.lemmas.List.{append-nil, length-append, length_push}
 use Rattle.psm_num.specs.Literal.{point_text}
-use Rattle.psm_token.specs.declared.fault.LexFault.{LexFault}
-use Rattle.psm_token.specs.declared.fault.LexFault.TheVariants.{BadUtf8, BadChar, OpenText, OpenName, LongText, LongNumber, LongName, ManyTokens, Memory}
 use Rattle.psm_token.specs.declared.front.Front.{Front}
 use Rattle.psm_token.specs.declared.front.Front.TheVariants.{End, Separator, Comment, Letter, Digit, Quote, Apostrophe, Other}
 use Rattle.psm_token.specs.declared.piece.Piece.{Piece as PieceOf}
@@ -17,15 +15,13 @@ use Rattle.psm_token.specs.declared.sign.Sign.TheVariants.{LeftParen, RightParen
 use Rattle.psm_token.specs.declared.token.Placed.{Placed}
 use Rattle.psm_token.specs.declared.token.Token.{Token}
 use Rattle.psm_token.specs.Characters.{is_separator, is_name_part, begins}
-use Rattle.psm_token.specs.Faults.{IsFaulty}
 use Rattle.psm_token.specs.Forms.{IsToken, IsGap, name_len}
 use Rattle.psm_token.specs.Fronts.{front_of}
 use Rattle.psm_token.specs.Numbers.{digits_at, after_digits, is_point, fraction_at, literal_len}
 use Rattle.psm_token.specs.Places.{start, place_after}
-use Rattle.psm_token.specs.Answers.{OrMemory}
 use Rattle.psm_token.specs.Reading.{PieceRead}
 use Rattle.psm_token.specs.Signs.{sign_text}
-use Rattle.psm_token.specs.Spells.{At, Piece, Reaches, IsTokenFault}
+use Rattle.psm_token.specs.Spells.{At, Piece, Reaches}
 use Rattle.psm_token.specs.Tokens.{is_name}
 use Rattle.psm_token.proofs.Looking.{chosen, digit_front}
 use Rattle.psm_token.proofs.Runs.{take_literal}
@@ -136,24 +132,3 @@ token_moves a [] n t h = absurd h
 token_moves a (c ∷ cs) n t h = (token_some a (c ∷ cs) n t (front_of a (c ∷ cs)) refl h, omega arith)
 
 -- ---- faults
-
-not_many : (f : Front) (cs : List ℕ) (p q : Place) → IsFaulty f cs p (ManyTokens q) → ⊥
-not_many End cs p q h = h
-not_many Separator cs p q h = h
-not_many Comment cs p q h = h
-not_many Letter cs p q h = h
-not_many Digit cs p q h = h
-not_many Quote cs p q h = h
-not_many Apostrophe cs p q h = h
-not_many Other cs p q h = h
-
-pub fault_read : (bytes : List ℕ) (ts : List Placed) (a : Bool) (p : Place) (cs : List ℕ) (f : LexFault) → Reaches bytes ts (at a p cs) → OrMemory f (IsFaulty (front_of a cs) cs p f) → OrMemory f (IsTokenFault bytes f)
-fault_read bytes ts a p cs (BadUtf8 q) r h = record { before = ts; at = at a p cs; reaches = r; stops = h }
-fault_read bytes ts a p cs (BadChar q) r h = record { before = ts; at = at a p cs; reaches = r; stops = h }
-fault_read bytes ts a p cs (OpenText q) r h = record { before = ts; at = at a p cs; reaches = r; stops = h }
-fault_read bytes ts a p cs (OpenName q) r h = record { before = ts; at = at a p cs; reaches = r; stops = h }
-fault_read bytes ts a p cs (LongText q) r h = record { before = ts; at = at a p cs; reaches = r; stops = h }
-fault_read bytes ts a p cs (LongNumber q) r h = record { before = ts; at = at a p cs; reaches = r; stops = h }
-fault_read bytes ts a p cs (LongName q) r h = record { before = ts; at = at a p cs; reaches = r; stops = h }
-fault_read bytes ts a p cs (ManyTokens q) r h = absurd (not_many (front_of a cs) cs p q h)
-fault_read bytes ts a p cs Memory r h = tt

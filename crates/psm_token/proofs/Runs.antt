@@ -127,18 +127,6 @@ literal_spelled bs cs n u e k some =
       spelling = sym (ascii_text bs (literal_text (literal_at cs)) u all (literal_ascii cs));
     }
 
-fraction_most : (ds : List ℕ) → fraction_len ds ≤ length (fraction_at ds) + 1
-fraction_most [] = omega arith
-fraction_most (c ∷ ds) = by (is_point c)
-  where
-    by : (b : Bool) → cond b (1 + prefix_len is_ascii_digit ds) 0 ≤ length (cond b (digits_at ds) []) + 1
-    by true = omega (arith, length-prefix_len is_ascii_digit ds)
-    by false = omega arith
-
--- all but one of a literal's characters are digits
-pub literal_most : (cs : List ℕ) → literal_len cs ≤ literal_digits (literal_at cs) + 1
-literal_most cs = omega (arith, length-prefix_len is_ascii_digit cs, fraction_most (after_digits cs))
-
 pub number_ok : (l : Literal) (d : Num) → Ok d ≡ literal_number l → (literal_digits l ≤ 18) × (d ≡ literal_value l)
 number_ok l d h = by (leb (literal_digits l) 18) refl h
   where

@@ -19,11 +19,5 @@ cursor_words = w.Insensitive ∷ w.Cursor ∷ []
 abbrev pub routine_words : List Word
 routine_words = w.Declare ∷ w.Procedure ∷ w.Function ∷ []
 
-abbrev pub characteristic_words : List Word
-characteristic_words = w.Language ∷ w.Deterministic ∷ w.Not ∷ w.Contains ∷ w.Reads ∷ w.Modifies ∷ []
-
 abbrev pub column_rule_words : List Word
 column_rule_words = w.Constraint ∷ w.Not ∷ w.Primary ∷ w.Unique ∷ w.Check ∷ w.References ∷ []
-
-abbrev pub command_words : List Word
-command_words = w.Call ∷ w.Insert ∷ w.Select ∷ w.Commit ∷ w.Rollback ∷ []

@@ -72,13 +72,6 @@ defs-undone_from t es (c ∷ cs) =
     ap (λ d. d ∷ defs_of (undone_from (suc t) es cs)) (def-undone_in t es c)
     ∙ ap (λ l. c.def ∷ l) (defs-undone_from (suc t) es cs)
 
--- a table that no entry is about stands as it is
-pub undone_in-untouched : (t : ℕ) (es : List Entry) (c : Contents) → ((k : ℕ) (d : Entry) → k < length es → (get_or es k d).table ≢ t) → undone_in t es c ≡ c
-undone_in-untouched t [] c h = refl
-undone_in-untouched t (e ∷ es) c h =
-    undone_at-other t e (undone_in t es c) (h 0 e (omega arith))
-    ∙ undone_in-untouched t es c (λ k d l. h (suc k) d (omega (arith, l)))
-
 -- as many tables as states
 pub length-contents : (states : List State) → length (contents_of states) ≡ length states
 length-contents states = length-map states (λ s. s.contents)

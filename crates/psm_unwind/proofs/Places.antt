@@ -18,7 +18,3 @@ is_place (Some l) context resume e f = (sym (ap or_zero e), sym (ap or_none f))
 pub no_place : (o : Option CodeLine) → None ≡ option_map (λ (l : CodeLine). l.context) o → IsPlace o None
 no_place None e = tt
 no_place (Some l) e = cc
-
-pub no_resume : (o : Option CodeLine) → None ≡ option_map (λ (l : CodeLine). l.resume) o → IsPlace o None
-no_resume None e = tt
-no_resume (Some l) e = cc

@@ -10,4 +10,3 @@ pub mod Several
 pub mod StackLaws
 pub mod StateLaws
 pub mod TypeLaws
-pub mod Writing
