@@ -14,6 +14,7 @@ use Rattle.psm_value.specs.declared.datum.Datum.TheVariants.{Null}
 use Rattle.psm_value.specs.declared.sqltype.SqlType.{SqlType}
 use Rattle.psm_value.specs.Stored.{is_stored, stored}
 use Rattle.psm_value.proofs.Stable.{stored-as_stored}
+use Rattle.psm_value.specs.Filled.{filled}
 use Rattle.psm_exprcode.specs.declared.op.Letter.{Letter}
 use Rattle.psm_exprcode.specs.Kinds.{is_value, letter_of}
 use Rattle.psm_exprcode.specs.declared.query.Query.{Query}
@@ -27,7 +28,7 @@ use Rattle.psm_code.specs.declared.code.RawCode.{RawCode}
 use Rattle.psm_code.specs.declared.code.RawRoutine.{RawRoutine}
 use Rattle.psm_code.specs.declared.lines.CodeLine.{CodeLine}
 use Rattle.psm_code.specs.declared.rule.CodeRule.TheVariants as rule
-use Rattle.psm_code.specs.Calling.{activation, bounded, entered, filled, most_depth, passed}
+use Rattle.psm_code.specs.Calling.{activation, bounded, entered, most_depth, passed}
 use Rattle.psm_code.specs.Instructions.{may_raise, parameter_letters}
 use Rattle.psm_code.specs.Parts.{line_at, routine_at, taking}
 use Rattle.psm_code.specs.RoutineRules as rules

@@ -9,7 +9,7 @@ use Rattle.psm_terms.specs.declared.diagnostics.StatementItem.{StatementItem}
 use Rattle.psm_terms.specs.declared.diagnostics.StatementItem.TheVariants as of_statement
 use Rattle.psm_value.specs.declared.datum.Datum.{Datum}
 use Rattle.psm_value.specs.declared.datum.Datum.TheVariants.{Null, Num, Text}
-use Rattle.psm_cond.specs.Item.{entries_of, entry_item, statement_item}
+use Rattle.psm_cond.specs.Item.{entries_of, entry_item, statement_item, entry_numbered}
 use Rattle.psm_cond.specs.declared.entry.Entry.{Entry}
 use Rattle.psm_cond.specs.declared.handlers.Declared.{Declared}
 use Rattle.psm_exprcode.specs.declared.op.Letter.{Letter}
@@ -21,7 +21,7 @@ use Rattle.psm_code.specs.declared.code.RawCode.{RawCode}
 use Rattle.psm_code.specs.declared.code.RawRoutine.{RawRoutine}
 use Rattle.psm_code.specs.declared.lines.CodeLine.{CodeLine}
 use Rattle.psm_code.specs.Instructions.{condition_letter, may_raise, statement_letter}
-use Rattle.psm_code.specs.Signalling.{activating, activating_area, area_read, declared, entry_numbered, handling, item_of_condition, item_of_statement, message_text, numbered, resignal, resignal_condition, resignal_message, resignal_with, signal, signal_message, with_message}
+use Rattle.psm_code.specs.Signalling.{activating, activating_area, area_read, declared, handling, item_of_condition, item_of_statement, message_text, numbered, resignal, resignal_condition, resignal_message, resignal_with, signal, signal_message, with_message}
 use Rattle.psm_code.specs.State.{Frame, InBlock, InAction, Machine}
 use Rattle.psm_code.specs.Steps.{put, put_value, read}
 use Rattle.psm_code.proofs.Acts.{Does, Has, and_then, pop_does, present_does}

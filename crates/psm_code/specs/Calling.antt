@@ -6,6 +6,7 @@ use Rattle.psm_value.specs.declared.datum.Datum.{Datum}
 use Rattle.psm_value.specs.declared.datum.Datum.TheVariants.{Null}
 use Rattle.psm_value.specs.declared.sqltype.SqlType.{SqlType}
 use Rattle.psm_value.specs.Stored.{stored}
+use Rattle.psm_value.specs.Filled.{filled}
 use Rattle.psm_cond.specs.Area.{clear}
 use Rattle.psm_cond.specs.Condition.{by_state}
 use Rattle.psm_exprcode.specs.declared.operand.Operand.{Operand}
@@ -43,12 +44,6 @@ entered (p ∷ ps) args = do
 -- as many activations run at most
 abbrev pub most_depth : ℕ
 most_depth = 64
-
--- one value for each slot: the parameters have the first ones, and the other variables begin null
-abbrev pub filled : List SqlType → List Datum → List Datum
-filled [] ds = []
-filled (t ∷ ts) [] = Null ∷ filled ts []
-filled (t ∷ ts) (d ∷ ds) = d ∷ filled ts ds
 
 abbrev pub activation : ℕ → RawRoutine → List Datum → Activation
 activation n r parameters = record {

@@ -1,5 +1,7 @@
 -- What GET DIAGNOSTICS reads (ISO/IEC 9075:1992, 18.1).
-use Rattle.std.specs.Prelude.{◌≡◌, ℕ, suc, pos, ◌≤◌, ⊤, Bool, Some, List, ◌∷◌, length, codes, slice_get, Result, Ok, Err, if◌then◌else◌}
+use Rattle.std.specs.Prelude.{◌≡◌, ℕ, suc, pos, ◌≤◌, ⊤, Bool, false, Option, None, Some, List, [], ◌∷◌, length, codes, slice_get, Result, Ok, Err, if◌then◌else◌}
+use Rattle.std.specs.Ordering.{is_eq}
+use Rattle.std.specs.declared.cmp.Ordering.{Ordering}
 use Rattle.std.specs.declared.cmp.Ordering.TheVariants.{Equal}
 use Rattle.psm_terms.specs.declared.diagnostics.StatementItem.{StatementItem}
 use Rattle.psm_terms.specs.declared.diagnostics.StatementItem.TheVariants.{Number, More, RowCount}
@@ -46,3 +48,13 @@ abbrev pub GivesItem : List Entry → Datum → ConditionItem → Result Datum A
 GivesItem entries value item (Ok d) = (n : ℕ) × (e : Entry) × IsNumber value (suc n) × (slice_get entries n ≡ Some e) × (d ≡ entry_item (suc n) e item)
 GivesItem entries value item (Err fault.Number) = (n : ℕ) → IsNumber value (suc n) → length entries ≤ n
 GivesItem entries value item (Err fault.Memory) = ⊤
+
+-- whether a comparison comes to equality
+abbrev pub equal : Option Ordering → Bool
+equal None = false
+equal (Some o) = is_eq o
+
+-- the entry whose number, counted from one on, is the value, with its number
+abbrev pub entry_numbered : ℕ → List Entry → Datum → Option (ℕ × Entry)
+entry_numbered n [] d = None
+entry_numbered n (e ∷ es) d = if equal (compared d (whole n)) then Some (n, e) else entry_numbered (suc n) es d

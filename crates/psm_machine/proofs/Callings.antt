@@ -5,6 +5,7 @@ use Rattle.psm_value.specs.declared.datum.Datum.{Datum}
 use Rattle.psm_value.specs.declared.datum.Datum.TheVariants.{Null}
 use Rattle.psm_value.specs.declared.sqltype.SqlType.{SqlType}
 use Rattle.psm_value.specs.SqlType.{IsType}
+use Rattle.psm_value.specs.Filled.{filled}
 use Rattle.psm_exprcode.specs.declared.operand.Operand.{Operand}
 use Rattle.psm_table.specs.Table.{Contents}
 use Rattle.psm_store.specs.declared.store.Mark.{Mark}
@@ -13,7 +14,7 @@ use Rattle.psm_unwind.specs.View.{callers_of}
 use Rattle.psm_code.specs.declared.code.Parameter.{Parameter}
 use Rattle.psm_code.specs.declared.code.RawRoutine.{RawRoutine}
 use Rattle.psm_code.specs.declared.code.RawCode.{RawCode}
-use Rattle.psm_code.specs.Calling.{activation, bounded, call, calling, entered, filled}
+use Rattle.psm_code.specs.Calling.{activation, bounded, call, calling, entered}
 use Rattle.psm_code.specs.Parts.{routine_at, slots_of, taking}
 use Rattle.psm_code.specs.State.{Machine}
 use Rattle.psm_code.specs.Steps.{Act, Came, Got, change, go_on, pops, turn, ◌>>=◌, ◌>>◌}

@@ -16,8 +16,8 @@ use Rattle.psm_exprcode.specs.declared.operand.Operand.{Operand}
 use Rattle.psm_exprcode.specs.declared.operand.Operand.TheVariants.{Value, Truth}
 use Rattle.psm_cond.specs.Area.{Diagnostics}
 use Rattle.psm_cond.specs.Condition.{Entries}
-use Rattle.psm_cond.specs.Item.{IsNumber, entries_of, entry_item, whole}
-use Rattle.psm_code.specs.Signalling.{entry_numbered, equal, item_of_condition, numbered}
+use Rattle.psm_cond.specs.Item.{IsNumber, entries_of, entry_item, whole, entry_numbered, equal}
+use Rattle.psm_code.specs.Signalling.{item_of_condition, numbered}
 use Rattle.psm_code.specs.State.{Stuck, Machine}
 use Rattle.psm_code.specs.Steps.{Act, Came, Ends, Got, go_on, got, pop, popped, put_value, ◌>>=◌}
 use Rattle.psm_machine.specs.declared.stop.Stop.{Stop}

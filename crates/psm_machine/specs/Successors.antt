@@ -7,7 +7,7 @@ use Rattle.psm_terms.specs.declared.diagnostics.StatementItem.{StatementItem}
 use Rattle.psm_value.specs.declared.datum.Datum.{Datum}
 use Rattle.psm_cond.specs.declared.handlers.Handler.{Handler}
 use Rattle.psm_cond.specs.Condition.{Entries}
-use Rattle.psm_cond.specs.Item.{entries_of, entry_item}
+use Rattle.psm_cond.specs.Item.{entries_of, entry_item, entry_numbered}
 use Rattle.psm_exprcode.specs.declared.op.Op.{Op}
 use Rattle.psm_exprcode.specs.declared.operand.Next.{Next}
 use Rattle.psm_exprcode.specs.declared.operand.Operand.{Operand}
@@ -15,7 +15,7 @@ use Rattle.psm_exprcode.specs.Fits.{Fits}
 use Rattle.psm_table.specs.Table.{Contents}
 use Rattle.psm_store.specs.declared.store.Mark.{Mark}
 use Rattle.psm_code.specs.Run.{Successor, enter, exit, retrieve, store, warn, successor_of}
-use Rattle.psm_code.specs.Signalling.{area_read, entry_numbered, item_of_condition, item_of_statement, numbered, resignal, resignal_condition, resignal_message, signal, signal_message}
+use Rattle.psm_code.specs.Signalling.{area_read, item_of_condition, item_of_statement, numbered, resignal, resignal_condition, resignal_message, signal, signal_message}
 use Rattle.psm_code.specs.State as code
 use Rattle.psm_code.specs.State.{cleared, with_running}
 use Rattle.psm_code.specs.declared.code.RawRoutine.{RawRoutine}

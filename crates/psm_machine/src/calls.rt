@@ -2,10 +2,11 @@
 ghost use Rattle.std.specs.Prelude.{◌≡◌, [], All, IfOk, length, replicate, reverse, List};
 ghost use Rattle.psm_terms.specs.Modes.{takes};
 ghost use Rattle.psm_value.specs.SqlType.{IsType};
+ghost use Rattle.psm_value.specs.Filled.{filled};
 ghost use Rattle.psm_table.specs.Cursors.{Closed};
 ghost use Rattle.psm_table.specs.Table.{Contents};
 ghost use Rattle.psm_store.specs.declared.store.Mark.{Mark as MarkValue};
-ghost use Rattle.psm_code.specs.Calling.{activation, bounded, call, calling, entered, filled, passed};
+ghost use Rattle.psm_code.specs.Calling.{activation, bounded, call, calling, entered, passed};
 ghost use Rattle.psm_code.specs.Parts.{slots_of, taking};
 ghost use Rattle.psm_code.specs.Steps.{change, pops};
 ghost use Rattle.psm_unwind.specs.Marks.{SameFrames};

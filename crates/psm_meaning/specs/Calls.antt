@@ -6,6 +6,7 @@ use Rattle.psm_value.specs.declared.datum.Datum.{Datum}
 use Rattle.psm_value.specs.declared.datum.Datum.TheVariants.{Null}
 use Rattle.psm_value.specs.declared.sqltype.SqlType.{SqlType}
 use Rattle.psm_value.specs.Stored.{stored}
+use Rattle.psm_value.specs.Filled.{filled}
 use Rattle.psm_cond.specs.Condition.{by_state}
 use Rattle.psm_exprcode.specs.declared.operand.Operand.{Operand}
 use Rattle.psm_exprcode.specs.declared.operand.Operand.TheVariants.{Value}
@@ -62,12 +63,6 @@ abbrev pub bounded : Act (Unit {0})
 bounded = do
   depth ← read (λ st. st.depth)
   if nat_lt depth most_depth then got tt else raises (of_state (codes "X0001"))
-
--- one value for each slot: the parameters have the first ones, and the other variables begin null
-abbrev pub filled : List SqlType → List Datum → List Datum
-filled [] ds = []
-filled (t ∷ ts) [] = Null ∷ filled ts []
-filled (t ∷ ts) (d ∷ ds) = d ∷ filled ts ds
 
 abbrev pub begun : ResolvedRoutine → List Datum → State → State
 begun r parameters st = record st { depth = suc st.depth; variables = filled r.slots parameters; cursors = replicate r.cursors Closed }

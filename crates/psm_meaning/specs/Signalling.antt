@@ -1,16 +1,13 @@
 -- SIGNAL, RESIGNAL and GET DIAGNOSTICS (ISO/IEC 9075-4:1996, and 9075:1992, 18.1).
-use Rattle.std.specs.Prelude.{ℕ, suc, Bool, false, List, [], ◌∷◌, length, codes, slice_get, Option, Some, None, if◌then◌else◌}
-use Rattle.std.specs.Ordering.{is_eq}
-use Rattle.std.specs.declared.cmp.Ordering.{Ordering}
+use Rattle.std.specs.Prelude.{ℕ, List, [], ◌∷◌, length, codes, slice_get, Option, Some, None}
 use Rattle.psm_terms.specs.declared.diagnostics.DiagnosticsArea.{DiagnosticsArea}
 use Rattle.psm_terms.specs.declared.diagnostics.DiagnosticsArea.TheVariants.{Current, Stacked}
 use Rattle.psm_value.specs.declared.datum.Datum.{Datum}
 use Rattle.psm_value.specs.declared.datum.Datum.TheVariants.{Null, Num, Text}
-use Rattle.psm_value.specs.Order.{compared}
 use Rattle.psm_cond.specs.Area.{Diagnostics}
 use Rattle.psm_cond.specs.Condition.{Entries, alone, «following» as in_front}
 use Rattle.psm_cond.specs.Entry.{entry_of, name_text}
-use Rattle.psm_cond.specs.Item.{entries_of, entry_item, statement_item, whole}
+use Rattle.psm_cond.specs.Item.{entries_of, entry_item, statement_item, entry_numbered}
 use Rattle.psm_cond.specs.declared.entry.Entry.{Entry}
 use Rattle.psm_resolved.specs.declared.expr.ResolvedExpr.{ResolvedExpr}
 use Rattle.psm_resolved.specs.declared.statement.ResolvedCondition.{ResolvedCondition}
@@ -95,15 +92,6 @@ assign_items eval_context item [] = got tt
 assign_items eval_context item (i ∷ items) = do
   assign eval_context i.0 (item i.1)
   assign_items eval_context item items
-
-abbrev pub equal : Option Ordering → Bool
-equal None = false
-equal (Some o) = is_eq o
-
--- the entry whose number, counted from one on, is the value, with its number
-abbrev pub entry_numbered : ℕ → List Entry → Datum → Option (ℕ × Entry)
-entry_numbered n [] d = None
-entry_numbered n (e ∷ es) d = if equal (compared d (whole n)) then Some (n, e) else entry_numbered (suc n) es d
 
 abbrev pub numbered : Option (ℕ × Entry) → Act (ℕ × Entry)
 numbered None = raises (of_state (codes "35000"))

@@ -2,6 +2,7 @@
 use Rattle.std.proofs.Common.{◌≡◌, ℕ, zero, suc, Bool, true, false, List, [], ◌∷◌, length, map, refl, ap, sym, ◌∙◌, subst, Some, None, if◌then◌else◌}
 use Rattle.std.specs.Prelude.{codes, nat_lt, replicate}
 use Rattle.psm_value.specs.declared.datum.Datum.{Datum}
+use Rattle.psm_value.specs.Filled.{filled}
 use Rattle.psm_cond.specs.Condition.{Entries}
 use Rattle.psm_exprcode.specs.declared.operand.Operand.{Operand}
 use Rattle.psm_table.specs.Cursors.{Closed}
@@ -25,7 +26,7 @@ use Rattle.psm_code.specs.Steps as steps
 use Rattle.psm_simulation.specs.Agreement.{Evaluates, IsReady, RaisedAt, Spot, machine}
 use Rattle.psm_simulation.specs.Expressions.{Takes, stacked}
 use Rattle.psm_simulation.specs.Simulation.{RoutineStands, parameter_of}
-use Rattle.psm_simulation.proofs.Entering.{Gives, entered-same, filled-same, given_as, pops-stacked, takes-as_many}
+use Rattle.psm_simulation.proofs.Entering.{Gives, entered-same, given_as, pops-stacked, takes-as_many}
 use Rattle.psm_simulation.proofs.Runs.{leads-here}
 
 -- the activation that calls, at its line
@@ -100,9 +101,8 @@ module _ (code : RawCode) (r : RawRoutine) (k following : ℕ) (spot : Spot) (m 
       rests-turn st.turns st to (calling (activation n callee ps)) (apart (run_body routine ps)) out d (λ left.
       let now = record st { turns = left } in
       let begins : More (calling (activation n callee ps) (machine spot pc below now)) ≡ More (machine (within spot n pc below now) 0 [] (begun routine ps now)) =
-      ap (λ ts. More (calling (record { routine = n; line = 0; variables = coded.filled ts ps; cursors = replicate (length callee.cursors) Closed; operands = []; frames = [] }) (machine spot pc below now))) stands.slots
-      ∙ ap (λ ds. More (calling (record { routine = n; line = 0; variables = ds; cursors = replicate (length callee.cursors) Closed; operands = []; frames = [] }) (machine spot pc below now))) (filled-same routine.slots ps)
-      ∙ ap (λ c. More (calling (record { routine = n; line = 0; variables = calls.filled routine.slots ps; cursors = replicate c Closed; operands = []; frames = [] }) (machine spot pc below now))) stands.cursors in
+      ap (λ ts. More (calling (record { routine = n; line = 0; variables = filled ts ps; cursors = replicate (length callee.cursors) Closed; operands = []; frames = [] }) (machine spot pc below now))) stands.slots
+      ∙ ap (λ c. More (calling (record { routine = n; line = 0; variables = filled routine.slots ps; cursors = replicate c Closed; operands = []; frames = [] }) (machine spot pc below now))) stands.cursors in
       subst (λ t. Evaluates code r k following spot t to (meaning.◌>>=◌ (apart (run_body routine ps)) out m now).given (meaning.◌>>=◌ (apart (run_body routine ps)) out m now).state) (sym begins) (h ps now d)))))
 
   -- the instruction, with its arguments on the operands

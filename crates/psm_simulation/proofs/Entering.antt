@@ -127,10 +127,3 @@ pub entered-same : (ps : List ResolvedParameter) (args : List Datum) (m : Meanin
 entered-same [] [] m st k = record { same = refl; stays = refl }
 entered-same [] (a ∷ args) m st k = record { same = refl; stays = refl }
 entered-same (p ∷ ps) args m st k = first-entered p.mode p.kind ps args m st k (λ args. entered-same ps args m st k)
-
--- ---- variables
-
-pub filled-same : (ts : List SqlType) (ds : List Datum) → coded.filled ts ds ≡ calls.filled ts ds
-filled-same [] ds = refl
-filled-same (t ∷ ts) [] = ap (λ es. Null ∷ es) (filled-same ts [])
-filled-same (t ∷ ts) (d ∷ ds) = ap (λ es. d ∷ es) (filled-same ts ds)

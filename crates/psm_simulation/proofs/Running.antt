@@ -7,6 +7,7 @@ use Rattle.psm_sqlstate.specs.declared.state.SqlState.{SqlState}
 use Rattle.psm_value.specs.declared.datum.Datum.{Datum}
 use Rattle.psm_value.specs.declared.sqltype.SqlType.{SqlType}
 use Rattle.psm_value.specs.Stored.{stored}
+use Rattle.psm_value.specs.Filled.{filled}
 use Rattle.psm_cond.specs.Condition.{by_state}
 use Rattle.psm_table.specs.Cursors.{Closed}
 use Rattle.psm_table.specs.Table.{Contents}
@@ -35,7 +36,7 @@ use Rattle.psm_simulation.specs.Env.{outermost}
 use Rattle.psm_simulation.specs.Running.{RunEnds, RunsAs, first}
 use Rattle.psm_simulation.specs.Simulation.{FileStands, RoutineStands, last_instruction}
 use Rattle.psm_simulation.proofs.Doing.{at_line}
-use Rattle.psm_simulation.proofs.Entering.{entered-same, filled-same, given_as}
+use Rattle.psm_simulation.proofs.Entering.{entered-same, given_as}
 use Rattle.psm_simulation.proofs.Raising.{meets-from}
 use Rattle.psm_simulation.proofs.Runs.{leads-here, leads-line, leads-same, leads-to}
 use Rattle.psm_simulation.proofs.Stepping.{simulates}
@@ -114,9 +115,8 @@ module _ (file : ResolvedFile) (code : RawCode) (stands : FileStands file code) 
       let fits : Fits file code routine r outermost alone = record { search = refl; handle = tt; reached = tt; entered = tt; entries = tt; cursors = record { free = λ i e. refl; split = tt; sees = tt }; kept = tt } in
       let ended = m.done (Do routine.body) (body_eval_context routine) start in
       let from : Leads code begins (at_line alone 0 [] start) = leads-same l (
-      ap (λ ts. More (record (before_start left tables) { running = record { routine = n; line = 0; variables = coded.filled ts ps; cursors = replicate (length r.cursors) Closed; operands = []; frames = [] } })) rs.slots
-      ∙ ap (λ ds. More (record (before_start left tables) { running = record { routine = n; line = 0; variables = ds; cursors = replicate (length r.cursors) Closed; operands = []; frames = [] } })) (filled-same routine.slots ps)
-      ∙ ap (λ c. More (record (before_start left tables) { running = record { routine = n; line = 0; variables = calls.filled routine.slots ps; cursors = replicate c Closed; operands = []; frames = [] } })) rs.cursors) in
+      ap (λ ts. More (record (before_start left tables) { running = record { routine = n; line = 0; variables = filled ts ps; cursors = replicate (length r.cursors) Closed; operands = []; frames = [] } })) rs.slots
+      ∙ ap (λ c. More (record (before_start left tables) { running = record { routine = n; line = 0; variables = filled routine.slots ps; cursors = replicate c Closed; operands = []; frames = [] } })) rs.cursors) in
       body-runs r rs at m now ended.outcome ended.state
       (meets-from file code routine r outermost alone rs.last from ended.outcome ended.state ((simulates file code stands h).done routine r outermost alone at rs fits routine.body 0 rs.last rs.body start (refl, λ i e. all-closed routine.cursors i, all-begin (routine_at code n) r routine.cursors at rs.cursors)))
 

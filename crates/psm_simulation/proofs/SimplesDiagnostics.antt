@@ -1,6 +1,5 @@
 -- GET DIAGNOSTICS, which leaves the areas as they are.
-use Rattle.std.proofs.Common.{◌≡◌, ℕ, suc, List, [], ◌∷◌, codes, length, map, slice_get, refl, sym, ap, ◌∙◌, subst, Option, Some, None, Result, Ok, Err, if◌then◌else◌}
-use Rattle.std.specs.declared.cmp.Ordering.{Ordering}
+use Rattle.std.proofs.Common.{◌≡◌, ℕ, suc, List, [], ◌∷◌, codes, length, map, slice_get, refl, sym, ap, ◌∙◌, subst, Option, Some, None, Result, Ok, Err}
 use Rattle.psm_terms.specs.declared.diagnostics.ConditionItem.{ConditionItem}
 use Rattle.psm_terms.specs.declared.diagnostics.DiagnosticsArea.{DiagnosticsArea}
 use Rattle.psm_terms.specs.declared.diagnostics.DiagnosticsArea.TheVariants as which_area
@@ -9,10 +8,9 @@ use Rattle.psm_sqlstate.specs.declared.state.SqlState.{SqlState}
 use Rattle.psm_value.specs.declared.datum.Datum.{Datum}
 use Rattle.psm_value.specs.declared.datum.Datum.TheVariants as data_of
 use Rattle.psm_value.specs.declared.sqltype.SqlType.{SqlType}
-use Rattle.psm_value.specs.Order.{compared}
 use Rattle.psm_value.specs.Stored.{stored}
 use Rattle.psm_cond.specs.Area.{Diagnostics}
-use Rattle.psm_cond.specs.Item.{entries_of, entry_item, statement_item, whole}
+use Rattle.psm_cond.specs.Item.{entries_of, entry_item, statement_item, entry_numbered}
 use Rattle.psm_cond.specs.declared.entry.Entry.{Entry}
 use Rattle.psm_exprcode.specs.declared.op.Letter.TheVariants.{N}
 use Rattle.psm_exprcode.specs.declared.op.Op.TheVariants as op
@@ -153,31 +151,22 @@ keeps-items {code = code} {spot = spot} eval_context p same area a (i ∷ items)
 
 -- ---- the condition that has a number
 
-same-equal : (o : Option Ordering) → signals.equal o ≡ signalling.equal o
-same-equal None = refl
-same-equal (Some o) = refl
-
-same-entry : (n : ℕ) (es : List Entry) (d : Datum) → signals.entry_numbered n es d ≡ signalling.entry_numbered n es d
-same-entry n [] d = refl
-same-entry n (e ∷ es) d =
-    ap (λ b. if b then Some (n, e) else signals.entry_numbered (suc n) es d) (same-equal (compared d (whole n))) ∙ ap (λ x. if signalling.equal (compared d (whole n)) then Some (n, e) else x) (same-entry (suc n) es d)
-
 abbrev found : Diagnostics → Datum → Option (ℕ × Entry)
-found a d = signalling.entry_numbered 1 (entries_of a.entries) d
+found a d = entry_numbered 1 (entries_of a.entries) d
 
 -- the instruction, where it is known whether there is a condition
 abbrev putting : ConditionItem → Option (ℕ × Entry) → steps.Act (Unit {0})
 putting i x = steps.◌>>=◌ (signals.numbered x) (λ e. steps.put_value (entry_item e.0 e.1 i))
 
 abbrev of_condition : ConditionItem → Diagnostics → steps.Act (Unit {0})
-of_condition i a = steps.◌>>=◌ steps.pop (λ d. putting i (signals.entry_numbered 1 (entries_of a.entries) d))
+of_condition i a = steps.◌>>=◌ steps.pop (λ d. putting i (entry_numbered 1 (entries_of a.entries) d))
 
 -- a line that takes the number from the operands
 leads-item : {code : RawCode} {r : RawRoutine} (spot : Spot) {k following pc : ℕ} → routine_at code spot.number ≡ Some r → (area : DiagnosticsArea) (i : ConditionItem) → Raising r k following pc (instruction.ConditionItem area i) → (a : Diagnostics) (d : Datum) (below : List Operand) (x : Option (ℕ × Entry))
     → found a d ≡ x → (st : State) → area_of area spot.standing st ≡ Some a → Leads code (at_line spot pc (Value d ∷ below) st) (after_line code (putting i x) (machine spot pc below st))
 leads-item {code = code} spot {pc = pc} p area i l a d below x known st e =
     let one = read-line code (of_condition i) area spot pc (Value d ∷ below) st (Some a) e in
-    let two = ap (λ y. after_line code (putting i y) (machine spot pc below st)) (same-entry 1 (entries_of a.entries) d ∙ known) in
+    let two = ap (λ y. after_line code (putting i y) (machine spot pc below st)) known in
     leads-same (leads-line p l.there) (one ∙ two)
 
 keeps-found : {code : RawCode} {r : RawRoutine} {k following : ℕ} {spot : Spot} {m : Meaning} (eval_context : EvalContext) → routine_at code spot.number ≡ Some r → slots_of r ≡ eval_context.routine.slots → (area : DiagnosticsArea) (a : Diagnostics) (d : Datum) (e : ℕ × Entry) → found a d ≡ Some e

@@ -8,7 +8,7 @@ use Rattle.psm_sqlstate.specs.declared.state.SqlState.{SqlState}
 use Rattle.psm_value.specs.declared.datum.Datum.{Datum}
 use Rattle.psm_value.specs.declared.datum.Datum.TheVariants.{Null, Num, Text}
 use Rattle.psm_cond.specs.Condition.{Entries, alone, «following» as in_front}
-use Rattle.psm_cond.specs.Item.{entries_of, entry_item, statement_item}
+use Rattle.psm_cond.specs.Item.{entries_of, entry_item, statement_item, entry_numbered}
 use Rattle.psm_cond.specs.declared.entry.Entry.{Entry}
 use Rattle.psm_exprcode.specs.Comparison.{truth_of}
 use Rattle.psm_exprcode.specs.declared.items.Items.{Items}
@@ -345,4 +345,4 @@ pub condition_item_keeps : (area : DiagnosticsArea) (i : ConditionItem) → Keep
 condition_item_keeps area i =
     then_keeps (area_keeps area) (λ a.
     then_keeps pop_keeps (λ d.
-    then_keeps (numbered_keeps (signals.entry_numbered 1 (entries_of a.entries) d)) (λ e. put_keeps (Value (entry_item e.0 e.1 i)))))
+    then_keeps (numbered_keeps (entry_numbered 1 (entries_of a.entries) d)) (λ e. put_keeps (Value (entry_item e.0 e.1 i)))))

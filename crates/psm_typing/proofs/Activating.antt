@@ -6,6 +6,7 @@ use Rattle.psm_value.specs.declared.datum.Datum.{Datum}
 use Rattle.psm_value.specs.declared.datum.Datum.TheVariants.{Null}
 use Rattle.psm_value.specs.declared.sqltype.SqlType.{SqlType}
 use Rattle.psm_value.specs.Stored.{stored}
+use Rattle.psm_value.specs.Filled.{filled}
 use Rattle.psm_exprcode.specs.Kinds.{are_of, has_letter, letter_of}
 use Rattle.psm_exprcode.proofs.Results.{letter_of-value, null-letter}
 use Rattle.psm_exprcode.proofs.Standing.{both_true}
@@ -16,7 +17,7 @@ use Rattle.psm_resolved.specs.declared.file.ResolvedParameter.{ResolvedParameter
 use Rattle.psm_resolved.specs.declared.file.ResolvedRoutine.{ResolvedRoutine}
 use Rattle.psm_meaning.specs.State.{State, returned_to}
 use Rattle.psm_meaning.specs.Acts.{Outcome, Normal, Leave, Iterate, Return, Raised, Away, Stopped, Do, Meaning, of_state}
-use Rattle.psm_meaning.specs.Calls.{activated, apart, begun, body_eval_context, bounded, ending, entered, filled, most_depth, passed, run_body}
+use Rattle.psm_meaning.specs.Calls.{activated, apart, begun, body_eval_context, bounded, ending, entered, most_depth, passed, run_body}
 use Rattle.psm_typing.specs.TypingContext.{TypingContext, Among, Begin, Each, letters_of, taken_by, with_taken}
 use Rattle.psm_typing.specs.Statements.{StatementScope}
 use Rattle.psm_typing.specs.Files.{IsRoutine}

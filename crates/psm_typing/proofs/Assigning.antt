@@ -10,7 +10,7 @@ use Rattle.psm_value.specs.Fetched.{fetched}
 use Rattle.psm_value.specs.Stored.{stored}
 use Rattle.psm_cond.specs.Area.{Diagnostics}
 use Rattle.psm_cond.specs.Condition.{alone, «following» as in_front}
-use Rattle.psm_cond.specs.Item.{entries_of, entry_item, statement_item}
+use Rattle.psm_cond.specs.Item.{entries_of, entry_item, statement_item, entry_numbered}
 use Rattle.psm_cond.specs.declared.entry.Entry.{Entry}
 use Rattle.psm_exprcode.specs.declared.op.Letter.TheVariants.{T}
 use Rattle.psm_exprcode.specs.Kinds.{are_of, has_letter, letter_of}
@@ -31,7 +31,7 @@ use Rattle.psm_meaning.specs.State.{State, EvalContext, with_variable}
 use Rattle.psm_meaning.specs.Acts.{Meaning, variable}
 use Rattle.psm_meaning.specs.Assigning.{arguments_given, assign, assign_all, assign_each, call, ended_well, given_back, retrieve, retrieve_all, set}
 use Rattle.psm_meaning.specs.Calls.{procedure_at, returns}
-use Rattle.psm_meaning.specs.Signalling.{activating, area_read, assign_items, entry_for, entry_numbered, get_diagnostics, message_text, number_given, numbered, resignal, signal, signalled, stacked_area, with_message}
+use Rattle.psm_meaning.specs.Signalling.{activating, area_read, assign_items, entry_for, get_diagnostics, message_text, number_given, numbered, resignal, signal, signalled, stacked_area, with_message}
 use Rattle.psm_meaning.specs.Statements.{returned}
 use Rattle.psm_typing.specs.TypingContext.{TypingContext, Among, Begin, Each, IsThere, letters_of, taken_by, variables_of, with_taken}
 use Rattle.psm_typing.specs.Expressions.{IsExpr}

@@ -8,3 +8,4 @@ pub mod SqlType
 pub mod Stored
 pub mod TextFaults
 pub mod Truth
+pub mod Filled
