@@ -1,6 +1,5 @@
 //! The first fault of a routine, and what routines declare.
 ghost use Rattle.std.specs.Prelude.{◌≡◌, ◌∷◌, ◌<◌, [], map, true, IfOk};
-ghost use Rattle.psm_terms.specs.Modes.{gives};
 ghost use Rattle.psm_scope.specs.KeptScopes.{can_declare_here};
 ghost use Rattle.psm_rules.specs.declared.rule.Rule.TheVariants as rules_of;
 ghost use Rattle.psm_rules.specs.Faults.{first_of};

@@ -1,6 +1,5 @@
 //! Calls of procedures and functions (ISO/IEC 9075-4:1996, call statement and routine invocation).
 ghost use Rattle.std.specs.Prelude.{◌≡◌, [], All, IfOk, length, replicate, reverse, List};
-ghost use Rattle.psm_terms.specs.Modes.{takes};
 ghost use Rattle.psm_value.specs.SqlType.{IsType};
 ghost use Rattle.psm_value.specs.Filled.{filled};
 ghost use Rattle.psm_table.specs.Cursors.{Closed};

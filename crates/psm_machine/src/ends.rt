@@ -1,6 +1,5 @@
 //! Ends of activations (ISO/IEC 9075-4:1996, return statement and the end of a routine).
 ghost use Rattle.std.specs.Prelude.{◌≡◌, [], ◌++◌, All, IfOk, IfSome, OnOk, List, reverse};
-ghost use Rattle.psm_terms.specs.Modes.{gives};
 ghost use Rattle.psm_value.specs.SqlType.{IsType};
 ghost use Rattle.psm_table.specs.Table.{Contents};
 ghost use Rattle.psm_store.specs.declared.store.Mark.{Mark as MarkValue};

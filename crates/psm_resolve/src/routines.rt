@@ -1,6 +1,5 @@
 //! Routines.
 ghost use Rattle.std.specs.Prelude.{◌≡◌, [], map, option_map, IfOk, IsTrue};
-ghost use Rattle.psm_terms.specs.Modes.{gives};
 ghost use Rattle.psm_scope.specs.KeptScopes.{can_declare_here};
 ghost use Rattle.psm_rules.specs.Types.{type_of};
 ghost use Rattle.psm_resolve_expr.specs.Exprs.{type_known};

@@ -1,6 +1,5 @@
 //! The parameters of routines as calls see them (ISO/IEC 9075-4:1996, SQL-invoked routine).
 ghost use Rattle.std.specs.Prelude.{◌≡◌, map, IfOk};
-ghost use Rattle.psm_terms.specs.Modes.{gives};
 ghost use Rattle.psm_rules.specs.FileFaults.{kind_of, parameter_of};
 
 use psm_check_expr::type_of;

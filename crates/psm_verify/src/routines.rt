@@ -1,6 +1,5 @@
 //! Routines, their parameters and variables (ISO/IEC 9075-4:1996, SQL-invoked routine).
 ghost use Rattle.std.specs.Prelude.{◌≡◌, [], ◌∷◌, map};
-ghost use Rattle.psm_terms.specs.Modes.{gives};
 ghost use Rattle.psm_exprcode.specs.WellFormed.{is_type as is_type_within};
 ghost use Rattle.psm_code.specs.Rules.{each_after, there, where_there};
 ghost use Rattle.psm_code.specs.RoutineRules as routines;
