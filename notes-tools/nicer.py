@@ -29,7 +29,8 @@ while True:
                     os.sched_setscheduler(int(t), os.SCHED_RR, os.sched_param(1))
                 else:
                     if os.sched_getscheduler(int(t)) == os.SCHED_RR: os.sched_setscheduler(int(t), os.SCHED_OTHER, os.sched_param(0))
-                    os.setpriority(os.PRIO_PROCESS, int(t), {"gate": -5, "helper": 0, "slow": 0}[want])
+                    if os.sched_getscheduler(int(t)) == os.SCHED_IDLE: os.sched_setscheduler(int(t), os.SCHED_OTHER, os.sched_param(0))
+                    os.setpriority(os.PRIO_PROCESS, int(t), {"gate": -4, "helper": 0, "slow": 0}[want])
             if len(tids) > 0 and cpu > 1: done[(p, start)] = want
         except (OSError, ValueError): pass
     try: json.dump(acc, open("/work/w/acc.json", "w"))
