@@ -1,21 +1,15 @@
 -- Searches for the first pair that passes a test, which each greater one passes too.
-use Rattle.std.proofs.Common.{◌≡◌, ℕ, ◌+◌, ◌<◌, ◌≤◌, List, length, get_or, take, drop, not, Bool, true, false, ap, sym, ◌∙◌, inl, inr, arith, refl}
+use Rattle.std.proofs.Common.{◌≡◌, ℕ, ◌+◌, ◌-◌, ◌<◌, ◌≤◌, List, length, get_or, take, drop, not, Bool, true, false, ap, sym, subst, ◌∙◌, inl, inr, arith, refl}
 use Rattle.std.specs.Prelude.{filter, slice_get}
 use Rattle.std.proofs.lemmas.Bool.{cases_lt}
 use Rattle.std.proofs.lemmas.List.{get_or_default}
 use Rattle.psm_table.specs.declared.map.Pair.{Pair}
 use Rattle.psm_table.specs.Map.{AreAscending}
+use Rattle.psm_table.specs.Runs.{IsParted}
 use Rattle.psm_table.proofs.Filters.{filter-drop, filter-take, slice_get-drop}
 use Rattle.psm_table.proofs.Walks.{Up}
 
 module _ {V : Type 0} (t : Pair V → Bool) where
-  -- those before low don't pass, and those from high on do
-  pub record Parted (pairs : List (Pair V)) (low high : ℕ) : Type 0 where
-    pub order : low ≤ high
-    pub bound : high ≤ length pairs
-    pub fail : (k : ℕ) (d : Pair V) → k < low → t (get_or pairs k d) ≡ false
-    pub pass : (k : ℕ) (d : Pair V) → high ≤ k → k < length pairs → t (get_or pairs k d) ≡ true
-
   fails : (a b : Bool) → (a ≡ true → b ≡ true) → b ≡ false → a ≡ false
   fails true b h e = sym (h refl) ∙ e
   fails false b h e = refl
@@ -24,7 +18,7 @@ module _ {V : Type 0} (t : Pair V → Bool) where
     at : (m : ℕ) (x d : Pair V) (b : Bool) → m < length pairs → x ≡ get_or pairs m x → t x ≡ b → t (get_or pairs m d) ≡ b
     at m x d b l e r = sym (ap t (e ∙ get_or_default pairs m x d l)) ∙ r
 
-    pub parted_fail : (low high m : ℕ) (x : Pair V) → Parted pairs low high → low ≤ m → m < high → x ≡ get_or pairs m x → t x ≡ false → Parted pairs (m + 1) high
+    pub parted_fail : (low high m : ℕ) (x : Pair V) → IsParted t pairs low high → low ≤ m → m < high → x ≡ get_or pairs m x → t x ≡ false → IsParted t pairs (m + 1) high
     parted_fail low high m x h l b e r = record {
       order = omega arith;
       bound = h.bound;
@@ -35,7 +29,7 @@ module _ {V : Type 0} (t : Pair V → Bool) where
       pass = h.pass;
     }
 
-    pub parted_pass : (low high m : ℕ) (x : Pair V) → Parted pairs low high → low ≤ m → m < high → x ≡ get_or pairs m x → t x ≡ true → Parted pairs low m
+    pub parted_pass : (low high m : ℕ) (x : Pair V) → IsParted t pairs low high → low ≤ m → m < high → x ≡ get_or pairs m x → t x ≡ true → IsParted t pairs low m
     parted_pass low high m x h l b e r = record {
       order = l;
       bound = omega (arith, h.bound);
@@ -46,8 +40,16 @@ module _ {V : Type 0} (t : Pair V → Bool) where
       ];
     }
 
+    -- the pair before index i doesn't pass, and that at the index does
+    pub parted_between : (i : ℕ) (x y : Pair V) → 0 < i → i < length pairs → x ≡ get_or pairs (i - 1) x → y ≡ get_or pairs i y → t x ≡ false → t y ≡ true → IsParted t pairs i i
+    parted_between i x y l m e f fail pass =
+        let all : IsParted t pairs 0 (length pairs) = record { order = omega arith; bound = omega arith; fail = λ k d n. absurd (omega arith); pass = λ k d n o. absurd (omega arith) } in
+        let before : i - 1 + 1 ≡ i = omega (arith, l) in
+        let low : IsParted t pairs i (length pairs) = subst (λ j. IsParted t pairs j (length pairs)) before (parted_fail 0 (length pairs) (i - 1) x all (omega arith) (omega (arith, l, m)) e fail) in
+        parted_pass i (length pairs) i y low (omega arith) m f pass
+
   -- nothing is left between low and high
-  module _ (pairs : List (Pair V)) (low high : ℕ) (h : Parted pairs low high) (l : high ≤ low) where
+  module _ (pairs : List (Pair V)) (low high : ℕ) (h : IsParted t pairs low high) (l : high ≤ low) where
     pub parted_inside : low ≤ length pairs
     parted_inside = omega (arith, h.bound, h.order)
 

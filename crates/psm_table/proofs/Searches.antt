@@ -1,5 +1,5 @@
 -- Searches among pairs in ascending order of their keys.
-use Rattle.std.proofs.Common.{◌≡◌, ℕ, ◌+◌, ◌<◌, ◌≤◌, List, length, get_or, ap, sym, ◌∙◌, add-one, inl, inr, arith}
+use Rattle.std.proofs.Common.{◌≡◌, ℕ, ◌+◌, ◌-◌, ◌<◌, ◌≤◌, List, length, get_or, ap, sym, subst, ◌∙◌, add-one, inl, inr, arith}
 use Rattle.std.proofs.lemmas.Bool.{cases_lt}
 use Rattle.std.proofs.lemmas.List.{get_or_default}
 use Rattle.std.specs.declared.cmp.Ordering.{Ordering}
@@ -77,8 +77,22 @@ module _ {V : Type 0} (key : List Datum) (pairs : List (Pair V)) (up : AreAscend
       (λ k d b n. greater_after_equal (get_or pairs m d).key (get_or pairs k d).key key (up m k d b n) (sym (read m x d l e) ∙ r)) in
       record { inside = l; has = t.0; before = t.1; after = rw add-one t.2 }
 
+  -- the pair before index m is less than the key
+  after_less : (m : ℕ) (x : Pair V) → 0 < m → m ≤ length pairs → x ≡ get_or pairs (m - 1) x → order_at x ≡ Less → Here m (length pairs)
+  after_less m x l b e r =
+      let all : Here 0 (length pairs) = record { order = omega arith; bound = omega arith; less = λ k d n. absurd (omega arith); greater = λ k d n o. absurd (omega arith) } in
+      let before : m - 1 + 1 ≡ m = omega (arith, l) in
+      subst (λ j. Here j (length pairs)) before (between_less 0 (length pairs) (m - 1) x all (omega arith) (omega (arith, l, b)) e r)
+
   -- nothing is left between low and high
   pub is_gap : (low high : ℕ) → Here low high → high ≤ low → IsGap key pairs low
   is_gap low high h l =
       let t = at_gap order_at pairs low (omega (arith, h.bound, h.order)) h.less (λ k d b n. h.greater k d (omega arith) n) in
       record { inside = omega (arith, h.bound, h.order); has = t.0; before = t.1; after = t.2 }
+
+  -- the key belongs between two pairs, or after the last one
+  pub gap_inside : (m : ℕ) (x y : Pair V) → 0 < m → m < length pairs → x ≡ get_or pairs (m - 1) x → order_at x ≡ Less → y ≡ get_or pairs m y → order_at y ≡ Greater → IsGap key pairs m
+  gap_inside m x y l b e r f s = is_gap m m (between_greater m (length pairs) m y (after_less m x l (omega (arith, b)) e r) (omega arith) b f s) (omega arith)
+
+  pub gap_last : (m : ℕ) (x : Pair V) → 0 < m → m ≡ length pairs → x ≡ get_or pairs (m - 1) x → order_at x ≡ Less → IsGap key pairs m
+  gap_last m x l b e r = is_gap m (length pairs) (after_less m x l (omega (arith, b)) e r) (omega (arith, b))

@@ -2,26 +2,33 @@
 use Rattle.std.proofs.Common.{◌≡◌, ℕ, zero, suc, ◌+◌, ◌-◌, ◌<◌, ◌≤◌, List, [], ◌∷◌, ◌++◌, length, get_or, take, drop, Bool, true, false, refl, ap, sym, subst, ◌∙◌, add-one, inl, inr, arith}
 use Rattle.std.specs.Prelude.{All}
 use Rattle.std.proofs.lemmas.Bool.{cases_lt}
-use Rattle.std.proofs.lemmas.List.{length-append}
-use Rattle.std.proofs.lemmas.List.Elements.{All-nil, All-cons}
+use Rattle.std.proofs.lemmas.List.{length-append, length-drop}
+use Rattle.std.proofs.lemmas.List.Elements.{All-nil, All-cons, All-drop, All-head}
 use Rattle.std.specs.declared.cmp.Ordering.{Ordering}
 use Rattle.std.specs.declared.cmp.Ordering.TheVariants.{Less, Equal, Greater}
-use Rattle.std.specs.Ordering.{is_gt}
+use Rattle.std.specs.Ordering.{is_lt, is_gt}
 use Rattle.psm_value.specs.declared.datum.Datum.{Datum}
 use Rattle.psm_table.specs.declared.map.Pair.{Pair}
 use Rattle.psm_table.specs.Key.{key_order}
 use Rattle.psm_table.specs.Map.{AreAscending}
-use Rattle.psm_table.specs.Runs.{begins, joined, IsCut, IsIn, IsRun, IsTurn}
-use Rattle.psm_table.proofs.Filters.{greater_is, AllPairs-first}
+use Rattle.psm_table.specs.PairPosition.{IsGap}
+use Rattle.psm_table.specs.declared.place.Place.{Place}
+use Rattle.psm_table.specs.Runs.{begins, joined, IsCut, IsIn, IsParted, IsPlace, IsRun, IsTurn}
+use Rattle.psm_table.proofs.Filters.{filtered, greater_is, less_is, AllPairs-first}
+use Rattle.psm_table.proofs.Halves.{parted_drop, parted_take}
 use Rattle.psm_table.proofs.Joined.{across, all-second, ascending-second, drop-past, joined-drop, joined-parts}
 use Rattle.psm_table.proofs.Pairs.{Rises}
-use Rattle.psm_table.proofs.Searches.{less_before_equal, less_before_less}
+use Rattle.psm_table.proofs.Searches.{greater_after_greater, less_before_equal, less_before_less}
 use Rattle.psm_table.proofs.Walks.{up-above, Up}
 
 module _ {V : Type 0} (t : Pair V → Bool) where
   begins-append : (r rs : List (Pair V)) → 0 < length r → begins t (r ++ rs) ≡ begins t r
   begins-append [] rs l = absurd (omega arith)
   begins-append (p ∷ ps) rs l = refl
+
+  begins_first : (r : List (Pair V)) → 0 < length r → ((d : Pair V) → t (get_or r 0 d) ≡ false) → begins t r ≡ false
+  begins_first [] l f = absurd (omega arith)
+  begins_first (p ∷ ps) l f = f p
 
   -- where the first pair passes, all do
   all_pass : Up t → (xs : List (Pair V)) → AreAscending xs → begins t xs ≡ true → All (λ p. t p ≡ true) xs
@@ -90,6 +97,24 @@ module _ {V : Type 0} (t : Pair V → Bool) where
       right = h.right;
     }
 
+    -- a place between two pairs of one run, of which the first doesn't pass and the second does
+    pub place_between : Up t → (p : Place) → p.run < length runs → IsParted t (get_or runs p.run []) p.at p.at → 0 < p.at → p.at < length (get_or runs p.run []) → IsPlace t runs p
+    place_between closed p l h some more =
+        let run : List (Pair V) = get_or runs p.run [] in
+        let rest : List (Pair V) = joined (drop (suc p.run) runs) in
+        let after : All (λ x. All (Rises x) rest) run = across run rest (subst AreAscending (joined-drop runs p.run [] l) (rest_up p.run)) in
+        let later : All (λ q. t q ≡ true) rest = λ k d n. closed (get_or run p.at d) (get_or rest k d) (after p.at d more k d n) (h.pass p.at d (omega arith) more) in
+        record {
+          turn = record {
+            inside = l;
+            fail = before_fail closed p.run l (begins_first run (omega (arith, some, more)) (λ d. h.fail 0 d some));
+            pass = rw add-one later;
+          };
+          inside = omega (arith, more);
+          past = parted_drop t run p.at p.at h (omega arith);
+          others = parted_take t run p.at p.at h (omega arith);
+        }
+
 -- the search for a key ends at the run that it belongs to
 module _ {V : Type 0} (key : List Datum) where
   abbrev pub Above : Pair V → Bool
@@ -103,6 +128,11 @@ module _ {V : Type 0} (key : List Datum) where
   all_less : (ys : List (Pair V)) → 0 < length ys → begins Above ys ≡ false → (xs : List (Pair V)) → All (λ x. All (Rises x) ys) xs → All (λ p. key_order p.key key ≡ Less) xs
   all_less [] l e xs h k d n = absurd (omega arith)
   all_less (y ∷ ys) l e xs h k d n = less_before (get_or xs k d) y (key_order y.key key) (h k d n 0 y (omega arith)) refl e
+
+  begins_less : (r : List (Pair V)) (at : ℕ) → 0 < at → 0 < length r → All (λ p. key_order p.key key ≡ Less) (take at r) → begins Above r ≡ false
+  begins_less [] at l m h = absurd (omega arith)
+  begins_less (p ∷ ps) zero l m h = absurd (omega arith)
+  begins_less (p ∷ ps) (suc n) l m h = ap is_gt (All-head (λ q. key_order q.key key ≡ Less) p (take n ps) h)
 
   module _ (runs : List (List (Pair V))) (up : AreAscending (joined runs)) (fit : All IsRun runs) where
     low_end : (low high : ℕ) → IsCut Above runs low high → high ≤ low → All (λ p. key_order p.key key ≡ Less) (joined (take (low - 1) runs))
@@ -123,3 +153,28 @@ module _ {V : Type 0} (key : List Datum) where
           low = low_end low high h l;
           high = λ k d n. greater_is (key_order (get_or (joined (drop (low - 1 + 1) runs)) k d).key key) (turn.pass k d n);
         }
+
+    -- the key belongs to a run that has a place for it after a pair
+    module _ (i at : ℕ) (inside : i < length runs) (gap : IsGap key (get_or runs i []) at) (some : 0 < at) where
+      low_gap : All (λ p. key_order p.key key ≡ Less) (joined (take i runs))
+      low_gap =
+          let less : All (λ p. key_order p.key key ≡ Less) (take at (get_or runs i [])) =
+          subst (All (λ p. key_order p.key key ≡ Less)) (sym gap.before) (filtered (λ (p : Pair V). is_lt (key_order p.key key)) (λ p. key_order p.key key ≡ Less) (λ p e. less_is (key_order p.key key) e) (get_or runs i [])) in
+          let first : begins Above (get_or runs i []) ≡ false = begins_less (get_or runs i []) at some (fit i [] inside).some less in
+          all_less (joined (drop i runs)) (rest-some Above runs up fit i inside) (begins-drop Above runs up fit i inside ∙ first) (joined (take i runs)) (before_rise Above runs up fit i)
+
+      pub in_gap_inside : at < length (get_or runs i []) → IsIn key runs i
+      in_gap_inside more =
+          let run : List (Pair V) = get_or runs i [] in
+          let rest : List (Pair V) = joined (drop (suc i) runs) in
+          let after : All (λ x. All (Rises x) rest) run = across run rest (subst AreAscending (joined-drop runs i [] inside) (rest_up Above runs up fit i)) in
+          let greater : All (λ p. key_order p.key key ≡ Greater) (drop at run) =
+          subst (All (λ p. key_order p.key key ≡ Greater)) (sym gap.after) (filtered (λ (p : Pair V). is_gt (key_order p.key key)) (λ p. key_order p.key key ≡ Greater) (λ p e. greater_is (key_order p.key key) e) run) in
+          let left : 0 < length (drop at run) = omega (arith, length-drop at run, more) in
+          let above : All (λ p. key_order p.key key ≡ Greater) rest =
+          λ k d n. greater_after_greater (get_or (drop at run) 0 d).key (get_or rest k d).key key (All-drop (λ x. All (Rises x) rest) at run after 0 d left k d n) (greater 0 d left) in
+          record { inside = inside; low = low_gap; high = rw add-one above }
+
+      pub in_gap_last : i + 1 ≡ length runs → IsIn key runs i
+      in_gap_last last =
+          record { inside = inside; low = low_gap; high = subst (λ rs. All (λ p. key_order p.key key ≡ Greater) (joined rs)) (sym (drop-past runs (i + 1) (omega (arith, last)))) (All-nil (λ p. key_order p.key key ≡ Greater)) }

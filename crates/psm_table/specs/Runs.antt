@@ -1,9 +1,10 @@
 -- Pairs in ascending order, in runs one after the other.
-use Rattle.std.specs.Prelude.{◌≡◌, ℕ, ◌+◌, ◌-◌, ◌<◌, ◌≤◌, Bool, true, false, List, [], ◌∷◌, ◌++◌, length, take, drop, All, slice_index_or}
+use Rattle.std.specs.Prelude.{◌≡◌, ℕ, ◌+◌, ◌-◌, ◌<◌, ◌≤◌, Bool, true, false, not, List, [], ◌∷◌, ◌++◌, length, take, drop, filter, All, slice_index_or}
 use Rattle.std.specs.declared.cmp.Ordering.TheVariants.{Less, Greater}
 use Rattle.psm_value.specs.declared.datum.Datum.{Datum}
 use Rattle.psm_table.specs.declared.leading.Leading.{Leading}
 use Rattle.psm_table.specs.declared.map.Pair.{Pair}
+use Rattle.psm_table.specs.declared.place.Place.{Place}
 use Rattle.psm_table.specs.Key.{key_order}
 use Rattle.psm_table.specs.Leading.{leading_of}
 
@@ -54,3 +55,17 @@ module _ {V : Type 0} where
     pub bound : high ≤ length runs
     pub left : 0 < low → begins t (slice_index_or runs (low - 1) []) ≡ false
     pub right : high < length runs → begins t (slice_index_or runs high []) ≡ true
+
+  -- the pairs before index low don't pass a test, and those from index high on do
+  pub record IsParted (t : Pair V → Bool) (pairs : List (Pair V)) (low high : ℕ) : Type 0 where
+    pub order : low ≤ high
+    pub bound : high ≤ length pairs
+    pub fail : (k : ℕ) (d : Pair V) → k < low → t (slice_index_or pairs k d) ≡ false
+    pub pass : (k : ℕ) (d : Pair V) → high ≤ k → k < length pairs → t (slice_index_or pairs k d) ≡ true
+
+  -- the pairs that pass a test are those after a place
+  pub record IsPlace (t : Pair V → Bool) (runs : List (List (Pair V))) (p : Place) : Type 0 where
+    pub turn : IsTurn t runs p.run
+    pub inside : p.at ≤ length (slice_index_or runs p.run [])
+    pub past : drop p.at (slice_index_or runs p.run []) ≡ filter t (slice_index_or runs p.run [])
+    pub others : take p.at (slice_index_or runs p.run []) ≡ filter (λ q. not (t q)) (slice_index_or runs p.run [])

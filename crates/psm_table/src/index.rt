@@ -13,6 +13,7 @@ ghost use Rattle.psm_table.specs.Unique.{agree, clashes, conflict, equal_value, 
 
 use crate::definition::TableDef;
 use crate::map::{OrderedMap, Pair, Test};
+use crate::place::Place;
 use crate::probe::Probe;
 use crate::row::Row;
 use crate::stored::{StoredKey, order_of_prefix};
@@ -102,7 +103,7 @@ fn put(index: &mut OrderedMap<()>, entry: Option<StoredKey>)
     ensures { IsPut index.old index.new entry }
 {
     if let Some(entry) = entry {
-        index.insert(entry, ());
+        index.insert(entry, (), Place::first());
     }
 }
 

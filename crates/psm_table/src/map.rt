@@ -9,6 +9,7 @@ ghost use Rattle.psm_value.specs.declared.datum.Datum.{Datum};
 ghost use Rattle.psm_table.specs.declared.map.Pair.{Pair};
 ghost use Rattle.psm_table.specs.Runs.{joined, IsRun};
 
+use crate::place::Place;
 use crate::probe::Probe;
 use crate::row::Row;
 use crate::run::Run;
@@ -75,12 +76,21 @@ impl<V: Drop> OrderedMap<V> {
         requires { FitsProbe probe }
         ensures { option_copied result ≡ value_of (probe_key probe.entry) self.now.pairs }
     {
+        self.look_up(probe).0
+    }
+
+    /// The value of the key, and the place where the key stands or else would. Nothing is promised of the place.
+    pub(crate) fn look_up(&self, probe: Probe<'_>) -> (Option<&V>, Place)
+        requires { FitsProbe probe }
+        ensures { option_copied result.0 ≡ value_of (probe_key probe.entry) self.now.pairs }
+    {
         let runs = self.runs.as_slice();
         if runs.is_empty() {
-            return None;
+            return (None, Place::first());
         }
-        let at = locate(runs, probe);
-        runs[at].get(probe)
+        let run = locate(runs, probe);
+        let (value, at) = runs[run].look_up(probe);
+        (value, Place { run, at })
     }
 
     /// Takes the memory that one insertion needs.
@@ -95,15 +105,16 @@ impl<V: Drop> OrderedMap<V> {
         Ok(())
     }
 
-    /// Puts a pair in, in the place of that of its key if there is one. It searches once.
-    pub(crate) fn insert(&mut self, key: StoredKey, value: V)
+    /// Puts a pair in, in the place of that of its key if there is one. It searches once, unless the key belongs at the place
+    /// that is tried.
+    pub(crate) fn insert(&mut self, key: StoredKey, value: V, tried: Place)
         requires { self.old.ready ≡ true }
         ensures pairs { self.new.pairs ≡ with_pair (record { key = key; value = value }) self.old.pairs }
         ensures ordered { AreAscending self.new.pairs }
     {
         self.ready = false;
         if let Some(spare) = self.spare.take() {
-            self.spare = put(&mut self.runs, spare, key, value);
+            self.spare = put(&mut self.runs, spare, key, value, tried);
         }
     }
 

@@ -77,24 +77,25 @@ impl<V: Drop> Run<V> {
         self.pairs.len() == MOST_PAIRS
     }
 
-    /// The value of the key.
-    pub(crate) fn get(&self, probe: Probe<'_>) -> Option<&V>
+    /// The value of the key, and where the key stands or else would.
+    pub(crate) fn look_up(&self, probe: Probe<'_>) -> (Option<&V>, usize)
         requires { FitsProbe probe }
-        ensures { option_copied result ≡ value_of (probe_key probe.entry) self.now }
+        ensures { option_copied result.0 ≡ value_of (probe_key probe.entry) self.now }
     {
         match self.find(probe) {
-            Ok(at) => Some(&self.pairs[at].value),
-            Err(_) => None,
+            Ok(at) => (Some(&self.pairs[at].value), at),
+            Err(at) => (None, at),
         }
     }
 
-    /// Puts a pair in, in the place of that of its key if there is one. It takes no memory.
-    pub(crate) fn insert(&mut self, key: StoredKey, value: V)
+    /// Puts a pair in, in the place of that of its key if there is one. It takes no memory, and no search where the key
+    /// belongs at the index that is tried.
+    pub(crate) fn insert(&mut self, key: StoredKey, value: V, tried: usize)
         requires { length self.old < most_pairs }
         ensures pairs { self.new ≡ with_pair (record { key = key; value = value }) self.old }
         ensures some { 0 < length self.new }
     {
-        match self.find(key.probe()) {
+        match self.find_near(key.probe(), tried) {
             Ok(at) => {
                 self.head = head_with(&self.head, at, &key);
                 self.pairs[at] = Pair { key, value };
@@ -188,6 +189,37 @@ impl<V: Drop> Run<V> {
     {
         let pairs = self.pairs.as_slice();
         pairs.get(turn(pairs, probe, false))
+    }
+
+    /// Where the key stands, or else where it would. It takes no search where it would stand at the index that is tried.
+    fn find_near(&self, probe: Probe<'_>, tried: usize) -> Result<usize, usize>
+        requires { FitsProbe probe }
+        ensures found { IfOk result (IsAt (probe_key probe.entry) self.now) }
+        ensures absent { IfErr result (IsGap (probe_key probe.entry) self.now) }
+    {
+        if self.has_gap(probe, tried) {
+            return Err(tried);
+        }
+        self.find(probe)
+    }
+
+    /// Whether there is a pair before an index and its key is less, and there is none at the index or its key is greater.
+    pub(crate) fn has_gap(&self, probe: Probe<'_>, at: usize) -> bool
+        requires { FitsProbe probe }
+        ensures gap { OnTrue result (IsGap (probe_key probe.entry) self.now at) }
+        ensures some { OnTrue result (0 < at) }
+    {
+        if at == 0 || at > self.pairs.len() {
+            return false;
+        }
+        let sought = probe.narrowed();
+        if !self.pairs[at - 1].key.order(sought).is_lt() {
+            return false;
+        }
+        if at == self.pairs.len() {
+            return true;
+        }
+        self.pairs[at].key.order(sought).is_gt()
     }
 
     /// Where the key stands, or else where it would.

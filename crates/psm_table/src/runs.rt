@@ -1,5 +1,6 @@
 //! Runs that follow one another, so that the pairs of all are in ascending order of their keys.
 ghost use Rattle.std.specs.Prelude.{◌≡◌, ◌+◌, ◌<◌, ◌≤◌, [], ◌∷◌, ◌++◌, length, take, drop, All, filter, slice_get, slice_index_or, IfSome};
+ghost use Rattle.std.specs.Bool.{OnTrue};
 ghost use Rattle.std.specs.Option.{option_copied};
 ghost use Rattle.std.specs.Vec.{vec_len, vec_capacity};
 ghost use Rattle.psm_table.specs.Cuts.{is_past};
@@ -9,6 +10,7 @@ ghost use Rattle.psm_table.specs.declared.map.Pair.{Pair};
 ghost use Rattle.psm_table.specs.Runs.{joined, most_pairs, AreRunsBut, IsIn, IsRun, IsTurn};
 
 use crate::map::{Pair, Test};
+use crate::place::Place;
 use crate::probe::Probe;
 use crate::run::{MOST_PAIRS, Run, insert_reserved};
 use crate::stored::StoredKey;
@@ -33,6 +35,39 @@ pub(crate) fn locate<V: Drop>(runs: &[Run<V>], probe: Probe<'_>) -> usize
         }
     }
     low.saturating_sub(1)
+}
+
+/// The run in which a key stands, or would. It takes no search where the key belongs at the place that is tried.
+fn locate_near<V: Drop>(runs: &[Run<V>], probe: Probe<'_>, tried: Place) -> usize
+    requires fits { FitsProbe probe }
+    requires order { AreAscending (joined runs.now) }
+    requires runs { All IsRun runs.now }
+    ensures { 0 < length runs.now → IsIn (probe_key probe.entry) runs.now result }
+{
+    if has_gap(runs, probe, tried) {
+        return tried.run;
+    }
+    locate(runs, probe)
+}
+
+/// Whether no pair has the key, and it belongs at a place that isn't the beginning of a run, nor its end but for the last.
+fn has_gap<V: Drop>(runs: &[Run<V>], probe: Probe<'_>, place: Place) -> bool
+    requires fits { FitsProbe probe }
+    requires order { AreAscending (joined runs.now) }
+    requires runs { All IsRun runs.now }
+    ensures { OnTrue result (IsIn (probe_key probe.entry) runs.now place.run) }
+{
+    if place.run >= runs.len() {
+        return false;
+    }
+    let run = &runs[place.run];
+    if !run.has_gap(probe, place.at) {
+        return false;
+    }
+    if place.at < run.pairs().len() {
+        return true;
+    }
+    place.run + 1 == runs.len()
 }
 
 /// The last run whose first pair's key isn't past a cut, or the first.
@@ -69,12 +104,14 @@ pub(crate) fn first_from<V: Drop>(runs: &[Run<V>], at: usize) -> Option<&Pair<V>
 }
 
 /// Puts a pair in, in the place of that of its key if there is one. A run that is full then is cut in two, for which
-/// there is an empty run; that is given back if it isn't needed.
+/// there is an empty run; that is given back if it isn't needed. It takes no search where the key belongs at the place that
+/// is tried.
 pub(crate) fn put<V: Drop>(
     runs: &mut Vec<Run<V>>,
     spare: Run<V>,
     key: StoredKey,
     value: V,
+    tried: Place,
 ) -> Option<Run<V>>
     requires order { AreAscending (joined runs.old.items) }
     requires runs { All IsRun runs.old.items }
@@ -88,8 +125,8 @@ pub(crate) fn put<V: Drop>(
         start(runs, spare, key, value);
         return None;
     }
-    let at = locate(runs.as_slice(), key.probe());
-    runs[at].insert(key, value);
+    let at = locate_near(runs.as_slice(), key.probe(), tried);
+    runs[at].insert(key, value, tried.at);
     if runs[at].is_full() {
         cut_at(runs, at, spare);
         return None;
@@ -105,7 +142,7 @@ fn start<V: Drop>(runs: &mut Vec<Run<V>>, spare: Run<V>, key: StoredKey, value: 
     ensures { runs.new.items ≡ (record { key = key; value = value } ∷ []) ∷ [] }
 {
     let mut run = spare;
-    run.insert(key, value);
+    run.insert(key, value, 0);
     insert_reserved(runs, 0, run);
 }
 

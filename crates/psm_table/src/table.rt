@@ -19,6 +19,7 @@ use crate::hint::Hint;
 use crate::index::{enter, has_rival, settle_entries};
 use crate::key::Key;
 use crate::map::{HasRow, OrderedMap};
+use crate::place::Place;
 use crate::probe::Probe;
 use crate::referred::{begins, has_row_with, list_of};
 use crate::row::Row;
@@ -149,12 +150,12 @@ impl Table {
         if self.live == MOST_ROWS {
             return Err(RowFault::Full);
         }
-        let slot = self.rows.get(Probe::In {
+        let (slot, place) = self.rows.look_up(Probe::In {
             columns: self.def.key.items(),
             row: row.values(),
         });
         match slot {
-            None => self.insert_first(row, steps),
+            None => self.insert_first(row, place, steps),
             Some(held) => {
                 if held.is_some() {
                     return Err(RowFault::Duplicate);
@@ -343,7 +344,7 @@ impl Table {
         ensures rows { result ≡ in_walk downward (rows_between self.now.contents.def.key low.entry high.entry self.now.contents.rows) }
         ensures table { IsTable self.now.contents }
     {
-        RowsLeft::between(&self.rows, low, high, downward)
+        self.rows_between_near(low, high, downward, Hint::none())
     }
 
     /// The same walk. Where it begins just behind the row at which a walk of its direction stood, and the hint is of that one,
@@ -353,12 +354,12 @@ impl Table {
         low: Option<Cut<'_>>,
         high: Option<Cut<'_>>,
         downward: bool,
-        _hint: Hint,
+        hint: Hint,
     ) -> RowsLeft<'_>
         ensures rows { result ≡ in_walk downward (rows_between self.now.contents.def.key low.entry high.entry self.now.contents.rows) }
         ensures table { IsTable self.now.contents }
     {
-        self.rows_between(low, high, downward)
+        RowsLeft::between(&self.rows, low, high, downward, hint)
     }
 
     /// Whether a row with another key agrees with the row in a UNIQUE list in which neither has a null
@@ -427,7 +428,7 @@ impl Table {
             values,
             is_after: true,
         };
-        let mut found = RowsLeft::between(&self.rows, Some(low), Some(high), false);
+        let mut found = RowsLeft::between(&self.rows, Some(low), Some(high), false, Hint::none());
         found.next().is_some()
     }
 
@@ -479,8 +480,13 @@ impl Table {
         Ok(())
     }
 
-    /// Puts a row in whose key has no slot.
-    fn insert_first<L: Ledger>(&mut self, row: Row, steps: &mut Steps<L>) -> Result<(), RowFault>
+    /// Puts a row in whose key has no slot. The key is looked for at a place first.
+    fn insert_first<L: Ledger>(
+        &mut self,
+        row: Row,
+        place: Place,
+        steps: &mut Steps<L>,
+    ) -> Result<(), RowFault>
         requires fits { IsRow self.old.contents.def row }
         requires room { length self.old.contents.rows < most_rows }
         requires absent { has_key self.old.slots (values_at self.old.contents.def.key row) ≡ false }
@@ -498,7 +504,7 @@ impl Table {
             self.lists.as_slice(),
             row.values(),
         )?;
-        self.rows.insert(key, Some(row));
+        self.rows.insert(key, Some(row), place);
         self.live += 1;
         steps.tick();
         Ok(())

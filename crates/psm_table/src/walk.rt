@@ -10,10 +10,10 @@ ghost use Rattle.psm_table.specs.Runs.{joined, IsRun};
 use crate::cut::Cut;
 use crate::hint::Hint;
 use crate::map::{OrderedMap, Pair};
+use crate::place::place_of;
 use crate::probe::Probe;
 use crate::row::Row;
 use crate::run::{Run, turn};
-use crate::runs::locate_past;
 use std::marker::Model;
 
 /// The pairs of a map that are still to come: some of a run, then those of the runs that follow it, and then some of one more.
@@ -23,16 +23,20 @@ pub(crate) struct PairsLeft<'a> {
     pairs: &'a [Pair<Option<Row>>],
     runs: &'a [Run<Option<Row>>],
     last: &'a [Pair<Option<Row>>],
+    /// Where the walk stands after those of the first run.
+    far: Hint,
 }
 
 impl<'a> PairsLeft<'a> {
-    /// The pairs of the end of a run, of runs after it, and of the beginning of one more; downward, from their end.
+    /// The pairs of the end of a run, of runs after it, and of the beginning of one more; downward, from their end. The
+    /// walk begins where the hint says.
     #[tactic(auto, using(crate::proofs::Lefts::left_down, crate::proofs::Lefts::left_up))]
     fn of(
         first: &'a [Pair<Option<Row>>],
         runs: &'a [Run<Option<Row>>],
         last: &'a [Pair<Option<Row>>],
         downward: bool,
+        start: Hint,
     ) -> PairsLeft<'a>
         ensures { left_of result ≡ turned downward (first.now ++ (joined runs.now ++ last.now)) }
     {
@@ -42,6 +46,7 @@ impl<'a> PairsLeft<'a> {
                 pairs: last,
                 runs,
                 last: first,
+                far: start.past(last.len()),
             };
         }
         PairsLeft {
@@ -49,6 +54,7 @@ impl<'a> PairsLeft<'a> {
             pairs: first,
             runs,
             last,
+            far: start.past(first.len()),
         }
     }
 
@@ -65,12 +71,14 @@ impl<'a> PairsLeft<'a> {
             if let Some((run, others)) = outermost(self.runs, self.downward) {
                 self.pairs = run.pairs();
                 self.runs = others;
+                self.far = self.far.past_next(self.pairs.len());
             } else {
                 if self.last.is_empty() {
                     return None;
                 }
                 self.pairs = self.last;
                 self.last = &[];
+                self.far = self.far.past_next(self.pairs.len());
             }
         }
     }
@@ -111,31 +119,34 @@ impl<'a> RowsLeft<'a> {
         ensures { result ≡ in_walk downward (live_rows rows.now.pairs) }
     {
         RowsLeft {
-            pairs: PairsLeft::of(&[], rows.runs(), &[], downward),
+            pairs: PairsLeft::of(&[], rows.runs(), &[], downward, Hint::none()),
         }
     }
 
-    /// The rows of a map between two cuts in ascending order of their keys; downward, in descending order.
+    /// The rows of a map between two cuts in ascending order of their keys; downward, in descending order. The cut with which
+    /// the walk begins is looked for where the hint says first.
     pub(crate) fn between(
         rows: &'a OrderedMap<Option<Row>>,
         low: Option<Cut<'_>>,
         high: Option<Cut<'_>>,
         downward: bool,
+        hint: Hint,
     ) -> RowsLeft<'a>
         ensures { result ≡ in_walk downward (live_rows (pairs_between low.entry high.entry rows.now.pairs)) }
     {
-        let (first, later) = pairs_from(rows.runs(), low);
-        let (runs, last) = pairs_up_to(later, high);
+        let (first, later, low_start) = pairs_from(rows.runs(), low, hint);
+        let (runs, last, high_start) = pairs_up_to(later, high, hint);
         let first = part_up_to(first, high);
+        let start = if downward { high_start } else { low_start };
         RowsLeft {
-            pairs: PairsLeft::of(first, runs, last, downward),
+            pairs: PairsLeft::of(first, runs, last, downward, start),
         }
     }
 
     /// Where the walk stands: a walk from the key of the row that `next` gave last goes on there without a search
     /// (`Table::rows_between_near`). It may be any value, and no row that is answered depends on it.
     pub fn hint(&self) -> Hint {
-        Hint::none()
+        self.pairs.far.before(self.pairs.pairs.len())
     }
 
     /// The next row.
@@ -151,47 +162,49 @@ impl<'a> RowsLeft<'a> {
     }
 }
 
-/// The pairs of runs from a cut on: some of a run, and the runs after it.
+/// The pairs of runs from a cut on: some of a run, and the runs after it; and where an upward walk over them begins.
 fn pairs_from<'a>(
     runs: &'a [Run<Option<Row>>],
     low: Option<Cut<'_>>,
-) -> (&'a [Pair<Option<Row>>], &'a [Run<Option<Row>>])
+    hint: Hint,
+) -> (&'a [Pair<Option<Row>>], &'a [Run<Option<Row>>], Hint)
     requires order { AreAscending (joined runs.now) }
     requires runs { All IsRun runs.now }
     ensures pairs { result.0.now ++ joined result.1.now ≡ filter (λ p. is_from low.entry p.key) (joined runs.now) }
     ensures runs { All IsRun result.1.now }
 {
     let Some(cut) = low else {
-        return (&[], runs);
+        return (&[], runs, Hint::none());
     };
     if runs.is_empty() {
-        return (&[], runs);
+        return (&[], runs, Hint::none());
     }
-    let probe = Probe::Of(cut.values);
-    let at = locate_past(runs, probe, cut.is_after);
-    let pairs = runs[at].pairs();
-    (&pairs[turn(pairs, probe, cut.is_after)..], &runs[at + 1..])
+    let place = place_of(runs, cut, hint.place(runs, false));
+    let pairs = runs[place.run].pairs();
+    let start = Hint::at(place, runs, false);
+    (&pairs[place.at..], &runs[place.run + 1..], start)
 }
 
-/// The pairs of runs up to a cut: runs, and some of the run after them.
+/// The pairs of runs up to a cut: runs, and some of the run after them; and where a downward walk over them begins.
 fn pairs_up_to<'a>(
     runs: &'a [Run<Option<Row>>],
     high: Option<Cut<'_>>,
-) -> (&'a [Run<Option<Row>>], &'a [Pair<Option<Row>>])
+    hint: Hint,
+) -> (&'a [Run<Option<Row>>], &'a [Pair<Option<Row>>], Hint)
     requires order { AreAscending (joined runs.now) }
     requires runs { All IsRun runs.now }
     ensures { joined result.0.now ++ result.1.now ≡ filter (λ p. is_up_to high.entry p.key) (joined runs.now) }
 {
     let Some(cut) = high else {
-        return (runs, &[]);
+        return (runs, &[], Hint::none());
     };
     if runs.is_empty() {
-        return (runs, &[]);
+        return (runs, &[], Hint::none());
     }
-    let probe = Probe::Of(cut.values);
-    let at = locate_past(runs, probe, cut.is_after);
-    let pairs = runs[at].pairs();
-    (&runs[..at], &pairs[..turn(pairs, probe, cut.is_after)])
+    let place = place_of(runs, cut, hint.place(runs, true));
+    let pairs = runs[place.run].pairs();
+    let start = Hint::at(place, runs, true);
+    (&runs[..place.run], &pairs[..place.at], start)
 }
 
 /// The pairs of some of a run up to a cut.

@@ -1,5 +1,7 @@
-use Rattle.std.proofs.Common.{rules, ◌∙◌}
-use Rattle.std.proofs.lemmas.List.{append-nil}
+use Rattle.std.proofs.Common.{◌≡◌, [], not, take, get_or, sym, subst, ◌∙◌}
+use Rattle.std.specs.Prelude.{filter}
+use Rattle.std.proofs.lemmas.List.{append-nil, get_or_default}
+use Rattle.psm_table.specs.Cuts.{lies_after}
 use Rattle.psm_table.specs.Runs.{joined}
 use Rattle.psm_table.proofs.Lefts.{parts_up_to, up_to_none}
 use Rattle.psm_table.proofs.walk.pairs_up_to.Goals as goal
@@ -9,5 +11,7 @@ returns-in_default c = append-nil (joined c.args.runs.now) ∙ up_to_none c.args
 
 pub returns : goal.returns
 returns c =
-    parts_up_to c.args.high c.in-Some.cut c.args.runs.now c.locate_past-at.result c.index-runs-at.result c.pairs-pairs.result.now c.turn.result c.in-Some.is
-    (c.locate_past-at.ensures (search rules)) (c.pairs-pairs.ensures.value ∙ c.index-runs-at.is) c.turn.ensures.others
+    let at = c.place_of-place.result in
+    let run : c.pairs-pairs.result.now ≡ get_or c.args.runs.now at.run c.index-runs-place.result = c.pairs-pairs.ensures.value ∙ c.index-runs-place.is in
+    parts_up_to c.args.high c.in-Some.cut c.args.runs.now at.run c.index-runs-place.result c.pairs-pairs.result.now at.at c.in-Some.is c.place_of-place.ensures.turn run
+    (subst (λ l. take at.at l ≡ filter (λ p. not (lies_after c.in-Some.cut p.key)) l) (get_or_default c.args.runs.now at.run [] c.index-runs-place.result c.place_of-place.ensures.turn.inside ∙ sym run) c.place_of-place.ensures.others)

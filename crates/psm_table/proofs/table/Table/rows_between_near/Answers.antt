@@ -3,7 +3,7 @@ use Rattle.psm_table.specs.Cuts.{rows_between}
 use Rattle.psm_table.specs.Queries.{in_walk}
 use Rattle.psm_table.specs.State.{State}
 use Rattle.psm_table.proofs.Lefts.{rows-between}
-use Rattle.psm_table.proofs.table.Table.rows_between.Goals as goal
+use Rattle.psm_table.proofs.table.Table.rows_between_near.Goals as goal
 
 pub returns-clause-rows : goal.returns-clause-rows
 returns-clause-rows c =
