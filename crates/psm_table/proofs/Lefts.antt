@@ -10,6 +10,7 @@ use Rattle.std.proofs.lemmas.List.Kept.{AllPairs-filter}
 use Rattle.psm_value.specs.declared.datum.Datum.{Datum}
 use Rattle.psm_table.specs.Cuts.{between, is_from, is_past, is_up_to, lies_after, rows_between}
 use Rattle.psm_table.specs.declared.cut.Cut.{Cut}
+use Rattle.psm_table.specs.declared.map.Pair.{Pair}
 use Rattle.psm_table.specs.Held.{live_rows, HasItsKey}
 use Rattle.psm_table.specs.Key.{key_order, row_order, values_at}
 use Rattle.psm_table.specs.Left.{pairs_between, pairs_left, turned}
@@ -33,23 +34,23 @@ turned_none false xs e = e
 
 -- ---- the pairs that are left
 
-module _ (downward : Bool) where
+module _ {V : Type 0} (downward : Bool) where
   -- what follows the pairs of the run
-  abbrev rest_left : List (List Slot) → List Slot → List Slot
+  abbrev rest_left : List (List (Pair V)) → List (Pair V) → List (Pair V)
   rest_left runs last = joined (map (turned downward) (turned downward runs)) ++ turned downward last
 
-  pub left_next : (pairs others : List Slot) (runs : List (List Slot)) (last : List Slot) (p : Slot) → turned downward pairs ≡ p ∷ turned downward others
+  pub left_next : (pairs others : List (Pair V)) (runs : List (List (Pair V))) (last : List (Pair V)) (p : Pair V) → turned downward pairs ≡ p ∷ turned downward others
       → pairs_left downward pairs runs last ≡ p ∷ pairs_left downward others runs last
   left_next pairs others runs last p e = ap (λ l. l ++ rest_left runs last) e
 
-  pub left_run : (pairs : List Slot) (runs others : List (List Slot)) (last run : List Slot) → pairs ≡ [] → turned downward runs ≡ run ∷ turned downward others
+  pub left_run : (pairs : List (Pair V)) (runs others : List (List (Pair V))) (last run : List (Pair V)) → pairs ≡ [] → turned downward runs ≡ run ∷ turned downward others
       → pairs_left downward pairs runs last ≡ pairs_left downward run others last
   left_run pairs runs others last run n e =
       ap (λ l. l ++ rest_left runs last) (turned_none downward pairs n)
       ∙ ap (λ l. joined (map (turned downward) l) ++ turned downward last) e
       ∙ append_assoc (turned downward run) (joined (map (turned downward) (turned downward others))) (turned downward last)
 
-  pub left_last : (pairs : List Slot) (runs : List (List Slot)) (last : List Slot) → pairs ≡ [] → runs ≡ []
+  pub left_last : (pairs : List (Pair V)) (runs : List (List (Pair V))) (last : List (Pair V)) → pairs ≡ [] → runs ≡ []
       → pairs_left downward pairs runs last ≡ pairs_left downward last runs []
   left_last pairs runs last n m =
       ap (λ l. l ++ rest_left runs last) (turned_none downward pairs n)
@@ -57,22 +58,22 @@ module _ (downward : Bool) where
       ∙ sym (append-nil (turned downward last))
       ∙ ap (λ l. turned downward last ++ l) (sym (ap (λ l. joined (map (turned downward) l) ++ turned downward []) (turned_none downward runs m) ∙ turned_none downward [] refl))
 
-  pub left_none : (pairs : List Slot) (runs : List (List Slot)) (last : List Slot) → pairs ≡ [] → runs ≡ [] → last ≡ [] → pairs_left downward pairs runs last ≡ []
+  pub left_none : (pairs : List (Pair V)) (runs : List (List (Pair V))) (last : List (Pair V)) → pairs ≡ [] → runs ≡ [] → last ≡ [] → pairs_left downward pairs runs last ≡ []
   left_none pairs runs last n m o =
       ap (λ l. l ++ rest_left runs last) (turned_none downward pairs n)
       ∙ ap (λ l. joined (map (turned downward) l) ++ turned downward last) (turned_none downward runs m) ∙ turned_none downward last o
 
 -- ---- all rows
 
-joined-append : (rs ss : List (List Slot)) → joined (rs ++ ss) ≡ joined rs ++ joined ss
+joined-append : {V : Type 0} (rs ss : List (List (Pair V))) → joined (rs ++ ss) ≡ joined rs ++ joined ss
 joined-append [] ss = refl
 joined-append (r ∷ rs) ss = ap (λ l. r ++ l) (joined-append rs ss) ∙ sym (append_assoc r (joined rs) (joined ss))
 
-joined-same : (rs : List (List Slot)) → joined (map (turned false) rs) ≡ joined rs
+joined-same : {V : Type 0} (rs : List (List (Pair V))) → joined (map (turned false) rs) ≡ joined rs
 joined-same [] = refl
 joined-same (r ∷ rs) = ap (λ l. r ++ l) (joined-same rs)
 
-joined-turned : (rs : List (List Slot)) → joined (map (turned true) (reverse rs)) ≡ reverse (joined rs)
+joined-turned : {V : Type 0} (rs : List (List (Pair V))) → joined (map (turned true) (reverse rs)) ≡ reverse (joined rs)
 joined-turned [] = refl
 joined-turned (r ∷ rs) =
     ap (λ l. joined (map (turned true) l)) (reverse-append (r ∷ []) rs)
@@ -95,7 +96,7 @@ live-turned (p ∷ ps) =
     ∙ sym (one_turned p.value (live_rows ps))
 
 -- the pairs of a run's end, of runs and of a run's beginning, from one side
-pub left_down : (downward : Bool) (first : List Slot) (runs : List (List Slot)) (last : List Slot) → downward ≡ true
+pub left_down : {V : Type 0} (downward : Bool) (first : List (Pair V)) (runs : List (List (Pair V))) (last : List (Pair V)) → downward ≡ true
     → pairs_left downward last runs first ≡ turned downward (first ++ (joined runs ++ last))
 left_down true first runs last e =
     ap (λ l. reverse last ++ (l ++ reverse first)) (joined-turned runs)
@@ -104,7 +105,7 @@ left_down true first runs last e =
     ∙ sym (reverse-append first (joined runs ++ last))
 left_down false first runs last e = cc
 
-pub left_up : (downward : Bool) (first : List Slot) (runs : List (List Slot)) (last : List Slot) → downward ≡ false
+pub left_up : {V : Type 0} (downward : Bool) (first : List (Pair V)) (runs : List (List (Pair V))) (last : List (Pair V)) → downward ≡ false
     → pairs_left downward first runs last ≡ turned downward (first ++ (joined runs ++ last))
 left_up true first runs last e = cc
 left_up false first runs last e = ap (λ l. first ++ (l ++ last)) (joined-same runs)
@@ -154,44 +155,44 @@ rows-between columns low high pairs h = rows-kept columns (between low high) (be
 
 -- ---- pairs between two cuts
 
-both_first : (u v : Slot → Bool) (p : Slot) (l : List Slot) (a b : Bool) → u p ≡ a → v p ≡ b
+both_first : {V : Type 0} (u v : Pair V → Bool) (p : Pair V) (l : List (Pair V)) (a b : Bool) → u p ≡ a → v p ≡ b
     → filter v (cond a (p ∷ l) l) ≡ cond (a && b) (p ∷ filter v l) (filter v l)
 both_first u v p l true b e f = ap (λ c. cond c (p ∷ filter v l) (filter v l)) f
 both_first u v p l false b e f = refl
 
-pub filter_both : (u v : Slot → Bool) (xs : List Slot) → filter v (filter u xs) ≡ filter (λ p. u p && v p) xs
+pub filter_both : {V : Type 0} (u v : Pair V → Bool) (xs : List (Pair V)) → filter v (filter u xs) ≡ filter (λ p. u p && v p) xs
 filter_both u v [] = refl
 filter_both u v (p ∷ xs) =
     both_first u v p (filter u xs) (u p) (v p) refl refl
     ∙ ap (λ l. cond (u p && v p) (p ∷ l) l) (filter_both u v xs)
 
 -- the parts of a walk: those from the low cut on, and of these those up to the high one
-pub parts_between : (low high : Option Cut) (first later near last all : List Slot) (rest : List Slot) → first ++ later ≡ filter (λ p. is_from low p.key) all
+pub parts_between : {V : Type 0} (low high : Option Cut) (first later near last all : List (Pair V)) (rest : List (Pair V)) → first ++ later ≡ filter (λ p. is_from low p.key) all
     → rest ++ last ≡ filter (λ p. is_up_to high p.key) later → near ≡ filter (λ p. is_up_to high p.key) first → near ++ (rest ++ last) ≡ pairs_between low high all
 parts_between low high first later near last all rest a b c =
-    ap (λ l. l ++ (rest ++ last)) c ∙ ap (λ l. filter (λ (p : Slot). is_up_to high p.key) first ++ l) b
-    ∙ sym (filter-append (λ (p : Slot). is_up_to high p.key) first later)
+    ap (λ l. l ++ (rest ++ last)) c ∙ ap (λ l. filter (λ (p : Pair V). is_up_to high p.key) first ++ l) b
+    ∙ sym (filter-append (λ (p : Pair V). is_up_to high p.key) first later)
     ∙ ap (filter (λ p. is_up_to high p.key)) a
     ∙ filter_both (λ p. is_from low p.key) (λ p. is_up_to high p.key) all
 
 -- what is kept of ascending pairs ascends
-pub ascending-filter : (t : Slot → Bool) (xs : List Slot) → AreAscending xs → AreAscending (filter t xs)
+pub ascending-filter : {V : Type 0} (t : Pair V → Bool) (xs : List (Pair V)) → AreAscending xs → AreAscending (filter t xs)
 ascending-filter t xs up = AllPairs-filter Rises t xs up
 
 -- without a cut nothing is left out
-pub from_none : (low : Option Cut) (xs : List Slot) → low ≡ None → xs ≡ filter (λ p. is_from low p.key) xs
-from_none None xs e = sym (filter-whole (λ (p : Slot). is_from None p.key) xs (λ k d l. refl))
+pub from_none : {V : Type 0} (low : Option Cut) (xs : List (Pair V)) → low ≡ None → xs ≡ filter (λ p. is_from low p.key) xs
+from_none None xs e = sym (filter-whole (λ (p : Pair V). is_from None p.key) xs (λ k d l. refl))
 from_none (Some c) xs e = cc
 
-pub up_to_none : (high : Option Cut) (xs : List Slot) → high ≡ None → xs ≡ filter (λ p. is_up_to high p.key) xs
-up_to_none None xs e = sym (filter-whole (λ (p : Slot). is_up_to None p.key) xs (λ k d l. refl))
+pub up_to_none : {V : Type 0} (high : Option Cut) (xs : List (Pair V)) → high ≡ None → xs ≡ filter (λ p. is_up_to high p.key) xs
+up_to_none None xs e = sym (filter-whole (λ (p : Pair V). is_up_to None p.key) xs (λ k d l. refl))
 up_to_none (Some c) xs e = cc
 
 rest_of : {X : Type 0} (xs : List X) (k : ℕ) → take (length xs - k) (drop k xs) ≡ drop k xs
 rest_of xs k = take-all (drop k xs) (length xs - k) (omega (arith, length-drop k xs))
 
-module _ (cut : Option Cut) (c : Cut) (runs : List (List Slot)) (i : ℕ) (d r : List Slot) (k : ℕ) (is : cut ≡ Some c) (h : IsTurn (λ (p : Slot). lies_after c p.key) runs i) (e : r ≡ get_or runs i d) where
-  abbrev IsPastCut : Slot → Bool
+module _ {V : Type 0} (cut : Option Cut) (c : Cut) (runs : List (List (Pair V))) (i : ℕ) (d r : List (Pair V)) (k : ℕ) (is : cut ≡ Some c) (h : IsTurn (λ (p : Pair V). lies_after c p.key) runs i) (e : r ≡ get_or runs i d) where
+  abbrev IsPastCut : Pair V → Bool
   IsPastCut p = lies_after c p.key
 
   -- what is left of runs from a cut on, and up to one
@@ -202,10 +203,10 @@ module _ (cut : Option Cut) (c : Cut) (runs : List (List Slot)) (i : ℕ) (d r :
       ap (λ l. l ++ joined (take (length runs - (i + 1)) (drop (i + 1) runs))) (rest_of r k ∙ f ∙ ap (filter IsPastCut) e)
       ∙ ap (λ l. filter IsPastCut (get_or runs i d) ++ joined l) (rest_of runs (i + 1) ∙ ap (λ j. drop j runs) one)
       ∙ sym (passed IsPastCut runs i d h)
-      ∙ ap (λ o. filter (λ (p : Slot). is_from o p.key) (joined runs)) (sym is)
+      ∙ ap (λ o. filter (λ (p : Pair V). is_from o p.key) (joined runs)) (sym is)
 
   pub parts_up_to : take k r ≡ filter (λ p. not (lies_after c p.key)) r → joined (take i runs) ++ take k r ≡ filter (λ p. is_up_to cut p.key) (joined runs)
   parts_up_to f =
       ap (λ l. joined (take i runs) ++ l) (f ∙ ap (filter (λ p. not (IsPastCut p))) e)
       ∙ sym (unpassed IsPastCut runs i d h)
-      ∙ ap (λ o. filter (λ (p : Slot). is_up_to o p.key) (joined runs)) (sym is)
+      ∙ ap (λ o. filter (λ (p : Pair V). is_up_to o p.key) (joined runs)) (sym is)

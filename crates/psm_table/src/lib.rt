@@ -11,6 +11,7 @@ mod key;
 mod laws;
 mod leading;
 mod map;
+mod pairs_left;
 mod place;
 mod probe;
 mod referred;
