@@ -42,7 +42,7 @@ keys-append : {V : Type 0} (xs ys : List (Pair V)) → keys_of (xs ++ ys) ≡ ke
 keys-append [] ys = refl
 keys-append (x ∷ xs) ys = ap (λ rest. x.key ∷ rest) (keys-append xs ys)
 
-has-append : {V : Type 0} (xs ys : List (Pair V)) (key : List Datum) → has_key (keys_of (xs ++ ys)) key ≡ (has_key (keys_of xs) key || has_key (keys_of ys) key)
+pub has-append : {V : Type 0} (xs ys : List (Pair V)) (key : List Datum) → has_key (keys_of (xs ++ ys)) key ≡ (has_key (keys_of xs) key || has_key (keys_of ys) key)
 has-append xs ys key = ap (λ l. has_key l key) (keys-append xs ys) ∙ list_any-append (λ k. is_eq (key_order k key)) (keys_of xs) (keys_of ys)
 
 -- the key of a pair that is put in is there

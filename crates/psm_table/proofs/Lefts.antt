@@ -147,7 +147,7 @@ up_to_same : (high : Option Cut) (a b : List Datum) → key_order a b ≡ Equal 
 up_to_same None a b e = refl
 up_to_same (Some c) a b e = ap not (past_same c.values.now c.is_after a b e)
 
-between_same : (low high : Option Cut) (a b : List Datum) → key_order a b ≡ Equal → between low high a ≡ between low high b
+pub between_same : (low high : Option Cut) (a b : List Datum) → key_order a b ≡ Equal → between low high a ≡ between low high b
 between_same low high a b e = ap (λ x. x && is_up_to high a) (from_same low a b e) ∙ ap (λ x. is_from low b && x) (up_to_same high a b e)
 
 pub rows-between : (columns : List ℕ) (low high : Option Cut) (pairs : List Slot) → All (HasItsKey columns) pairs → rows_between columns low high (live_rows pairs) ≡ live_rows (pairs_between low high pairs)

@@ -26,6 +26,7 @@ pub mod PairPositions
 pub mod Pairs
 pub mod PrefixWalks
 pub mod Prefixes
+pub mod Ranges
 pub mod Referring
 pub mod Rivals
 pub mod RowOrders

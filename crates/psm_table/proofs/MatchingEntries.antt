@@ -36,7 +36,7 @@ use Rattle.psm_table.proofs.Walks.{ahead-filter, up-above, up-from}
 
 -- ---- filters
 
-false_if : (b : Bool) → (b ≡ true → ⊥) → b ≡ false
+pub false_if : (b : Bool) → (b ≡ true → ⊥) → b ≡ false
 false_if false h = refl
 false_if true h = absurd (h refl)
 
@@ -48,7 +48,7 @@ first_false : (a b : Bool) → a ≡ false → (a && b) ≡ false
 first_false false b e = refl
 first_false true b e = cc
 
-second_false : (a b : Bool) → (a ≡ true → b ≡ false) → (a && b) ≡ false
+pub second_false : (a b : Bool) → (a ≡ true → b ≡ false) → (a && b) ≡ false
 second_false true b h = h refl
 second_false false b h = refl
 

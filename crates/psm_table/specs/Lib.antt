@@ -17,6 +17,7 @@ pub mod MatchingEntries
 pub mod PairPosition
 pub mod Parts
 pub mod Queries
+pub mod Ranges
 pub mod Rows
 pub mod Runs
 pub mod Side

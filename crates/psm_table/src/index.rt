@@ -273,7 +273,7 @@ impl<'a> Test<()> for IsCurrent<'a> {
 }
 
 /// Whether an entry is that of a row.
-fn is_entry_of(columns: &[u32], key: &[u32], row: &[Datum], entry: &StoredKey) -> bool
+pub(crate) fn is_entry_of(columns: &[u32], key: &[u32], row: &[Datum], entry: &StoredKey) -> bool
     requires { AreColumnsOf row.now key.now }
     ensures { result ≡ is_entry key.now columns.now entry.now row.now }
 {

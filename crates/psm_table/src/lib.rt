@@ -14,6 +14,7 @@ mod map;
 mod pairs_left;
 mod place;
 mod probe;
+mod range;
 mod referred;
 mod row;
 mod run;

@@ -7,6 +7,7 @@ ghost use Rattle.psm_table.specs.Leading.{leading_of};
 ghost use Rattle.psm_table.specs.Map.{prefix_order};
 ghost use Rattle.psm_table.specs.PairPosition.{probe_key, FitsProbe};
 
+use crate::key::{Key, Parts};
 use crate::leading::Leading;
 use crate::probe::{Probe, order_of, order_of_numbers};
 use crate::row::Row;
@@ -72,6 +73,16 @@ impl StoredKey {
         ensures { IfOk result (λ key. key ≡ self.now) }
     {
         StoredKey::of(alloc, self.probe())
+    }
+
+    /// The same key as one of a row, in memory of its own.
+    pub(crate) fn to_key(&self, alloc: Global) -> Result<Key, AllocError>
+        ensures { IfOk result (λ key. key ≡ self.now) }
+    {
+        match &self.parts {
+            StoredParts::One(value) => Ok(Key::of_parts(Parts::One([value.copy(alloc)?]))),
+            _ => Ok(Key::of(self.probe().copied(alloc)?)),
+        }
     }
 
     /// The values.

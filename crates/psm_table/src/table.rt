@@ -7,6 +7,7 @@ ghost use Rattle.psm_table.specs.Key.{values_at};
 ghost use Rattle.psm_table.specs.Keyed.{has_values};
 ghost use Rattle.psm_table.specs.Matching.{at_most_one, matched, rows_with};
 ghost use Rattle.psm_table.specs.Queries.{in_walk};
+ghost use Rattle.psm_table.specs.Ranges.{keys_within, IsShort};
 ghost use Rattle.psm_table.specs.Rows.{row_after};
 ghost use Rattle.psm_table.specs.State.{has_key, IsTidy, Inserts, Changes, KeepsRow, StillKeeps};
 ghost use Rattle.psm_table.specs.Table.{IsTable, empty_table, keyed, most_rows, namesake, with_row, without_row};
@@ -21,6 +22,7 @@ use crate::key::Key;
 use crate::map::{HasRow, OrderedMap};
 use crate::place::Place;
 use crate::probe::Probe;
+use crate::range::keys_within;
 use crate::referred::{begins, has_row_with, list_of};
 use crate::row::Row;
 use crate::run::insert_reserved;
@@ -403,6 +405,34 @@ impl Table {
     {
         let columns = self.def.unique.items()[list].items();
         look_up(&self.def, columns, &self.rows, &self.indexes[list], values)
+    }
+
+    /// The keys of the rows that have no null in the columns of a UNIQUE list, and values there between two cuts
+    /// (ISO/IEC 9075:1992, 8.2 and 8.9), in ascending order. It takes two searches and two more for each row, also for one that was
+    /// taken or put out and is still kept.
+    pub fn keys_between(
+        &self,
+        alloc: Global,
+        list: usize,
+        low: Option<Cut<'_>>,
+        high: Option<Cut<'_>>,
+    ) -> Result<Vec<Key>, AllocError>
+        requires list { list < length self.now.contents.def.unique }
+        requires low { IsShort (slice_index_or self.now.contents.def.unique list []) low }
+        requires high { IsShort (slice_index_or self.now.contents.def.unique list []) high }
+        ensures keys { IfOk result (λ keys. keys.items ≡ keys_within self.now.contents.def.key (slice_index_or self.now.contents.def.unique list []) low.entry high.entry self.now.contents.rows) }
+        ensures table { IsTable self.now.contents }
+    {
+        let columns = self.def.unique.items()[list].items();
+        keys_within(
+            alloc,
+            &self.def,
+            columns,
+            &self.rows,
+            &self.indexes[list],
+            low,
+            high,
+        )
     }
 
     /// Whether a row has the values as its key.
