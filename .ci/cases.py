@@ -8,7 +8,7 @@ over it by `exec`. A block `text command` is a call of `psm` without files. In t
 
 Each example with a module and a script is run twice: by `run`, and by `exec` over what `compile` prints, which has to give the same
 bytes and the same status. So are the cases of run_rows, whose own stored run says what they print. PSM_PROGRAM names the program; else
-`rt try` builds one without a proof. The examples of each page, and those of the folders, are told of as they are run.
+`rt try` builds one without a proof. The examples of each page, and those of the folders, are counted as they are run.
 """
 import collections
 import os
@@ -47,7 +47,7 @@ GENERATED = {
     "200": "CALLS 200\nTURNS 303\nROW 97, 20100\n",
     **{it: USAGE for it in ("200001", "999999", "1000000", "00", "07", "-1", "+1", "1.0", "x", "0x10")},
 }
-# Where it stands, the command, its two texts (a module file, an object or arguments, and a script), the turns, and what is told of
+# Where it stands, the command, its two texts (a module file, an object or arguments, and a script), the turns, and what is reported of
 # this status and output, if anything.
 Case = collections.namedtuple("Case", "name command code script turns judge")
 
@@ -77,7 +77,7 @@ def judge_output(wanted, marked):
             return f"prints, with status {status} where {due} is due:\n{output}"
         found = refusals.REFUSED.search(output)
         if marked and (not found or marked != (int(found[2]), int(found[3]))):
-            return f"marks {marked[0]}:{marked[1]}, and another place is told: {output}"
+            return f"marks {marked[0]}:{marked[1]}, and another place is reported: {output}"
         return None
 
     return judge
@@ -113,7 +113,7 @@ def cases_of(page):
 
 def cause(number, line):
     """Returns the case of a line of the causes."""
-    told, _, text = line.partition(" | ")
+    reported, _, text = line.partition(" | ")
     column = text.index("»") + 1
     text = text.replace("»", "")
 
@@ -122,7 +122,7 @@ def cause(number, line):
         if status != 4 or not found or (found[2], int(found[3])) != ("1", column):
             return f"is refused at column {column}, but: {output}"
         _, mend = refusals.help_for(found[4], text, 1, column)
-        return None if told in mend else f"the help is: {mend}"
+        return None if reported in mend else f"the help is: {mend}"
 
     return Case(f"{CAUSES}:{number}", "run", text, "", None, judge)
 
@@ -201,14 +201,14 @@ def call(case, code, script):
 
 
 def judge_compiled(run, compiled, over):
-    """Returns what is told of a script whose module is compiled, by the results of `run`, of `compile`, and of `exec` if it was compiled."""
+    """Returns what is reported of a script whose module is compiled, by the results of `run`, of `compile`, and of `exec` if it was compiled."""
     if over is None:
         return [] if run == compiled and run[0] == folders.REFUSED else [f"compile gives, with status {compiled[0]}:\n{compiled[1]}"]
     return folders.exec_differences("compiled", run, over)
 
 
 def run(cases):
-    """Returns what is told of each case that is wrong, and how many are run over what is compiled too."""
+    """Returns what is reported of each case that is wrong, and how many are run over what is compiled too."""
     twice = [number for number, case in enumerate(cases) if case.command == "run" and case.script]
     with tempfile.TemporaryDirectory() as folder:
         files = [[f"{folder}/{number}.{part}" for part in folders.PARTS] for number in range(len(cases))]
@@ -220,9 +220,9 @@ def run(cases):
         compiled = dict(zip(twice, results[len(cases) :]))
         written = [it for it in twice if compiled[it][0] == 0]
         over = dict(zip(written, folders.run_over([(compiled[it][1], files[it][1], cases[it].turns) for it in written])))
-    told = [f"{case.name}: {it}" for case, result in zip(cases, results) for it in [case.judge(*result)] if it]
-    told += [f"{cases[it].name}: {line}" for it in twice for line in judge_compiled(results[it], compiled[it], over.get(it))]
-    return told, len(written)
+    reported = [f"{case.name}: {it}" for case, result in zip(cases, results) for it in [case.judge(*result)] if it]
+    reported += [f"{cases[it].name}: {line}" for it in twice for line in judge_compiled(results[it], compiled[it], over.get(it))]
+    return reported, len(written)
 
 
 def tell(wrong):
@@ -238,10 +238,10 @@ def main():
         found = [("all", [it for _, cases in found for it in cases])]
     count = over_compiled = 0
     for where, cases in found:
-        told, twice = run(cases)
-        tell(told)
-        print(f"{where}: {len(cases)} run, {twice} of them over what is compiled too, {len(told)} wrong", flush=True)
-        count, over_compiled, wrong = count + len(cases), over_compiled + twice, wrong + told
+        reported, twice = run(cases)
+        tell(reported)
+        print(f"{where}: {len(cases)} run, {twice} of them over what is compiled too, {len(reported)} wrong", flush=True)
+        count, over_compiled, wrong = count + len(cases), over_compiled + twice, wrong + reported
     print(f"{count} examples are run, {over_compiled} of them over what is compiled too, and {len(wrong)} are wrong")
     return 1 if wrong else 0
 

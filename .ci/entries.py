@@ -89,10 +89,10 @@ def lacking():
 
 
 def main():
-    told = list(lacking())
-    for it in told:
+    reported = list(lacking())
+    for it in reported:
         print(f"repository: {it}", file=sys.stderr)
-    return 1 if told else 0
+    return 1 if reported else 0
 
 
 if __name__ == "__main__":

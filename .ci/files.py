@@ -2,7 +2,7 @@
 """Runs the program over files that cannot stand among the rows: bytes that are no text, files of 16 MB and more, mutated listings.
 
 Each object is refused by its line, or an empty script over it writes nothing. Of each file the size, the time and the most memory are
-told. PSM_PROGRAM names the program, or it is the proved and built one; without one nothing is run.
+reported. PSM_PROGRAM names the program, or it is the proved and built one; without one nothing is run.
 """
 import os
 import re
@@ -32,7 +32,7 @@ def routine(lines, more=b""):
 
 
 def of_length(size):
-    """An object of so many bytes: lines of 12 bytes, and a text that takes what is left."""
+    """An object of `size` bytes: lines of 12 bytes, and a text that takes what is left."""
     last = b"0 - - CONST T '%s'\n0 - T DROP\n0 - - END\n"
     lines = (size - 2000) // 12
     head = routine(lines + 3) + b"0 - - CLEAR\n" * lines
@@ -40,18 +40,18 @@ def of_length(size):
 
 
 def stack(size):
-    """A routine whose second line states so many operands."""
+    """A routine whose second line states `size` operands."""
     return routine(3) + b"0 - - CONST N 1\n0 - " + b"N" * size + b" DROP\n0 - - END\n"
 
 
 def expression(lines):
-    """A CHECK of so many lines and two."""
+    """A CHECK of `lines` lines and two."""
     head = b"PSM 3 1 0\nTABLE 'T' 1 0 1 0\nCOL 'K' INTEGER 1 NULL\nKEY 0\nEXPR %d\n- COL 0\n" % (lines + 2)
     return head + b"N NEG\n" * lines + b"N ISNULL\n"
 
 
 def contexts(count):
-    """A routine with so many blocks, each in the one before, and an END behind them."""
+    """A routine with `count` blocks, each in the one before, and an END after them."""
     head = b"PSM 3 0 1\nROUTINE P 'P' 0 0 0 0 0 0 %d 0 %d -\n" % (count, 2 * count + 1)
     blocks = b"".join(b"CTX %d BLOCK 0 %d\n" % (it, 2 * count - 1 - it) for it in range(count))
     ways = b"".join(b"%d - - ENTER %d\n" % (it, it + 1) for it in range(count))
@@ -118,7 +118,7 @@ RUNS = [
 
 
 def mutated(listing):
-    """Yields listings that are none: each beginning of one, and it with the resume of a line at the line itself; and what is told."""
+    """Yields listings that are none: each beginning of one, and it with the resume of a line at the line itself; and what is reported."""
     lines = listing.splitlines(keepends=True)
     for left in range(len(lines)):
         yield "".join(lines[:left]), UNFIT % (left + 1)
@@ -139,10 +139,10 @@ def call(path, folder, *arguments):
     """Returns the status and the output of the program, and the most memory that it had, in MB (bench/once.py)."""
     output = f"{folder}/output"
     words = [sys.executable, "-I", "-S", f"{ROOT}/bench/once.py", output, str(SECONDS), "0", path, *arguments]
-    told = subprocess.run(words, cwd=folder, stdin=subprocess.DEVNULL, stdout=subprocess.PIPE, check=True).stdout.split()
+    reported = subprocess.run(words, cwd=folder, stdin=subprocess.DEVNULL, stdout=subprocess.PIPE, check=True).stdout.split()
     with open(output, "rb") as it:
         printed = it.read().decode(errors="replace")
-    return int(told[0]), printed, int(told[3]) // 1024
+    return int(reported[0]), printed, int(reported[3]) // 1024
 
 
 def put(folder, **files):
@@ -166,8 +166,8 @@ def judge(name, due, status, printed):
     return 1
 
 
-def told(path, folder, name, due, size, *arguments):
-    """Runs a case, tells its size, time and memory, and returns whether it is wrong."""
+def reported(path, folder, name, due, size, *arguments):
+    """Runs a case, prints its size, time and memory, and returns whether it is wrong."""
     start = time.monotonic()
     status, printed, memory = call(path, folder, *arguments)
     print(f"{name}: {size} bytes, {time.monotonic() - start:.2f} s, {memory} MB", flush=True)
@@ -184,7 +184,7 @@ def objects(path, folder):
     for name, make, due in CASES:
         data = make()
         put(folder, O=data)
-        yield told(path, folder, name, UNFIT % (data.count(b"\n") + 1) if due is None else due, len(data), "exec", "O", "S")
+        yield reported(path, folder, name, UNFIT % (data.count(b"\n") + 1) if due is None else due, len(data), "exec", "O", "S")
 
 
 def runs(path, folder):
@@ -192,7 +192,7 @@ def runs(path, folder):
     for name, make, due in RUNS:
         module, script = make()
         put(folder, M=module, S=script)
-        yield told(path, folder, name, due, len(module or b"") + len(script or b""), "run", "M", "S")
+        yield reported(path, folder, name, due, len(module or b"") + len(script or b""), "run", "M", "S")
 
 
 def listings(path, folder):

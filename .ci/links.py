@@ -49,11 +49,11 @@ def broken(page, number, target):
 
 
 def main():
-    told = [broken(page, *link) for page in pages() for link in links(page)]
-    told = [it for it in told if it]
-    for it in told:
+    reported = [broken(page, *link) for page in pages() for link in links(page)]
+    reported = [it for it in reported if it]
+    for it in reported:
         print(f"repository: {it}", file=sys.stderr)
-    return 1 if told else 0
+    return 1 if reported else 0
 
 
 if __name__ == "__main__":

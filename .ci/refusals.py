@@ -67,13 +67,13 @@ def named():
 def main():
     crates = [it for it in sorted(os.listdir(f"{ROOT}/crates")) if not it.endswith("_rows")]
     due = {it: {name for text in sources(it) for name in refusing(text)} for it in crates}
-    told, there = 0, named()
+    reported, there = 0, named()
     for crate in sorted({*due, *there}):
         lacking, extra = due.get(crate, set()) - there.get(crate, set()), there.get(crate, set()) - due.get(crate, set())
         for name in sorted(lacking | extra):
             print(f"repository: {crate}: {name} {'has no row in' if name in lacking else 'refuses nothing, and has a row in'} {PAGE}", file=sys.stderr)
-            told += 1
-    return 1 if told else 0
+            reported += 1
+    return 1 if reported else 0
 
 
 if __name__ == "__main__":

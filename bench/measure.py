@@ -57,11 +57,11 @@ def measured(folder, words, seconds=0, megabytes=0):
     """Runs these words, with so much time and memory at most, or any. What they write is kept in the folder while it stands."""
     output = Path(folder) / "output.txt"
     command = [sys.executable, "-I", "-S", str(HERE / "once.py"), str(output), str(seconds), str(megabytes), *words]
-    told = subprocess.run(command, stdout=subprocess.PIPE, check=True).stdout.split()
+    reported = subprocess.run(command, stdout=subprocess.PIPE, check=True).stdout.split()
     with open(output, "rb") as file:
         file.seek(max(0, output.stat().st_size - KEPT))
         written = file.read().decode(errors="replace")
-    return Run(int(told[0]), float(told[1]), float(told[2]), int(told[3]), written)
+    return Run(int(reported[0]), float(reported[1]), float(reported[2]), int(reported[3]), written)
 
 
 def run(program, module, script, turns=None, runs=1):

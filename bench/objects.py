@@ -224,7 +224,7 @@ Query = collections.namedtuple("Query", "at table items test")
 # The function is None for an ITEM, and the expression None for COUNT*.
 Item = collections.namedtuple("Item", "at function expression")
 Cursor = collections.namedtuple("Cursor", "at query is_plain is_updatable")
-# The numbers are the operands of the plan's line behind its word; the columns those of INSERT.
+# The numbers are the operands of the plan's line after its word; the columns those of INSERT.
 Plan = collections.namedtuple("Plan", "at kind numbers columns sets test")
 Set = collections.namedtuple("Set", "at column expression")
 Condition = collections.namedtuple("Condition", "at state name")
@@ -271,7 +271,7 @@ class Reader:
 
     def __init__(self, text):
         self.lines = text.decode("latin-1").split("\n")
-        # What stands behind the last line feed is no line, or a line without one.
+        # What stands after the last line feed is no line, or a line without one.
         self.last = self.lines.pop()
         self.number = 0
 
@@ -447,7 +447,7 @@ def read_line(lines):
     return Line(at, number_of(found[1]), resume, stack_of(found[3]), instruction_of(found[4]))
 
 
-# ---- Rules. The lines are asked in their order, so of what a line names only what stands behind it may be at fault itself.
+# ---- Rules. The lines are asked in their order, so of what a line names only what stands after it may be at fault itself.
 
 
 def refuse(at, *broken):

@@ -10,7 +10,7 @@
 # each of MARKS marks, 1000 where it isn't said, and one is changed under each of SHORT marks, 20000 where it isn't said.
 # Each is done with a tenth of the work, and then with all of it.
 #
-# The program stands in bench/store/crate, each of its files with .txt behind its name, since the gate takes no Rattle file outside
+# The program stands in bench/store/crate, each of its files with .txt after its name, since the gate takes no Rattle file outside
 # crates/. It is proved and built in a copy of the repository, over what earlier checks on this machine kept.
 set -u
 cd "$(dirname "$0")/.." || exit 1

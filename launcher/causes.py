@@ -44,11 +44,11 @@ def hint(found_tokens, at):
     is_named_here = found in reserved and last in NAME_PLACES
     if is_named_here and found_tokens[at + 1].text in TYPES:
         return RESERVED.format(found=word)
-    for wanted, pattern, token, told in ROWS:
+    for wanted, pattern, token, reported in ROWS:
         is_open = not wanted or re.fullmatch(wanted, opened)
         is_token = re.fullmatch(token, found) or re.fullmatch(token, word)
         if is_open and is_token and re.search(rf"(?:^| )(?:{pattern})$" if pattern else "", text):
-            return told.format(open=opened, found=word, last=last)
+            return reported.format(open=opened, found=word, last=last)
     if found_tokens[at].kind == "name":
         return "texts stand between apostrophes, names between quotation marks"
     if is_named_here:
@@ -56,7 +56,7 @@ def hint(found_tokens, at):
     return ""
 
 
-def told(text, line, column):
+def reported(text, line, column):
     """Returns one line about the syntax fault at this place: the token that was found, and the help for it."""
     found_tokens = tokens(text)
     for at, token in enumerate(found_tokens):

@@ -146,10 +146,10 @@ def listing_differences(folder, status, output):
 
 def exec_differences(name, of_run, of_exec):
     """Returns the lines that tell where `exec` of what was compiled differs from `run`: both are a status and an output."""
-    told = diff(of_run[1], of_exec[1], f"{name}: run", f"{name}: exec")
+    reported = diff(of_run[1], of_exec[1], f"{name}: run", f"{name}: exec")
     if of_exec[0] != of_run[0]:
-        told.append(f"{name}: exec: exit status {of_exec[0]}, where run has {of_run[0]}")
-    return told
+        reported.append(f"{name}: exec: exit status {of_exec[0]}, where run has {of_run[0]}")
+    return reported
 
 
 def write_text(path, text):
@@ -185,13 +185,13 @@ def compare(results, listings, over):
     """Prints what differs, and a count, and returns the status."""
     failed = 0
     for folder, result in results.items():
-        told = differences(folder, *result)
+        reported = differences(folder, *result)
         if folder in listings:
-            told += listing_differences(folder, *listings[folder])
+            reported += listing_differences(folder, *listings[folder])
         if folder in over:
-            told += exec_differences(folder, result, over[folder])
-        failed += bool(told)
-        show(told)
+            reported += exec_differences(folder, result, over[folder])
+        failed += bool(reported)
+        show(reported)
     print(f"{len(results) - failed} passed, {failed} differ")
     return 1 if failed else 0
 
@@ -204,9 +204,9 @@ def update(results, listings, over):
         if folder in changed:
             print(f"{folder}: written")
     print(f"{len(changed)} written, {len(results) - len(changed)} as before")
-    told = [it for folder, result in over.items() for it in exec_differences(folder, results[folder], result)]
-    show(told)
-    return 1 if told else 0
+    reported = [it for folder, result in over.items() for it in exec_differences(folder, results[folder], result)]
+    show(reported)
+    return 1 if reported else 0
 
 
 def main(words):
@@ -217,8 +217,8 @@ def main(words):
     folders = [case for it in given for case in cases_below(it.rstrip("/") or "/")]
     lacking = [f"{it}/{part}" for it in folders for part in PARTS if not os.path.isfile(f"{it}/{part}")]
     if lacking or not folders:
-        told = f"{lacking[0]} is not there" if lacking else f"no module.sql in {' '.join(given)}"
-        print(f"psm: {told}", file=sys.stderr)
+        reported = f"{lacking[0]} is not there" if lacking else f"no module.sql in {' '.join(given)}"
+        print(f"psm: {reported}", file=sys.stderr)
         return 2
     return (update if "--update" in words else compare)(*results_of(folders))
 

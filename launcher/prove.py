@@ -45,18 +45,18 @@ def minutes(seconds):
 
 
 def prove(root, name):
-    """Proves a crate, and of the program also builds it. Returns the status and what is worth telling of a failure."""
+    """Proves a crate, and of the program also builds it. Returns the status and what is worth printing of a failure."""
     words = ["rt", "run", "--"] if name == PROGRAM else ["rt", "lib"]
-    last, told = collections.deque(maxlen=15), []
+    last, reported = collections.deque(maxlen=15), []
     how = {"stdout": subprocess.PIPE, "stderr": subprocess.STDOUT, "text": True, "errors": "replace"}
     with subprocess.Popen(words, cwd=f"{root}/crates/{name}", stdin=subprocess.DEVNULL, **how) as ran:
         for line in ran.stdout:
             last.append(line)
             if TELLING.search(line):
-                told.append(line)
+                reported.append(line)
     # The program that `rt run` has built ends with status 1 where it gets no words.
     is_built = name == PROGRAM and os.access(f"{root}/crates/{name}/out/{name}", os.X_OK)
-    return 0 if is_built else ran.returncode, told[:30] or list(last)
+    return 0 if is_built else ran.returncode, reported[:30] or list(last)
 
 
 def main(root):
@@ -68,9 +68,9 @@ def main(root):
     begun = time.monotonic()
     for number, name in enumerate(crates, 1):
         say(f"crate {number} of {len(crates)}, {minutes(time.monotonic() - begun)} so far: {name}")
-        status, told = prove(root, name)
+        status, reported = prove(root, name)
         if status:
-            sys.stderr.writelines(told)
+            sys.stderr.writelines(reported)
             say(f"{name} is not proved; run 'rt check' in {root}/crates/{name}")
             return 70
     say(f"proved and built in {minutes(time.monotonic() - begun)}")

@@ -1,6 +1,6 @@
-"""Explains a refusal: reads what the program printed, and tells the line with the place and how to mend it.
+"""Explains a refusal: reads what the program printed, and prints the line with the place and how to mend it.
 
-python3 refusals.py MODULE_FILE_OR_OBJECT [SCRIPT] <OUTPUT; all that is told goes to standard error.
+python3 refusals.py MODULE_FILE_OR_OBJECT [SCRIPT] <OUTPUT; all that is reported goes to standard error.
 """
 import re
 import sys
@@ -31,7 +31,7 @@ def help_for(fault, text, line, column):
     if code in mends.RULES:
         return code, mends.RULES[code]
     if fault == "syntax fault":
-        return "syntax", causes.told(text, line, column)
+        return "syntax", causes.reported(text, line, column)
     if fault == "bad character":
         return fault, mends.CHARACTERS.get(written[:1], mends.TOKENS[fault])
     return fault, mends.TOKENS.get(fault, "")
@@ -43,7 +43,7 @@ def read(file):
 
 
 def rows_of_refused(refused, module_file, script):
-    """Returns what is told of a module file or a script."""
+    """Returns what is reported of a module file or a script."""
     which, line, column, fault = refused[1], int(refused[2]), int(refused[3]), refused[4]
     file = module_file if which == "module" else script
     text = read(file)
@@ -55,7 +55,7 @@ def rows_of_refused(refused, module_file, script):
 
 
 def rows_of_object(refused, file):
-    """Returns what is told of an object. A line that is missing has the number after the last one."""
+    """Returns what is reported of an object. A line that is missing has the number after the last one."""
     line, fault = int(refused[1]), refused[2]
     lines = read(file).split("\n")
     is_end = lines[line - 1 :] in ([], [""])

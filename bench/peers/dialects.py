@@ -41,7 +41,7 @@ def as_mariadb(text):
 
 
 def as_firebird(text):
-    """INTO behind FROM, and assignments with `=`."""
+    """INTO after FROM, and assignments with `=`."""
     return re.sub(r" INTO (:\w+) (FROM [^;]*);", r" \2 INTO \1;", text).replace(" := ", " = ")
 
 

@@ -1,4 +1,4 @@
--- A handler writes what GET STACKED DIAGNOSTICS tells of an error into a log, and RESIGNAL raises it again with the job's number.
+-- A handler writes what GET STACKED DIAGNOSTICS gives of an error into a log, and RESIGNAL raises it again with the job's number.
 CREATE TABLE error_log (
   no      INTEGER PRIMARY KEY,
   state   CHAR(5) NOT NULL,
